@@ -1,0 +1,53 @@
+-- Capacity, breakpoint and the curve (specs/Curves).
+--   capacity-mono        capacity never falls with a higher free-flow speed
+--   capacity-le          it is at most 240,000
+--   curveAt-wellFormed   the curve at an F between the kind's ends is well formed
+--   curveAt-sized        and within the ends that 64 bits want
+--   curveOf-wellFormed, curveOf-sized   the same of the curve of a case that is accepted
+-- Assumes nothing.
+use Prim.Native.Nat.{ℕ, _+_, _*_, _-_, _≤_, _<_, min}
+use native.Mathlib.Omega.{arith}
+use Rattle.method.specs.declared.kind.Kind.{Kind}
+use Rattle.method.specs.declared.kind.Kind.the-variants as Kind
+use Rattle.method.specs.declared.case.Road.{Road}
+use Rattle.method.specs.declared.case.Case.{Case}
+use Rattle.method.specs.Kinds.{lowestSpeed, highestSpeed}
+use Rattle.method.specs.FreeFlowSpeed.{uncappedSpeed, freeFlowSpeed}
+use Rattle.method.specs.Refusals.{Accepted}
+use Rattle.method.specs.Curves.{capacity, breakpoint, curveAt, WellFormed, Sized, curveOf}
+use Rattle.method.proofs.FreeFlowSpeedLaws.{freeFlowSpeed-le, le-freeFlowSpeed}
+use Rattle.method.proofs.RefusalLaws.{accepted-parts, speed-accepted}
+
+pub capacity-mono : (kind : Kind) (f g : ℕ) → f ≤ g → capacity kind f ≤ capacity kind g
+unfolding capacity
+capacity-mono Kind.Freeway f g h = omega arith
+capacity-mono Kind.Multilane f g h = omega arith
+
+pub capacity-le : (kind : Kind) (f : ℕ) → capacity kind f ≤ 240000
+unfolding capacity
+capacity-le Kind.Freeway f = omega arith
+capacity-le Kind.Multilane f = omega arith
+
+pub curveAt-wellFormed : (kind : Kind) (f : ℕ) → lowestSpeed kind ≤ f → f ≤ highestSpeed kind → WellFormed (curveAt kind f)
+unfolding curveAt capacity breakpoint
+curveAt-wellFormed Kind.Freeway f h k = record { breakpoint-below = omega arith; falls = omega arith }
+curveAt-wellFormed Kind.Multilane f h k = record { breakpoint-below = omega arith; falls = omega arith }
+
+pub curveAt-sized : (kind : Kind) (f : ℕ) → lowestSpeed kind ≤ f → f ≤ highestSpeed kind → Sized (curveAt kind f)
+unfolding curveAt capacity breakpoint
+curveAt-sized Kind.Freeway f h k = record { speed-le = omega arith; capacity-le = omega arith; span-le = omega arith }
+curveAt-sized Kind.Multilane f h k = record { speed-le = omega arith; capacity-le = omega arith; span-le = omega arith }
+
+pub curveOf-wellFormed : (case : Case) → Accepted case → WellFormed (curveOf (case .road) (case .lanes))
+unfolding curveOf
+curveOf-wellFormed case a =
+    curveAt-wellFormed (case .road .kind) (freeFlowSpeed (case .road) (case .lanes))
+    (le-freeFlowSpeed (case .road) (case .lanes) (speed-accepted (case .road) (case .lanes) (accepted-parts case a .1)))
+    (freeFlowSpeed-le (case .road) (case .lanes))
+
+pub curveOf-sized : (case : Case) → Accepted case → Sized (curveOf (case .road) (case .lanes))
+unfolding curveOf
+curveOf-sized case a =
+    curveAt-sized (case .road .kind) (freeFlowSpeed (case .road) (case .lanes))
+    (le-freeFlowSpeed (case .road) (case .lanes) (speed-accepted (case .road) (case .lanes) (accepted-parts case a .1)))
+    (freeFlowSpeed-le (case .road) (case .lanes))

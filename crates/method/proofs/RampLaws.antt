@@ -1,0 +1,56 @@
+-- The ramp term (specs/RampTerm): the table's rule, by one test that is computed over all 49 entries.
+--   rampTerm-eq    it is t where t is at most the exact term and t + 1 is not
+--   rampTerm-le    it is at most 19,000
+--   rampTable-at   the entry at k is the term of k ramps
+-- Assumes nothing.
+use mathlib.Core.Path.{_≡_, refl}
+use mathlib.Core.Bool.{Bool, _&&_}
+use mathlib.Core.List.{[], _∷_}
+use Prim.Native.Nat.{ℕ, _*_, _^_, _≤_}
+use native.Mathlib.Omega.{arith}
+use native.Mathlib.Nat.{le-trans, pow-le-pow-left, mul-le-mul-right}
+use lib.Dec.{T, leb, leb→le, le→leb}
+use lib.ListN.{getD, length}
+use Rattle.numbers.specs.Search.{Falls, endsAt}
+use Rattle.numbers.specs.Table.{everyEntry}
+use Rattle.numbers.proofs.SearchLaws.{greatest-le, greatest-last}
+use Rattle.numbers.proofs.TableLaws.{and-left, and-right, everyEntry-at}
+use Rattle.method.specs.RampTerm.{rampAtMost, rampTerm}
+use Rattle.method.proofs.RampTable.{rampTable}
+
+rampAtMost-falls : (k : ℕ) → Falls (rampAtMost k)
+unfolding rampAtMost
+rampAtMost-falls k s t h e =
+    le→leb (s ^ 25 * 6 ^ 21) (3220 ^ 25 * k ^ 21)
+    (le-trans (mul-le-mul-right (6 ^ 21) (pow-le-pow-left h 25)) (leb→le (t ^ 25 * 6 ^ 21) (3220 ^ 25 * k ^ 21) e))
+
+pub rampTerm-eq : (k t : ℕ) → t ≤ 19000 → T (endsAt (rampAtMost k) t) → rampTerm k ≡ t
+unfolding rampTerm
+rampTerm-eq k t h e = greatest-last (rampAtMost k) 19000 t (rampAtMost-falls k) h e
+
+pub rampTerm-le : (k : ℕ) → rampTerm k ≤ 19000
+unfolding rampTerm
+rampTerm-le k = greatest-le (rampAtMost k) 19000
+
+-- the test of an entry t at place k: it is the last that is at most the term of k ramps
+fits : ℕ → ℕ → ℕ → Bool
+fits k before t = leb t 19000 && endsAt (rampAtMost k) t
+
+table-fits : T (everyEntry fits rampTable)
+unfolding rampTable fits endsAt rampAtMost
+table-fits = tt
+
+table-length : length rampTable ≡ 49
+unfolding rampTable
+table-length = refl
+
+entry-term : (k before t : ℕ) → T (fits k before t) → rampTerm k ≡ t
+unfolding fits
+entry-term k before t e =
+    rampTerm-eq k t (leb→le t 19000 (and-left (leb t 19000) (endsAt (rampAtMost k) t) e))
+    (and-right (leb t 19000) (endsAt (rampAtMost k) t) e)
+
+pub rampTable-at : (k : ℕ) → k ≤ 48 → rampTerm k ≡ getD rampTable k 0
+rampTable-at k h =
+    entry-term k (getD (0 ∷ rampTable) k 0) (getD rampTable k 0)
+    (everyEntry-at fits rampTable table-fits k (omega (arith, table-length)))

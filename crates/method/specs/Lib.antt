@@ -1,0 +1,21 @@
+-- The method of document 01, from a case to its letter, a file for each part.
+--   Kinds           what each kind carries
+--   Adjustments     what lane width, clearances, median and access take off a base speed
+--   RampTerm        what ramps take off
+--   FreeFlowSpeed   F, given or estimated
+--   Refusals        1 to 10 in their order
+--   Curves          capacity, breakpoint, the curve of a case
+--   Flow            the flow rate
+--   Speed           S as an exact fraction, and as it is shown
+--   Service         density and letter
+--   Statements      the laws of the method, stated
+--   Starred         the starred figures of document 01
+pub mod Kinds
+pub mod Adjustments
+pub mod RampTerm
+pub mod FreeFlowSpeed
+pub mod Refusals
+pub mod Curves
+pub mod Flow
+pub mod Speed
+pub mod Service

@@ -1,0 +1,60 @@
+// Free-flow speed, in thousandths of mi/h.
+//   uncapped_speed    F before its upper end, given or estimated
+//   capped            a speed, or the kind's upper end where it is above that
+use crate::adjustment;
+use crate::case::{Road, Way};
+use crate::kind;
+use crate::kind::Kind;
+use crate::ramp;
+ghost use mathlib.Core.Path.{_≡_};
+ghost use Prim.Native.Nat.{_≤_, min};
+ghost use Rattle.method.specs.declared.kind.Kind.the-variants as Kind;
+ghost use Rattle.method.specs.Kinds.{highestSpeed};
+ghost use Rattle.method.specs.FreeFlowSpeed.{estimatedBy, uncappedSpeed};
+ghost use Rattle.method.specs.Refusals.{firstRefusal, roadRefusals};
+
+fn freeway_estimate(road: Road, lanes: u64) -> u64
+    requires { ⌜ (30000 ≤ road .speed) × (road .access ≤ 48) ⌝ }
+    ensures { λ r. ⌜ r ≡ estimatedBy Kind.Freeway road lanes ⌝ }
+{
+    road.speed
+        - adjustment::lane_width_adjustment(road.lane_width)
+        - adjustment::right_clearance_adjustment(road.right_clearance, lanes)
+        - ramp::ramp_term(road.access)
+}
+
+fn multilane_estimate(road: Road, lanes: u64) -> u64
+    requires { ⌜ 30000 ≤ road .speed ⌝ }
+    ensures { λ r. ⌜ r ≡ estimatedBy Kind.Multilane road lanes ⌝ }
+{
+    let median = road.median;
+    let total = adjustment::total_clearance(median, road.right_clearance, road.left_clearance);
+    road.speed
+        - adjustment::lane_width_adjustment(road.lane_width)
+        - adjustment::total_clearance_adjustment(lanes, total)
+        - adjustment::median_adjustment(median)
+        - adjustment::access_adjustment(road.access)
+}
+
+pub fn uncapped_speed(road: Road, lanes: u64) -> u64
+    requires { ⌜ firstRefusal (roadRefusals road) ≡ 0 ⌝ }
+    ensures { λ r. ⌜ r ≡ uncappedSpeed road lanes ⌝ }
+{
+    let way = road.way;
+    let kind = road.kind;
+    match way {
+        Way::Given => road.speed,
+        Way::Estimated => match kind {
+            Kind::Freeway => freeway_estimate(road, lanes),
+            Kind::Multilane => multilane_estimate(road, lanes),
+        },
+    }
+}
+
+// At most the kind's upper end.
+pub fn capped(kind: Kind, speed: u64) -> u64
+    ensures { λ r. ⌜ r ≡ min (highestSpeed kind) speed ⌝ }
+{
+    let end = kind::highest_speed(kind);
+    if speed < end { speed } else { end }
+}

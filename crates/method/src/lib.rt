@@ -1,0 +1,22 @@
+// Method: from a case to its refusal or its curve, and on the curve from a flow rate to speed, density and letter.
+//   kind         Kind, and what each kind carries: Freeway, Multilane
+//   case         Road, Case and the types of their fields
+//   adjustment   what lane width, clearances, median and access take off a base speed
+//   ramp         what ramps take off
+//   free_flow    free-flow speed before its upper end, and F
+//   refusal      refusals 1 to 9, their numbers and 10's
+//   curve        capacity, breakpoint, the curve of a case or its refusal
+//   flow         flow rate
+//   speed        speed as an exact fraction
+//   service      speed and density as they are shown, and the letter
+pub mod kind;
+pub mod case;
+pub mod adjustment;
+pub mod ramp;
+mod ramp_table;
+pub mod free_flow;
+pub mod refusal;
+pub mod curve;
+pub mod flow;
+pub mod speed;
+pub mod service;

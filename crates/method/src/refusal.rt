@@ -1,0 +1,118 @@
+// Refusals 1 to 9 of a case, in document 01's order, and the numbers of 1 to 10.
+//   road_refusal    the first of 1 to 5 that refuses a road, 0 where none does
+//   field_refusal   the first of 1 to 9 that refuses a case, 0 where none does
+use crate::case::{Case, Median, Road};
+use crate::kind;
+use crate::kind::Kind;
+ghost use mathlib.Core.Path.{_≡_};
+ghost use mathlib.Core.Bool.{_||_};
+ghost use lib.Dec.{ltb};
+ghost use Rattle.method.specs.Refusals.{outside, medianUnfit, mostAccess, firstRefusal, roadRefusals, loadRefusals, fieldRefusals};
+
+pub const SPEED_OUT_OF_RANGE: u64 = 1;
+
+pub const WIDTH_OUT_OF_RANGE: u64 = 2;
+
+pub const CLEARANCE_TOO_LARGE: u64 = 3;
+
+pub const MEDIAN_UNFIT: u64 = 4;
+
+pub const ACCESS_TOO_LARGE: u64 = 5;
+
+pub const LANES_NOT_OF_THE_KIND: u64 = 6;
+
+pub const DEMAND_TOO_LARGE: u64 = 7;
+
+pub const FACTOR_OUT_OF_RANGE: u64 = 8;
+
+pub const SHARE_TOO_LARGE: u64 = 9;
+
+pub const SPEED_BELOW_LOWER_END: u64 = 10;
+
+// The greatest demand that refusal 7 lets pass.
+pub const GREATEST_DEMAND: u64 = 99_999;
+
+fn outside(low: u64, high: u64, n: u64) -> bool
+    ensures { λ r. ⌜ r ≡ outside low high n ⌝ }
+{
+    n < low || high < n
+}
+
+fn median_unfit(kind: Kind, median: Median) -> bool
+    ensures { λ r. ⌜ r ≡ medianUnfit kind median ⌝ }
+{
+    match kind {
+        Kind::Multilane => false,
+        Kind::Freeway => match median {
+            Median::Undivided => true,
+            Median::Divided => false,
+            Median::TwoWayLeftTurnLane => true,
+        },
+    }
+}
+
+fn most_access(kind: Kind) -> u64
+    ensures { λ r. ⌜ r ≡ mostAccess kind ⌝ }
+{
+    match kind {
+        Kind::Freeway => 48,
+        Kind::Multilane => 200,
+    }
+}
+
+pub fn road_refusal(road: Road) -> u64
+    ensures { λ r. ⌜ r ≡ firstRefusal (roadRefusals road) ⌝ }
+{
+    if outside(30_000, 90_000, road.speed) {
+        return SPEED_OUT_OF_RANGE;
+    }
+    if outside(100, 200, road.lane_width) {
+        return WIDTH_OUT_OF_RANGE;
+    }
+    if 400 < road.right_clearance {
+        return CLEARANCE_TOO_LARGE;
+    }
+    if 400 < road.left_clearance {
+        return CLEARANCE_TOO_LARGE;
+    }
+    let kind = road.kind;
+    let median = road.median;
+    if median_unfit(kind, median) {
+        return MEDIAN_UNFIT;
+    }
+    if most_access(kind) < road.access {
+        return ACCESS_TOO_LARGE;
+    }
+    0
+}
+
+fn load_refusal(case: Case) -> u64
+    ensures { λ r. ⌜ r ≡ firstRefusal (loadRefusals case) ⌝ }
+{
+    let road = case.road;
+    let kind = road.kind;
+    if outside(kind::fewest_lanes(kind), kind::most_lanes(kind), case.lanes) {
+        return LANES_NOT_OF_THE_KIND;
+    }
+    if GREATEST_DEMAND < case.demand {
+        return DEMAND_TOO_LARGE;
+    }
+    if outside(250, 1_000, case.peak_hour_factor) {
+        return FACTOR_OUT_OF_RANGE;
+    }
+    if 1_000 < case.heavy_share {
+        return SHARE_TOO_LARGE;
+    }
+    0
+}
+
+pub fn field_refusal(case: Case) -> u64
+    ensures { λ r. ⌜ r ≡ firstRefusal (fieldRefusals case) ⌝ }
+{
+    let road = case.road;
+    let number = road_refusal(road);
+    if number == 0 {
+        return load_refusal(case);
+    }
+    number
+}

@@ -1,0 +1,37 @@
+-- A choice by a test, `cond`, and the order of what it gives.
+--   cond-le             both outcomes are at most z: so is the choice
+--   le-cond             both outcomes are at least z: so is the choice
+--   cond-leb-mono       x ≤ limit, else worse: with a larger x no less
+--   cond-leb-antitone   x ≤ limit, else smaller: with a larger x no more
+-- Assumes nothing.
+use mathlib.Core.Bool.{Bool, true, false, cond}
+use Prim.Native.Nat.{ℕ, _≤_}
+use native.Mathlib.Omega.{arith}
+use native.Mathlib.Nat.{le-refl, le-trans}
+use native.Mathlib.Decide.{decLe}
+use borrow.Author.Tests.{le-leb, lt-leb}
+use lib.Dec.{leb}
+
+pub cond-le : (b : Bool) {x y z : ℕ} → x ≤ z → y ≤ z → cond b x y ≤ z
+cond-le true h k = h
+cond-le false h k = k
+
+pub le-cond : (b : Bool) {x y z : ℕ} → z ≤ x → z ≤ y → z ≤ cond b x y
+le-cond true h k = h
+le-cond false h k = k
+
+pub cond-leb-mono : (m n limit : ℕ) {a x y : ℕ} → m ≤ n → a ≤ y → x ≤ y → cond (leb m limit) a x ≤ cond (leb n limit) a y
+cond-leb-mono m n limit {a} {x} {y} h ay xy = go (decLe n limit) (decLe m limit)
+  where
+    go : Dec (n ≤ limit) → Dec (m ≤ limit) → cond (leb m limit) a x ≤ cond (leb n limit) a y
+    go (yes p) q = simp (le-leb n limit p, le-leb m limit (le-trans h p)) (le-refl a)
+    go (no p) (yes q) = simp (lt-leb n limit (omega arith), le-leb m limit q) ay
+    go (no p) (no q) = simp (lt-leb n limit (omega arith), lt-leb m limit (omega arith)) xy
+
+pub cond-leb-antitone : (m n limit : ℕ) {a x y : ℕ} → m ≤ n → x ≤ a → x ≤ y → cond (leb n limit) a x ≤ cond (leb m limit) a y
+cond-leb-antitone m n limit {a} {x} {y} h xa xy = go (decLe n limit) (decLe m limit)
+  where
+    go : Dec (n ≤ limit) → Dec (m ≤ limit) → cond (leb n limit) a x ≤ cond (leb m limit) a y
+    go (yes p) q = simp (le-leb n limit p, le-leb m limit (le-trans h p)) (le-refl a)
+    go (no p) (yes q) = simp (lt-leb n limit (omega arith), le-leb m limit q) xa
+    go (no p) (no q) = simp (lt-leb n limit (omega arith), lt-leb m limit (omega arith)) xy

@@ -1,0 +1,34 @@
+-- A test of every entry of a table (specs/Table).
+--   and-left, and-right   what both tests of a pair say
+--   everyEntry-at         the test passes at each place
+-- Assumes nothing.
+use mathlib.Core.Path.{_≡_, _∙_, subst, sym}
+use mathlib.Core.Bool.{Bool, true, false, _&&_}
+use mathlib.Core.List.{List, [], _∷_}
+use Prim.Native.Nat.{ℕ, zero, suc, _+_, _<_}
+use native.Mathlib.Nat.{add-zero, zero-add, add-suc, suc-add, le-of-suc-le-suc, not-suc-le-zero}
+use lib.Dec.{T}
+use lib.ListN.{length, getD}
+use Rattle.numbers.specs.Table.{everyFrom, everyEntry}
+
+pub and-left : (a b : Bool) → T (a && b) → T a
+and-left true b t = tt
+and-left false b t = t
+
+pub and-right : (a b : Bool) → T (a && b) → T b
+and-right true b t = t
+and-right false b t = absurd t
+
+everyFrom-at : (f : ℕ → ℕ → ℕ → Bool) (xs : List ℕ) (i before : ℕ) → T (everyFrom f i before xs)
+    → (k : ℕ) → k < length xs → T (f (i + k) (getD (before ∷ xs) k 0) (getD xs k 0))
+everyFrom-at f [] i before t k h = absurd (not-suc-le-zero h)
+everyFrom-at f (x ∷ xs) i before t zero h =
+    subst (λ (m : ℕ). T (f m before x)) (sym (add-zero i)) (and-left (f i before x) (everyFrom f (suc i) x xs) t)
+everyFrom-at f (x ∷ xs) i before t (suc k) h =
+    subst (λ (m : ℕ). T (f m (getD (x ∷ xs) k 0) (getD xs k 0))) (suc-add i k ∙ sym (add-suc i k))
+    (everyFrom-at f xs (suc i) x (and-right (f i before x) (everyFrom f (suc i) x xs) t) k (le-of-suc-le-suc h))
+
+pub everyEntry-at : (f : ℕ → ℕ → ℕ → Bool) (xs : List ℕ) → T (everyEntry f xs)
+    → (k : ℕ) → k < length xs → T (f k (getD (0 ∷ xs) k 0) (getD xs k 0))
+everyEntry-at f xs t k h =
+    subst (λ (m : ℕ). T (f m (getD (0 ∷ xs) k 0) (getD xs k 0))) (zero-add k) (everyFrom-at f xs 0 0 t k h)

@@ -1,0 +1,9 @@
+-- What the layers above count with.
+--   Division   division rounded up
+--   Fraction   exact fractions and their order
+--   Search     the greatest and the least number that pass a test
+--   Table      a test of every entry of a table
+pub mod Division
+pub mod Fraction
+pub mod Search
+pub mod Table

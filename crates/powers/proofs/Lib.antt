@@ -1,0 +1,3 @@
+-- The table of T, and its rule and its rise.
+pub mod PowerTable
+pub mod PowerLaws

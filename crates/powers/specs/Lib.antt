@@ -1,0 +1,2 @@
+-- The powers 1.31 of the multilane curve.
+pub mod Power
