@@ -20,7 +20,7 @@ pub laneWidthAdjustment-le : (w : ℕ) → laneWidthAdjustment w ≤ 6600
 unfolding laneWidthAdjustment
 laneWidthAdjustment-le w = cond-le (leb 120 w) (omega arith) (cond-le (leb 110 w) (omega arith) (omega arith))
 
-perMissingFoot-le : (n : ℕ) → perMissingFoot n ≤ 600
+pub perMissingFoot-le : (n : ℕ) → perMissingFoot n ≤ 600
 unfolding perMissingFoot
 perMissingFoot-le n =
     cond-le (leb n 2) (omega arith) (cond-le (leb n 3) (omega arith) (cond-le (leb n 4) (omega arith) (omega arith)))
@@ -40,7 +40,7 @@ pub rightClearanceAdjustment-antitone : (r m n : ℕ) → m ≤ n → rightClear
 unfolding rightClearanceAdjustment
 rightClearanceAdjustment-antitone r m n h = mul-le-mul-left (6 - min 6 (r / 10)) (perMissingFoot-antitone m n h)
 
-countedLeftClearance-le : (m : Median) (l : ℕ) → countedLeftClearance m l ≤ 60
+pub countedLeftClearance-le : (m : Median) (l : ℕ) → countedLeftClearance m l ≤ 60
 countedLeftClearance-le Median.Undivided l = omega arith
 countedLeftClearance-le Median.Divided l = omega arith
 countedLeftClearance-le Median.TwoWayLeftTurnLane l = omega arith

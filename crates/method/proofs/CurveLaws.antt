@@ -1,20 +1,25 @@
 -- Capacity, breakpoint and the curve (specs/Curves).
 --   capacity-mono        capacity never falls with a higher free-flow speed
 --   capacity-le          it is at most 240,000
+--   unlessRefused-some   a number above 0 refuses
 --   curveAt-wellFormed   the curve at an F between the kind's ends is well formed
 --   curveAt-sized        and within the ends that 64 bits want
 --   curveOf-wellFormed, curveOf-sized   the same of the curve of a case that is accepted
 -- Assumes nothing.
+use mathlib.Core.Path.{_≡_}
 use Prim.Native.Nat.{ℕ, _+_, _*_, _-_, _≤_, _<_, min}
 use native.Mathlib.Omega.{arith}
+use borrow.Author.Tests.{ne-eqb}
 use Rattle.method.specs.declared.kind.Kind.{Kind}
 use Rattle.method.specs.declared.kind.Kind.the-variants as Kind
 use Rattle.method.specs.declared.case.Road.{Road}
 use Rattle.method.specs.declared.case.Case.{Case}
+use Rattle.method.specs.declared.curve.Curve.{Curve}
+use Rattle.method.specs.declared.curve.Checked.the-variants as Checked
 use Rattle.method.specs.Kinds.{lowestSpeed, highestSpeed}
 use Rattle.method.specs.FreeFlowSpeed.{uncappedSpeed, freeFlowSpeed}
 use Rattle.method.specs.Refusals.{Accepted}
-use Rattle.method.specs.Curves.{capacity, breakpoint, curveAt, WellFormed, Sized, curveOf}
+use Rattle.method.specs.Curves.{capacity, breakpoint, curveAt, WellFormed, Sized, curveOf, unlessRefused}
 use Rattle.method.proofs.FreeFlowSpeedLaws.{freeFlowSpeed-le, le-freeFlowSpeed}
 use Rattle.method.proofs.RefusalLaws.{accepted-parts, speed-accepted}
 
@@ -27,6 +32,9 @@ pub capacity-le : (kind : Kind) (f : ℕ) → capacity kind f ≤ 240000
 unfolding capacity
 capacity-le Kind.Freeway f = omega arith
 capacity-le Kind.Multilane f = omega arith
+
+pub unlessRefused-some : (n : ℕ) (curve : Curve) → 0 < n → unlessRefused n curve ≡ Checked.Refused n
+unlessRefused-some n curve p = simp (ne-eqb n 0 (λ e. omega arith))
 
 pub curveAt-wellFormed : (kind : Kind) (f : ℕ) → lowestSpeed kind ≤ f → f ≤ highestSpeed kind → WellFormed (curveAt kind f)
 unfolding curveAt capacity breakpoint

@@ -1,1 +1,140 @@
--- todo
+-- Density and letter (specs/Service).
+--   density-le-iff     the density meets a limit exactly when 10,000v is at most the limit times S
+--   density-exact      it may be worked from any fraction of the value of S
+--   density-mono       more flow at no higher speed: no less density
+--   density-le         up to capacity the density is at most 450
+--   density-zero       without flow it is 0
+--   densityLetter-mono, densityLetter-last   a greater density gets no better letter; none is past F
+--   letterAt-mono      more flow, or a lower free-flow speed: no better letter
+--   letterAt-zero      without flow the letter is A
+--   speed-mono         with a higher free-flow speed the speed never falls, of either kind
+-- Assumes nothing.
+use mathlib.Core.Path.{_≡_, refl, ap}
+use mathlib.Core.Bool.{Bool, true, false, cond}
+use mathlib.Core.Logic.{_↔_}
+use Prim.Native.Nat.{ℕ, _*_, _≤_, _<_}
+use native.Mathlib.Omega.{arith}
+use native.Mathlib.Nat.{le-trans, le-refl, zero-mul, mul-pos, mul-le-mul-right}
+use native.Mathlib.Decide.{decLe}
+use borrow.Author.Tests.{le-leb, lt-leb}
+use lib.Dec.{leb}
+use Rattle.numbers.specs.declared.Fraction.{Fraction}
+use Rattle.numbers.specs.Division.{divUp}
+use Rattle.numbers.specs.Fraction.{over, whole, times, dividedBy, roundedUp, AtMost}
+use Rattle.numbers.proofs.DivisionLaws.{divUp-zero}
+use Rattle.numbers.proofs.FractionLaws.{AtMost-trans, roundedUp-mono, roundedUp-eq, dividedBy-mono, quotient-le-iff}
+use Rattle.numbers.proofs.ChoiceLaws.{cond-le, le-cond, cond-leb-mono}
+use Rattle.method.specs.declared.kind.Kind.{Kind}
+use Rattle.method.specs.declared.kind.Kind.the-variants as Kind
+use Rattle.method.specs.declared.curve.Curve.{Curve}
+use Rattle.method.specs.declared.service.Letter.{Letter}
+use Rattle.method.specs.declared.service.Letter.the-variants as Letter
+use Rattle.method.specs.Kinds.{lowestSpeed, highestSpeed}
+use Rattle.method.specs.Curves.{capacity, curveAt, WellFormed}
+use Rattle.method.specs.Speed.{speed, ExactSpeed}
+use Rattle.method.specs.Service.{density, densityLetter, letterAt, letterNumber}
+use Rattle.method.proofs.CurveLaws.{capacity-mono, curveAt-wellFormed}
+use Rattle.method.proofs.SpeedLaws.{speed-numerator-pos, speed-denominator-pos, speed-antitone, capacitySpeed-le}
+use Rattle.method.proofs.FreewayLaws.{freewaySpeed-mono}
+use Rattle.method.proofs.MultilaneLaws.{multilaneSpeed-mono}
+
+-- ---- density
+pub density-le-iff : (curve : Curve) (v limit : ℕ) → WellFormed curve → 100 * v ≤ curve .capacity
+    → (density curve v ≤ limit) ↔ AtMost (whole (10000 * v)) (times (whole limit) (speed curve v))
+unfolding density
+density-le-iff curve v limit ok h = quotient-le-iff (10000 * v) limit (speed curve v) (speed-numerator-pos curve v ok h)
+
+pub density-exact : (curve : Curve) (v : ℕ) (s : Fraction) → WellFormed curve → 100 * v ≤ curve .capacity → ExactSpeed curve v s
+    → divUp (10000 * v * s .denominator) (s .numerator) ≡ density curve v
+unfolding density
+density-exact curve v s ok h exact =
+    roundedUp-eq (over (10000 * v * s .denominator) (s .numerator)) (dividedBy (whole (10000 * v)) (speed curve v)) (exact .numerator-pos)
+    (omega (arith, speed-numerator-pos curve v ok h))
+    (crossed (10000 * v) (s .numerator) (s .denominator) (speed curve v .numerator) (speed curve v .denominator) (exact .same))
+  where
+    crossed : (m a b x y : ℕ) → a * y ≡ x * b → m * b * (1 * x) ≡ m * y * a
+    crossed m a b x y e = omega (arith, ap (λ n. m * n) e)
+
+pub density-mono : (curve₁ curve₂ : Curve) (v w : ℕ) → WellFormed curve₁ → WellFormed curve₂
+    → 100 * v ≤ curve₁ .capacity → 100 * w ≤ curve₂ .capacity → v ≤ w → AtMost (speed curve₂ w) (speed curve₁ v)
+    → density curve₁ v ≤ density curve₂ w
+unfolding density
+density-mono curve₁ curve₂ v w ok₁ ok₂ h k l s =
+    roundedUp-mono (dividedBy (whole (10000 * v)) (speed curve₁ v)) (dividedBy (whole (10000 * w)) (speed curve₂ w))
+    (omega (arith, speed-numerator-pos curve₁ v ok₁ h)) (omega (arith, speed-numerator-pos curve₂ w ok₂ k))
+    (dividedBy-mono (10000 * v) (10000 * w) (speed curve₁ v) (speed curve₂ w) (omega arith) s)
+
+pub density-le : (curve : Curve) (v : ℕ) → WellFormed curve → 100 * v ≤ curve .capacity → density curve v ≤ 450
+density-le curve v ok h =
+    density-le-iff curve v 450 ok h .1
+    (omega (arith, capacitySpeed-le curve v ok h, mul-le-mul-right (speed curve v .denominator) h))
+
+pub density-zero : (curve : Curve) → WellFormed curve → density curve 0 ≡ 0
+unfolding density
+density-zero curve ok =
+    rw (zero-mul (speed curve 0 .denominator)) (divUp-zero (1 * speed curve 0 .numerator) (omega (arith, speed-numerator-pos curve 0 ok (omega arith))))
+
+-- ---- letters
+letterNumber-cond : (b : Bool) (x y : Letter) → letterNumber (cond b x y) ≡ cond b (letterNumber x) (letterNumber y)
+letterNumber-cond true x y = refl
+letterNumber-cond false x y = refl
+
+-- the number of a density's letter
+gradeNumber : ℕ → ℕ
+gradeNumber d = cond (leb d 110) 1 (cond (leb d 180) 2 (cond (leb d 260) 3 (cond (leb d 350) 4 (cond (leb d 450) 5 6))))
+
+densityLetter-number : (d : ℕ) → letterNumber (densityLetter d) ≡ gradeNumber d
+unfolding densityLetter gradeNumber
+densityLetter-number d = simp letterNumber-cond
+
+gradeNumber-mono : (d e : ℕ) → d ≤ e → gradeNumber d ≤ gradeNumber e
+unfolding gradeNumber
+gradeNumber-mono d e h =
+    cond-leb-mono d e 110 h (le-cond (leb e 180) (omega arith) (le-cond (leb e 260) (omega arith) (le-cond (leb e 350) (omega arith) (le-cond (leb e 450) (omega arith) (omega arith)))))
+    (cond-leb-mono d e 180 h (le-cond (leb e 260) (omega arith) (le-cond (leb e 350) (omega arith) (le-cond (leb e 450) (omega arith) (omega arith))))
+    (cond-leb-mono d e 260 h (le-cond (leb e 350) (omega arith) (le-cond (leb e 450) (omega arith) (omega arith)))
+    (cond-leb-mono d e 350 h (le-cond (leb e 450) (omega arith) (omega arith)) (cond-leb-mono d e 450 h (omega arith) (omega arith)))))
+
+pub densityLetter-mono : (d e : ℕ) → d ≤ e → letterNumber (densityLetter d) ≤ letterNumber (densityLetter e)
+densityLetter-mono d e h = rw (densityLetter-number d, densityLetter-number e) (gradeNumber-mono d e h)
+
+pub letterNumber-le : (l : Letter) → letterNumber l ≤ 6
+letterNumber-le Letter.A = omega arith
+letterNumber-le Letter.B = omega arith
+letterNumber-le Letter.C = omega arith
+letterNumber-le Letter.D = omega arith
+letterNumber-le Letter.E = omega arith
+letterNumber-le Letter.F = omega arith
+
+pub letterAt-zero : (curve : Curve) → WellFormed curve → letterAt curve 0 ≡ Letter.A
+unfolding letterAt densityLetter
+letterAt-zero curve ok = simp (le-leb (100 * 0) (curve .capacity) (omega arith), density-zero curve ok)
+
+-- ---- either kind, at two free-flow speeds
+pub speed-mono : (kind : Kind) (f g v : ℕ) → lowestSpeed kind ≤ f → f ≤ g → g ≤ highestSpeed kind → 100 * v ≤ capacity kind f
+    → AtMost (speed (curveAt kind f) v) (speed (curveAt kind g) v)
+speed-mono Kind.Freeway f g v h l k c = freewaySpeed-mono f g v h l k c
+speed-mono Kind.Multilane f g v h l k c = multilaneSpeed-mono f g v h l k c
+
+densityAt-mono : (kind : Kind) (f g v w : ℕ) → lowestSpeed kind ≤ f → f ≤ g → g ≤ highestSpeed kind → v ≤ w → 100 * w ≤ capacity kind f
+    → density (curveAt kind g) v ≤ density (curveAt kind f) w
+unfolding curveAt
+densityAt-mono kind f g v w h l k s c =
+    let okf : WellFormed (curveAt kind f) = curveAt-wellFormed kind f h (le-trans l k) in
+    let okg : WellFormed (curveAt kind g) = curveAt-wellFormed kind g (le-trans h l) k in
+    let cg : capacity kind f ≤ capacity kind g = capacity-mono kind f g l in
+    density-mono (curveAt kind g) (curveAt kind f) v w okg okf (omega arith) c s
+    (AtMost-trans (speed (curveAt kind f) w) (speed (curveAt kind g) w) (speed (curveAt kind g) v) (speed-denominator-pos (curveAt kind g) w okg)
+    (speed-mono kind f g w h l k c) (speed-antitone (curveAt kind g) v w okg s (omega arith)))
+
+pub letterAt-mono : (kind : Kind) (f g v w : ℕ) → lowestSpeed kind ≤ f → f ≤ g → g ≤ highestSpeed kind → v ≤ w
+    → letterNumber (letterAt (curveAt kind g) v) ≤ letterNumber (letterAt (curveAt kind f) w)
+unfolding letterAt curveAt
+letterAt-mono kind f g v w h l k s = go (decLe (100 * w) (capacity kind f))
+  where
+    go : Dec (100 * w ≤ capacity kind f) → letterNumber (letterAt (curveAt kind g) v) ≤ letterNumber (letterAt (curveAt kind f) w)
+    go (yes c) =
+        let cg : capacity kind f ≤ capacity kind g = capacity-mono kind f g l in
+        simp (le-leb (100 * w) (capacity kind f) c, le-leb (100 * v) (capacity kind g) (omega arith))
+        (densityLetter-mono _ _ (densityAt-mono kind f g v w h l k s c))
+    go (no c) = simp (lt-leb (100 * w) (capacity kind f) (omega arith)) (letterNumber-le (letterAt (curveAt kind g) v))

@@ -5,6 +5,7 @@
 --   reducedSpeed-pos      it is above 0
 --   speed-reduced         it has the value of S
 --   speed-denominator-pos, speed-numerator-pos   S is a fraction, above 0
+--   share-denominator-le, reducedSpeed-exact     what 64 bits hold of w and of S
 --   speed-antitone        with more flow S never rises
 --   capacitySpeed-le      S is at least the speed at capacity, 10c/45
 -- Assumes nothing.
@@ -24,8 +25,8 @@ use Rattle.powers.proofs.PowerLaws.{power-zero, power-le, power-mono}
 use Rattle.method.specs.declared.kind.Kind.{Kind}
 use Rattle.method.specs.declared.kind.Kind.the-variants as Kind
 use Rattle.method.specs.declared.curve.Curve.{Curve}
-use Rattle.method.specs.Curves.{WellFormed}
-use Rattle.method.specs.Speed.{beyondBreakpoint, beyondSpan, fallShareBy, fallShare, speed}
+use Rattle.method.specs.Curves.{WellFormed, Sized}
+use Rattle.method.specs.Speed.{beyondBreakpoint, beyondSpan, fallShareBy, fallShare, speed, ExactSpeed}
 
 -- ---- w
 -- the place in the table of powers: 1,000 × (100v − b) / (c − b), rounded up
@@ -185,3 +186,22 @@ capacitySpeed-le curve v ok h =
     AtMost-trans (over (10 * curve .capacity) 45) (reducedSpeed curve v) (speed curve v) (reducedSpeed-denominator-pos curve v ok)
     (omega (arith, reducedNumerator-ge (curve .«free_flow_speed») (curve .capacity) (fallShare curve v .numerator) (fallShare curve v .denominator) (ok .falls) (share-le curve v ok h)))
     (le-of-eq (sym (speed-reduced curve v ok)))
+
+-- ---- what 64 bits hold
+share-denominator-le-by : (kind : Kind) (curve : Curve) (v : ℕ) → Sized curve → fallShareBy kind curve v .denominator ≤ 19600000000
+unfolding fallShareBy
+share-denominator-le-by Kind.Freeway curve v sized = mul-le-mul {n₂ = 140000} {m₂ = 140000} (sized .span-le) (sized .span-le)
+share-denominator-le-by Kind.Multilane curve v sized = omega arith
+
+pub share-denominator-le : (curve : Curve) (v : ℕ) → Sized curve → fallShare curve v .denominator ≤ 19600000000
+share-denominator-le curve v sized = share-denominator-le-by (curve .kind) curve v sized
+
+pub reducedSpeed-exact : (curve : Curve) (v : ℕ) → WellFormed curve → Sized curve → 100 * v ≤ curve .capacity → ExactSpeed curve v (reducedSpeed curve v)
+unfolding reducedSpeed
+reducedSpeed-exact curve v ok sized h =
+    record {
+      same = sym (speed-reduced curve v ok);
+      denominator-pos = reducedSpeed-denominator-pos curve v ok;
+      denominator-le = omega (arith, share-denominator-le curve v sized);
+      numerator-pos = reducedSpeed-pos curve v ok h;
+    }

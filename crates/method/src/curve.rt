@@ -2,10 +2,13 @@
 //   curve_at        the curve of a kind at a free-flow speed
 //   checked_curve   the curve of a road with a lane count, or 10
 //   check           the curve of a case, or the first of 1 to 10 that refuses it
-use crate::case::{Case, Road};
+use crate::case::Case;
+use crate::case::Road;
 use crate::free_flow;
 use crate::kind;
-use crate::kind::{Freeway, Kind, Multilane};
+use crate::kind::Freeway;
+use crate::kind::Kind;
+use crate::kind::Multilane;
 use crate::refusal;
 ghost use mathlib.Core.Path.{_≡_};
 ghost use Prim.Native.Nat.{_≤_};

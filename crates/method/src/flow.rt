@@ -1,6 +1,7 @@
 // Flow rate, in whole passenger cars per hour per lane.
 //   flow_rate   of a case that none of 1 to 9 refuses
-use crate::case::{Case, Terrain};
+use crate::case::Case;
+use crate::case::Terrain;
 ghost use mathlib.Core.Path.{_≡_};
 ghost use Rattle.method.specs.Refusals.{firstRefusal, fieldRefusals};
 ghost use Rattle.method.specs.Flow.{truckEquivalent, flowRate};

@@ -2,7 +2,8 @@
 //   uncapped_speed    F before its upper end, given or estimated
 //   capped            a speed, or the kind's upper end where it is above that
 use crate::adjustment;
-use crate::case::{Road, Way};
+use crate::case::Road;
+use crate::case::Way;
 use crate::kind;
 use crate::kind::Kind;
 use crate::ramp;

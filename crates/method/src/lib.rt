@@ -9,14 +9,14 @@
 //   flow         flow rate
 //   speed        speed as an exact fraction
 //   service      speed and density as they are shown, and the letter
-pub mod kind;
-pub mod case;
 pub mod adjustment;
-pub mod ramp;
-mod ramp_table;
-pub mod free_flow;
-pub mod refusal;
+pub mod case;
 pub mod curve;
 pub mod flow;
-pub mod speed;
+pub mod free_flow;
+pub mod kind;
+pub mod ramp;
+mod ramp_table;
+pub mod refusal;
 pub mod service;
+pub mod speed;

@@ -1,7 +1,9 @@
 // Refusals 1 to 9 of a case, in document 01's order, and the numbers of 1 to 10.
 //   road_refusal    the first of 1 to 5 that refuses a road, 0 where none does
 //   field_refusal   the first of 1 to 9 that refuses a case, 0 where none does
-use crate::case::{Case, Median, Road};
+use crate::case::Case;
+use crate::case::Median;
+use crate::case::Road;
 use crate::kind;
 use crate::kind::Kind;
 ghost use mathlib.Core.Path.{_≡_};

@@ -14,10 +14,10 @@ use Rattle.numbers.specs.Division.{divUp}
 
 pub divUp-le-iff : (a b k : ℕ) → 0 < b → (divUp a b ≤ k) ↔ (a ≤ k * b)
 unfolding divUp
-divUp-le-iff a b k p =
-    ( λ h. let l : a + (b - 1) < suc k * b = div-lt-iff-lt-mul p .0 (omega arith) in omega arith
-    , λ h. let l : divUp a b < suc k = div-lt-iff-lt-mul p .1 (omega arith) in omega arith
-    )
+divUp-le-iff a b k p = (
+  λ h. let l : a + (b - 1) < suc k * b = div-lt-iff-lt-mul p .0 (omega arith) in omega arith,
+  λ h. let l : divUp a b < suc k = div-lt-iff-lt-mul p .1 (omega arith) in omega arith,
+)
 
 pub le-divUp : (a b : ℕ) → 0 < b → a ≤ divUp a b * b
 le-divUp a b p = divUp-le-iff a b (divUp a b) p .0 (omega arith)

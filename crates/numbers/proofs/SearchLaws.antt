@@ -154,10 +154,10 @@ least-eq p n s h t below = go (decLe s (least p n))
     go (no l) = absurd (below (least p n) (omega arith) (least-passes p n (omega (arith, low))))
 
 pub least-iff : (p : ℕ → Bool) (n x : ℕ) → Rises p → x < n → T (p x) ↔ (least p n ≤ x)
-least-iff p n x rises h =
-    ( λ t. least-le-of p n x t h
-    , λ l. rises (least p n) x l (least-passes p n (omega arith))
-    )
+least-iff p n x rises h = (
+  λ t. least-le-of p n x t h,
+  λ l. rises (least p n) x l (least-passes p n (omega arith)),
+)
 
 pub least-first : (p : ℕ → Bool) (n s : ℕ) → Rises p → s < n → T (startsAt p s) → least p n ≡ s
 unfolding startsAt

@@ -1,6 +1,7 @@
 // Powers: T(i), the power 1.31 of i thousandths in millionths, i from 0 to 1,000.
 //   power   T(i)
 mod table;
+
 use table::POWERS;
 ghost use mathlib.Core.Path.{_≡_};
 ghost use Prim.Native.Nat.{_≤_};

@@ -1,35 +1,28 @@
+-- `method::adjustment::counted_left_clearance` meets its contract, by the median.
+-- Assumes nothing.
+use Rattle.method.specs.Adjustments.{countedLeftClearance}
 use borrow.Author.Needs.{needs}
 use Rattle.method.proofs.adjustment.counted_left_clearance.Statement.{statement}
 use Rattle.method.proofs.adjustment.counted_left_clearance.Tie as tie
-use Rattle.method.proofs.adjustment.counted_left_clearance.Reads as reads
-use Rattle.method.proofs.adjustment.counted_left_clearance.Lts as lts
-use Rattle.method.proofs.adjustment.at_most_60.Reads as at-most-60-reads
 
--- src/adjustment.rt:55:28
 enum-told : tie.Need-enum-told
 enum-told c = search needs
 
--- src/adjustment.rt:55:28
 at-most-60-requires : tie.Need-at-most-60-requires
 at-most-60-requires c κs = search needs
 
--- src/adjustment.rt:56:30
 enum-told-2 : tie.Need-enum-told-2
 enum-told-2 c = search needs
 
--- src/adjustment.rt:57:39
 enum-told-3 : tie.Need-enum-told-3
 enum-told-3 c = search needs
 
--- src/adjustment.rt:51:1
 returns : tie.Need-returns
-returns c = ?
+returns c = simp (c .before .enum-told .given .1, c .at-most-60 .ensures)
 
--- src/adjustment.rt:51:1
 returns-2 : tie.Need-returns-2
 returns-2 c = search needs
 
--- src/adjustment.rt:51:1
 returns-3 : tie.Need-returns-3
 returns-3 c = search needs
 

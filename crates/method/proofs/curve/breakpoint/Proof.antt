@@ -1,32 +1,31 @@
+-- `method::curve::breakpoint` meets its contract, by kind.
+-- Assumes nothing.
+use Prim.Native.Nat.{_≤_}
+use Rattle.method.specs.Curves.{breakpoint}
 use borrow.Author.Needs.{needs}
+use native.Mathlib.Omega.{arith}
 use Rattle.method.proofs.curve.breakpoint.Statement.{statement}
 use Rattle.method.proofs.curve.breakpoint.Tie as tie
-use Rattle.method.proofs.curve.breakpoint.Reads as reads
-use Rattle.method.proofs.curve.breakpoint.Lts as lts
 
--- src/curve.rt:51:36
 enum-told : tie.Need-enum-told
 enum-told c = search needs
 
--- src/curve.rt:51:36
 mul-result : tie.Need-mul-result
-mul-result c = ?
+mul-result c = let top : c .before .before .args .speed ≤ 75000 = rw (c .enum-told .given .1) at (c .before .before .pre) in omega arith
 
--- src/curve.rt:51:26
 sub-result : tie.Need-sub-result
-sub-result c = ?
+sub-result c = let top : c .before .before .args .speed ≤ 75000 = rw (c .enum-told .given .1) at (c .before .before .pre) in omega arith
 
--- src/curve.rt:52:28
 enum-told-2 : tie.Need-enum-told-2
 enum-told-2 c = search needs
 
--- src/curve.rt:46:1
 returns : tie.Need-returns
-returns c = ?
+unfolding breakpoint
+returns c = simp (c .enum-told .given .1)
 
--- src/curve.rt:46:1
 returns-2 : tie.Need-returns-2
-returns-2 c = ?
+unfolding breakpoint
+returns-2 c = simp (c .enum-told2 .given .1)
 
 pub breakpoint-spec : {M : Type 1} → statement M
 breakpoint-spec =

@@ -1,44 +1,41 @@
+-- `method::curve::capacity` meets its contract, by kind: below 70,000, or 65,000 on kind M, the sum is the lesser.
+-- Assumes nothing.
+use Rattle.method.specs.Curves.{capacity}
 use borrow.Author.Needs.{needs}
+use native.Mathlib.Omega.{arith}
 use Rattle.method.proofs.curve.capacity.Statement.{statement}
 use Rattle.method.proofs.curve.capacity.Tie as tie
-use Rattle.method.proofs.curve.capacity.Reads as reads
-use Rattle.method.proofs.curve.capacity.Lts as lts
 
--- src/curve.rt:33:29
 enum-told : tie.Need-enum-told
 enum-told c = search needs
 
--- src/curve.rt:34:13
 add-result : tie.Need-add-result
 add-result c = search needs
 
--- src/curve.rt:38:31
 enum-told-2 : tie.Need-enum-told-2
 enum-told-2 c = search needs
 
--- src/curve.rt:39:23
 mul-result : tie.Need-mul-result
 mul-result c = search needs
 
--- src/curve.rt:39:13
 add-result-2 : tie.Need-add-result-2
 add-result-2 c = search needs
 
--- src/curve.rt:28:1
 returns : tie.Need-returns
-returns c = ?
+unfolding capacity
+returns c = rw (c .before .enum-told .given .1) (omega arith)
 
--- src/curve.rt:28:1
 returns-2 : tie.Need-returns-2
-returns-2 c = ?
+unfolding capacity
+returns-2 c = rw (c .before .enum-told .given .1) (omega arith)
 
--- src/curve.rt:28:1
 returns-3 : tie.Need-returns-3
-returns-3 c = ?
+unfolding capacity
+returns-3 c = rw (c .before .enum-told2 .given .1) (omega arith)
 
--- src/curve.rt:28:1
 returns-4 : tie.Need-returns-4
-returns-4 c = ?
+unfolding capacity
+returns-4 c = rw (c .before .enum-told2 .given .1) (omega arith)
 
 pub capacity-spec : {M : Type 1} → statement M
 capacity-spec =

@@ -1,42 +1,37 @@
+-- `method::flow::flow_rate` meets its contract: refusals 6 to 9 keep the divisor above 0 and both products small.
+-- Assumes nothing.
+use mathlib.Core.Path.{_∙_}
+use Rattle.method.specs.Flow.{flow, flowRate}
+use Rattle.method.proofs.FlowLaws.{truckEquivalent-ends, flowRate-parts}
 use borrow.Author.Needs.{needs}
+use native.Mathlib.Omega.{arith}
 use Rattle.method.proofs.flow.flow_rate.Statement.{statement}
 use Rattle.method.proofs.flow.flow_rate.Tie as tie
-use Rattle.method.proofs.flow.flow_rate.Reads as reads
-use Rattle.method.proofs.flow.flow_rate.Lts as lts
-use Rattle.method.proofs.flow.truck_equivalent.Reads as truck-equivalent-reads
-use Rattle.numbers.proofs.div_up.Reads as div-up-reads
 
--- src/flow.rt:22:9
 truck-equivalent-requires : tie.Need-truck-equivalent-requires
 truck-equivalent-requires c κs = search needs
 
--- src/flow.rt:24:52
 sub-div-up : tie.Need-sub-div-up
-sub-div-up c = ?
+sub-div-up c = omega (arith, truckEquivalent-ends (c .before .args .case .terrain))
 
--- src/flow.rt:24:32
 mul-div-up : tie.Need-mul-div-up
-mul-div-up c = ?
+mul-div-up c = rw (c .before .truck-equivalent .ensures) (omega (arith, flowRate-parts (c .before .before .args .case) (c .before .before .pre)))
 
--- src/flow.rt:24:24
 add-div-up : tie.Need-add-div-up
-add-div-up c = ?
+add-div-up c = rw (c .before .truck-equivalent .ensures) (omega (arith, flowRate-parts (c .before .before .args .case) (c .before .before .pre)))
 
--- src/flow.rt:24:9
 mul-div-up-2 : tie.Need-mul-div-up-2
-mul-div-up-2 c = ?
+mul-div-up-2 c = rw (c .before .before .truck-equivalent .ensures) (omega (arith, flowRate-parts (c .before .before .before .args .case) (c .before .before .before .pre)))
 
--- src/flow.rt:25:9
 mul-div-up-3 : tie.Need-mul-div-up-3
-mul-div-up-3 c = ?
+mul-div-up-3 c = omega (arith, flowRate-parts (c .before .before .before .before .args .case) (c .before .before .before .before .pre))
 
--- src/flow.rt:23:5
 div-up-requires : tie.Need-div-up-requires
-div-up-requires c κs = ?
+div-up-requires c κs = flowRate-parts (c .before .before .before .before .args .case) (c .before .before .before .before .pre) .divisor-pos
 
--- src/flow.rt:17:1
 returns : tie.Need-returns
-returns c = ?
+unfolding flow flowRate
+returns c = rw (← c .before .before .before .before .truck-equivalent .ensures) (c .div-up .ensures)
 
 pub flow-rate-spec : {M : Type 1} → statement M
 flow-rate-spec =

@@ -1,46 +1,40 @@
+-- `method::free_flow::uncapped_speed` meets its contract, by way and kind; refusals 1 and 5 give what an estimate needs.
+-- Assumes nothing.
+use Rattle.method.specs.FreeFlowSpeed.{uncappedBy}
+use Rattle.method.proofs.RefusalLaws.{roadFits}
 use borrow.Author.Needs.{needs}
 use Rattle.method.proofs.free_flow.uncapped_speed.Statement.{statement}
 use Rattle.method.proofs.free_flow.uncapped_speed.Tie as tie
-use Rattle.method.proofs.free_flow.uncapped_speed.Reads as reads
-use Rattle.method.proofs.free_flow.uncapped_speed.Lts as lts
-use Rattle.method.proofs.free_flow.freeway_estimate.Reads as freeway-estimate-reads
-use Rattle.method.proofs.free_flow.multilane_estimate.Reads as multilane-estimate-reads
 
--- src/free_flow.rt:46:23
 enum-told : tie.Need-enum-told
 enum-told c = search needs
 
--- src/free_flow.rt:47:27
 enum-told-2 : tie.Need-enum-told-2
 enum-told-2 c = search needs
 
--- src/free_flow.rt:48:30
 enum-told-3 : tie.Need-enum-told-3
 enum-told-3 c = search needs
 
--- src/free_flow.rt:48:30
 freeway-estimate-requires : tie.Need-freeway-estimate-requires
-freeway-estimate-requires c κs = ?
+freeway-estimate-requires c κs = (roadFits (c .before .before .before .before .args .road) (c .before .before .before .before .pre) .speed-low, rw (c .enum-told3 .given .1) at (roadFits (c .before .before .before .before .args .road) (c .before .before .before .before .pre) .access-high))
 
--- src/free_flow.rt:49:32
 enum-told-4 : tie.Need-enum-told-4
 enum-told-4 c = search needs
 
--- src/free_flow.rt:49:32
 multilane-estimate-requires : tie.Need-multilane-estimate-requires
-multilane-estimate-requires c κs = ?
+multilane-estimate-requires c κs = roadFits (c .before .before .before .before .args .road) (c .before .before .before .before .pre) .speed-low
 
--- src/free_flow.rt:39:1
 returns : tie.Need-returns
-returns c = ?
+unfolding uncappedBy
+returns c = simp (c .enum-told .given .1)
 
--- src/free_flow.rt:39:1
 returns-2 : tie.Need-returns-2
-returns-2 c = ?
+unfolding uncappedBy
+returns-2 c = simp (c .before .before .before .enum-told2 .given .1, c .before .enum-told3 .given .1, c .freeway-estimate .ensures)
 
--- src/free_flow.rt:39:1
 returns-3 : tie.Need-returns-3
-returns-3 c = ?
+unfolding uncappedBy
+returns-3 c = simp (c .before .before .before .enum-told2 .given .1, c .before .enum-told4 .given .1, c .multilane-estimate .ensures)
 
 pub uncapped-speed-spec : {M : Type 1} → statement M
 uncapped-speed-spec =

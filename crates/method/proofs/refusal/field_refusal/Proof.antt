@@ -1,26 +1,24 @@
+-- `method::refusal::field_refusal` meets its contract: the road decides where it is refused, the load where it is not.
+-- Assumes nothing.
+use mathlib.Core.Path.{sym, _∙_}
+use Prim.Native.Nat.{ℕ}
+use Rattle.method.proofs.RefusalLaws.{fieldRefusals-road, fieldRefusals-some}
 use borrow.Author.Needs.{needs}
+use native.Mathlib.Omega.{arith}
 use Rattle.method.proofs.refusal.field_refusal.Statement.{statement}
 use Rattle.method.proofs.refusal.field_refusal.Tie as tie
-use Rattle.method.proofs.refusal.field_refusal.Reads as reads
-use Rattle.method.proofs.refusal.field_refusal.Lts as lts
-use Rattle.method.proofs.refusal.load_refusal.Reads as load-refusal-reads
-use Rattle.method.proofs.refusal.road_refusal.Reads as road-refusal-reads
 
--- src/refusal.rt:113:9
 road-refusal-requires : tie.Need-road-refusal-requires
 road-refusal-requires c κs = search needs
 
--- src/refusal.rt:115:9
 load-refusal-requires : tie.Need-load-refusal-requires
 load-refusal-requires c κs = search needs
 
--- src/refusal.rt:115:9
 returns : tie.Need-returns
-returns c = ?
+returns c = c .load-refusal .ensures ∙ sym (fieldRefusals-road (c .before .before .before .before .args .case) (sym (c .before .before .road-refusal .ensures) ∙ c .before .if1 .taken))
 
--- src/refusal.rt:109:1
 returns-2 : tie.Need-returns-2
-returns-2 c = ?
+returns-2 c = c .before .road-refusal .ensures ∙ sym (fieldRefusals-some (c .before .before .before .args .case) (omega (arith, c .before .road-refusal .ensures, c .if1 .left)))
 
 pub field-refusal-spec : {M : Type 1} → statement M
 field-refusal-spec =

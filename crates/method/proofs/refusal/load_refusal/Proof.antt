@@ -1,47 +1,43 @@
+-- `method::refusal::load_refusal` meets its contract: each return is the first test of the list that holds.
+-- Assumes nothing.
+use mathlib.Core.Path.{sym, ap₂, _∙_}
+use borrow.Author.Tests.{lt-ltb, le-ltb}
+use Rattle.method.specs.Refusals.{outside, greatestDemand, loadRefusals}
 use borrow.Author.Needs.{needs}
 use Rattle.method.proofs.refusal.load_refusal.Statement.{statement}
 use Rattle.method.proofs.refusal.load_refusal.Tie as tie
-use Rattle.method.proofs.refusal.load_refusal.Reads as reads
-use Rattle.method.proofs.refusal.load_refusal.Lts as lts
-use Rattle.method.proofs.kind.fewest_lanes.Reads as fewest-lanes-reads
-use Rattle.method.proofs.kind.most_lanes.Reads as most-lanes-reads
-use Rattle.method.proofs.refusal.outside.Reads as outside-reads
 
--- src/refusal.rt:94:16
 fewest-lanes-requires : tie.Need-fewest-lanes-requires
 fewest-lanes-requires c κs = search needs
 
--- src/refusal.rt:94:42
 most-lanes-requires : tie.Need-most-lanes-requires
 most-lanes-requires c κs = search needs
 
--- src/refusal.rt:94:8
 outside-requires : tie.Need-outside-requires
 outside-requires c κs = search needs
 
--- src/refusal.rt:95:9
 returns : tie.Need-returns
-returns c = ?
+unfolding loadRefusals
+returns c = simp (sym (c .before .outside .ensures ∙ ap₂ (λ low high. outside low high (c .before .before .before .before .before .args .case .lanes)) (c .before .before .before .fewest-lanes .ensures) (c .before .before .most-lanes .ensures)) ∙ c .if1 .taken)
 
--- src/refusal.rt:98:9
 returns-2 : tie.Need-returns-2
-returns-2 c = ?
+unfolding loadRefusals
+returns-2 c = simp (sym (c .before .before .before .outside .ensures ∙ ap₂ (λ low high. outside low high (c .before .before .before .before .before .before .before .args .case .lanes)) (c .before .before .before .before .before .fewest-lanes .ensures) (c .before .before .before .before .most-lanes .ensures)) ∙ c .before .before .if1 .left, lt-ltb greatestDemand (c .before .before .before .before .before .before .before .args .case .demand) (c .if2 .taken))
 
--- src/refusal.rt:100:8
 outside-requires-2 : tie.Need-outside-requires-2
 outside-requires-2 c κs = search needs
 
--- src/refusal.rt:101:9
 returns-3 : tie.Need-returns-3
-returns-3 c = ?
+unfolding loadRefusals
+returns-3 c = simp (sym (c .before .before .before .before .before .outside .ensures ∙ ap₂ (λ low high. outside low high (c .before .before .before .before .before .before .before .before .before .args .case .lanes)) (c .before .before .before .before .before .before .before .fewest-lanes .ensures) (c .before .before .before .before .before .before .most-lanes .ensures)) ∙ c .before .before .before .before .if1 .left, le-ltb greatestDemand (c .before .before .before .before .before .before .before .before .before .args .case .demand) (c .before .before .if2 .left), sym (c .before .outside2 .ensures) ∙ c .if3 .taken)
 
--- src/refusal.rt:104:9
 returns-4 : tie.Need-returns-4
-returns-4 c = ?
+unfolding loadRefusals
+returns-4 c = simp (sym (c .before .before .before .before .before .before .before .outside .ensures ∙ ap₂ (λ low high. outside low high (c .before .before .before .before .before .before .before .before .before .before .before .args .case .lanes)) (c .before .before .before .before .before .before .before .before .before .fewest-lanes .ensures) (c .before .before .before .before .before .before .before .before .most-lanes .ensures)) ∙ c .before .before .before .before .before .before .if1 .left, le-ltb greatestDemand (c .before .before .before .before .before .before .before .before .before .before .before .args .case .demand) (c .before .before .before .before .if2 .left), sym (c .before .before .before .outside2 .ensures) ∙ c .before .before .if3 .left, lt-ltb 1000 (c .before .before .before .before .before .before .before .before .before .before .before .args .case .«heavy_share») (c .if4 .taken))
 
--- src/refusal.rt:89:1
 returns-5 : tie.Need-returns-5
-returns-5 c = ?
+unfolding loadRefusals
+returns-5 c = simp (sym (c .before .before .before .before .before .before .before .outside .ensures ∙ ap₂ (λ low high. outside low high (c .before .before .before .before .before .before .before .before .before .before .before .args .case .lanes)) (c .before .before .before .before .before .before .before .before .before .fewest-lanes .ensures) (c .before .before .before .before .before .before .before .before .most-lanes .ensures)) ∙ c .before .before .before .before .before .before .if1 .left, le-ltb greatestDemand (c .before .before .before .before .before .before .before .before .before .before .before .args .case .demand) (c .before .before .before .before .if2 .left), sym (c .before .before .before .outside2 .ensures) ∙ c .before .before .if3 .left, le-ltb 1000 (c .before .before .before .before .before .before .before .before .before .before .before .args .case .«heavy_share») (c .if4 .left))
 
 pub load-refusal-spec : {M : Type 1} → statement M
 load-refusal-spec =

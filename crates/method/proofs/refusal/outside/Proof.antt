@@ -1,15 +1,15 @@
+-- `method::refusal::outside` meets its contract: the two tests are the definition's.
+-- Assumes nothing.
+use borrow.Author.Tests.{lt-ltb, le-ltb}
+use Rattle.method.specs.Refusals.{outside}
 use Rattle.method.proofs.refusal.outside.Statement.{statement}
 use Rattle.method.proofs.refusal.outside.Tie as tie
-use Rattle.method.proofs.refusal.outside.Reads as reads
-use Rattle.method.proofs.refusal.outside.Lts as lts
 
--- src/refusal.rt:35:1
 returns : tie.Need-returns
-returns c = ?
+returns c = simp (lt-ltb (c .before .args .n) (c .before .args .low) (c .if1 .taken))
 
--- src/refusal.rt:35:1
 returns-2 : tie.Need-returns-2
-returns-2 c = ?
+returns-2 c = simp (le-ltb (c .before .args .n) (c .before .args .low) (c .if1 .left))
 
 pub outside-spec : {M : Type 1} → statement M
 outside-spec = tie.close (tie.spec returns returns-2)

@@ -1,55 +1,52 @@
+-- `method::refusal::road_refusal` meets its contract: each return is the first test of the list that holds.
+-- Assumes nothing.
+use mathlib.Core.Path.{sym, _∙_}
+use borrow.Author.Tests.{lt-ltb, le-ltb}
+use Rattle.method.specs.Refusals.{mostAccess, roadRefusals}
 use borrow.Author.Needs.{needs}
+use native.Mathlib.Omega.{arith}
 use Rattle.method.proofs.refusal.road_refusal.Statement.{statement}
 use Rattle.method.proofs.refusal.road_refusal.Tie as tie
-use Rattle.method.proofs.refusal.road_refusal.Reads as reads
-use Rattle.method.proofs.refusal.road_refusal.Lts as lts
-use Rattle.method.proofs.refusal.median_unfit.Reads as median-unfit-reads
-use Rattle.method.proofs.refusal.most_access.Reads as most-access-reads
-use Rattle.method.proofs.refusal.outside.Reads as outside-reads
 
--- src/refusal.rt:66:8
 outside-requires : tie.Need-outside-requires
 outside-requires c κs = search needs
 
--- src/refusal.rt:67:9
 returns : tie.Need-returns
-returns c = ?
+unfolding roadRefusals
+returns c = simp (sym (c .before .outside .ensures) ∙ c .if1 .taken)
 
--- src/refusal.rt:69:8
 outside-requires-2 : tie.Need-outside-requires-2
 outside-requires-2 c κs = search needs
 
--- src/refusal.rt:70:9
 returns-2 : tie.Need-returns-2
-returns-2 c = ?
+unfolding roadRefusals
+returns-2 c = simp (sym (c .before .before .before .outside .ensures) ∙ c .before .before .if1 .left, sym (c .before .outside2 .ensures) ∙ c .if2 .taken)
 
--- src/refusal.rt:73:9
 returns-3 : tie.Need-returns-3
-returns-3 c = ?
+unfolding roadRefusals
+returns-3 c = simp (sym (c .before .before .before .before .before .outside .ensures) ∙ c .before .before .before .before .if1 .left, sym (c .before .before .before .outside2 .ensures) ∙ c .before .before .if2 .left, lt-ltb 400 (c .before .before .before .before .before .before .args .road .«right_clearance») (c .if3 .taken))
 
--- src/refusal.rt:76:9
 returns-4 : tie.Need-returns-4
-returns-4 c = ?
+unfolding roadRefusals
+returns-4 c = simp (sym (c .before .before .before .before .before .before .before .outside .ensures) ∙ c .before .before .before .before .before .before .if1 .left, sym (c .before .before .before .before .before .outside2 .ensures) ∙ c .before .before .before .before .if2 .left, le-ltb 400 (c .before .before .before .before .before .before .before .before .args .road .«right_clearance») (c .before .before .if3 .left), lt-ltb 400 (c .before .before .before .before .before .before .before .before .args .road .«left_clearance») (c .if4 .taken))
 
--- src/refusal.rt:80:8
 median-unfit-requires : tie.Need-median-unfit-requires
 median-unfit-requires c κs = search needs
 
--- src/refusal.rt:81:9
 returns-5 : tie.Need-returns-5
-returns-5 c = ?
+unfolding roadRefusals
+returns-5 c = simp (sym (c .before .before .before .before .before .before .before .before .before .outside .ensures) ∙ c .before .before .before .before .before .before .before .before .if1 .left, sym (c .before .before .before .before .before .before .before .outside2 .ensures) ∙ c .before .before .before .before .before .before .if2 .left, le-ltb 400 (c .before .before .before .before .before .before .before .before .before .before .args .road .«right_clearance») (c .before .before .before .before .if3 .left), le-ltb 400 (c .before .before .before .before .before .before .before .before .before .before .args .road .«left_clearance») (c .before .before .if4 .left), sym (c .before .median-unfit .ensures) ∙ c .if5 .taken)
 
--- src/refusal.rt:83:8
 most-access-requires : tie.Need-most-access-requires
 most-access-requires c κs = search needs
 
--- src/refusal.rt:84:9
 returns-6 : tie.Need-returns-6
-returns-6 c = ?
+unfolding roadRefusals
+returns-6 c = simp (sym (c .before .before .before .before .before .before .before .before .before .before .before .before .outside .ensures) ∙ c .before .before .before .before .before .before .before .before .before .before .before .if1 .left, sym (c .before .before .before .before .before .before .before .before .before .before .outside2 .ensures) ∙ c .before .before .before .before .before .before .before .before .before .if2 .left, le-ltb 400 (c .before .before .before .before .before .before .before .before .before .before .before .before .before .args .road .«right_clearance») (c .before .before .before .before .before .before .before .if3 .left), le-ltb 400 (c .before .before .before .before .before .before .before .before .before .before .before .before .before .args .road .«left_clearance») (c .before .before .before .before .before .if4 .left), sym (c .before .before .before .before .median-unfit .ensures) ∙ c .before .before .before .if5 .left, lt-ltb (mostAccess (c .before .before .before .before .before .before .before .before .before .before .before .before .before .args .road .kind)) (c .before .before .before .before .before .before .before .before .before .before .before .before .before .args .road .access) (omega (arith, c .before .before .most-access .ensures, c .if6 .taken)))
 
--- src/refusal.rt:63:1
 returns-7 : tie.Need-returns-7
-returns-7 c = ?
+unfolding roadRefusals
+returns-7 c = simp (sym (c .before .before .before .before .before .before .before .before .before .before .before .before .outside .ensures) ∙ c .before .before .before .before .before .before .before .before .before .before .before .if1 .left, sym (c .before .before .before .before .before .before .before .before .before .before .outside2 .ensures) ∙ c .before .before .before .before .before .before .before .before .before .if2 .left, le-ltb 400 (c .before .before .before .before .before .before .before .before .before .before .before .before .before .args .road .«right_clearance») (c .before .before .before .before .before .before .before .if3 .left), le-ltb 400 (c .before .before .before .before .before .before .before .before .before .before .before .before .before .args .road .«left_clearance») (c .before .before .before .before .before .if4 .left), sym (c .before .before .before .before .median-unfit .ensures) ∙ c .before .before .before .if5 .left, le-ltb (mostAccess (c .before .before .before .before .before .before .before .before .before .before .before .before .before .args .road .kind)) (c .before .before .before .before .before .before .before .before .before .before .before .before .before .args .road .access) (omega (arith, c .before .before .most-access .ensures, c .if6 .left)))
 
 pub road-refusal-spec : {M : Type 1} → statement M
 road-refusal-spec =

@@ -1,43 +1,52 @@
+-- `method::service::performance_at` meets its contract: speed and density are worked from a fraction of the value of S.
+-- Assumes nothing.
+use mathlib.Core.Path.{_≡_, ap, _∙_}
+use Prim.Native.Nat.{_*_, _≤_}
+use borrow.Author.Tests.{le-leb, lt-leb}
+use Rattle.numbers.proofs.ProductLaws.{product-fits}
+use Rattle.numbers.proofs.FractionLaws.{roundedDown-eq}
+use Rattle.method.specs.Speed.{speed, shownSpeed}
+use Rattle.method.specs.Service.{density, shownDensity, densityLetter, letterAt, performance}
+use Rattle.method.proofs.SpeedLaws.{speed-denominator-pos}
+use Rattle.method.proofs.ServiceLaws.{density-exact}
 use borrow.Author.Needs.{needs}
+use native.Mathlib.Omega.{arith}
 use Rattle.method.proofs.service.performance_at.Statement.{statement}
 use Rattle.method.proofs.service.performance_at.Tie as tie
-use Rattle.method.proofs.service.performance_at.Reads as reads
-use Rattle.method.proofs.service.performance_at.Lts as lts
-use Rattle.method.proofs.service.density_letter.Reads as density-letter-reads
-use Rattle.method.proofs.speed.exact_speed.Reads as exact-speed-reads
-use Rattle.numbers.proofs.div_up.Reads as div-up-reads
 
--- src/service.rt:47:9
 returns : tie.Need-returns
-returns c = ?
+unfolding performance shownSpeed shownDensity letterAt
+returns c = simp (lt-leb (100 * (c .before .before .args .v)) (c .before .before .args .curve .capacity) (omega arith))
 
--- src/service.rt:53:9
 exact-speed-requires : tie.Need-exact-speed-requires
 exact-speed-requires c κs = search needs
 
--- src/service.rt:54:35
 mul-div-up : tie.Need-mul-div-up
 mul-div-up c = search needs
 
--- src/service.rt:54:35
 mul-div-up-2 : tie.Need-mul-div-up-2
-mul-div-up-2 c = ?
+mul-div-up-2 c = record { fits = product-fits 24000000 176400000000 (omega arith) (c .before .exact-speed .ensures .denominator-le) tt }
 
--- src/service.rt:54:9
 div-up-requires : tie.Need-div-up-requires
 div-up-requires c κs = search needs
 
--- src/service.rt:56:16
 div-t5 : tie.Need-div-t5
 div-t5 c = search needs
 
--- src/service.rt:58:17
 density-letter-requires : tie.Need-density-letter-requires
 density-letter-requires c κs = search needs
 
--- src/service.rt:42:1
 returns-2 : tie.Need-returns-2
-returns-2 c = ?
+unfolding performance shownSpeed shownDensity letterAt
+returns-2 c =
+    let up : 100 * (c .before .before .before .before .before .before .before .args .v) ≤ c .before .before .before .before .before .before .before .args .curve .capacity = omega arith in
+    let dense : c .before .before .div-up .result ≡ density (c .before .before .before .before .before .before .before .args .curve) (c .before .before .before .before .before .before .before .args .v) = c .before .before .div-up .ensures ∙ density-exact (c .before .before .before .before .before .before .before .args .curve) (c .before .before .before .before .before .before .before .args .v) (c .before .before .before .before .exact-speed .result) (c .before .before .before .before .before .before .before .pre .0) up (c .before .before .before .before .exact-speed .ensures) in
+    simp (
+      le-leb (100 * (c .before .before .before .before .before .before .before .args .v)) (c .before .before .before .before .before .before .before .args .curve .capacity) up,
+      roundedDown-eq (c .before .before .before .before .exact-speed .result) (speed (c .before .before .before .before .before .before .before .args .curve) (c .before .before .before .before .before .before .before .args .v)) (c .before .before .before .before .exact-speed .ensures .denominator-pos) (speed-denominator-pos (c .before .before .before .before .before .before .before .args .curve) (c .before .before .before .before .before .before .before .args .v) (c .before .before .before .before .before .before .before .pre .0)) (c .before .before .before .before .exact-speed .ensures .same),
+      dense,
+      c .density-letter .ensures ∙ ap densityLetter dense,
+    )
 
 pub performance-at-spec : {M : Type 1} → statement M
 performance-at-spec =

@@ -1,45 +1,40 @@
+-- `method::speed::exact_speed` meets its contract: the result is reducedSpeed of proofs/SpeedLaws, whose value is S.
+-- Assumes nothing.
+use native.Mathlib.Nat.{mul-le-mul, le-trans}
+use Rattle.numbers.proofs.ProductLaws.{product-fits}
+use Rattle.method.proofs.SpeedLaws.{share-le, share-denominator-le, reducedNumerator, reducedSpeed, reducedSpeed-exact}
 use borrow.Author.Needs.{needs}
+use native.Mathlib.Omega.{arith}
 use Rattle.method.proofs.speed.exact_speed.Statement.{statement}
 use Rattle.method.proofs.speed.exact_speed.Tie as tie
-use Rattle.method.proofs.speed.exact_speed.Reads as reads
-use Rattle.method.proofs.speed.exact_speed.Lts as lts
-use Rattle.method.proofs.speed.fall_share.Reads as fall-share-reads
 
--- src/speed.rt:46:9
 fall-share-requires : tie.Need-fall-share-requires
 fall-share-requires c κs = search needs
 
--- src/speed.rt:47:16
 mul-free : tie.Need-mul-free
 mul-free c = search needs
 
--- src/speed.rt:49:20
 mul-t5 : tie.Need-mul-t5
-mul-t5 c = ?
+mul-t5 c = rw (c .before .before .fall-share .ensures) (record { fits = product-fits 675000 19600000000 (omega arith) (share-denominator-le (c .before .before .before .args .curve) (c .before .before .before .args .v) (c .before .before .before .pre .1 .0)) tt })
 
--- src/speed.rt:49:55
 mul-t6 : tie.Need-mul-t6
 mul-t6 c = search needs
 
--- src/speed.rt:49:48
 sub-t7 : tie.Need-sub-t7
 sub-t7 c = search needs
 
--- src/speed.rt:49:47
 mul-t8 : tie.Need-mul-t8
-mul-t8 c = ?
+mul-t8 c = rw (c .before .before .before .before .fall-share .ensures) (record { fits = product-fits 675000 19600000000 (omega arith) (le-trans (share-le (c .before .before .before .before .before .args .curve) (c .before .before .before .before .before .args .v) (c .before .before .before .before .before .pre .0) (c .before .before .before .before .before .pre .1 .1)) (share-denominator-le (c .before .before .before .before .before .args .curve) (c .before .before .before .before .before .args .v) (c .before .before .before .before .before .pre .1 .0))) tt })
 
--- src/speed.rt:49:20
 sub-t9 : tie.Need-sub-t9
-sub-t9 c = ?
+sub-t9 c = rw (c .before .before .before .before .fall-share .ensures) (mul-le-mul (omega arith) (share-le (c .before .before .before .before .before .args .curve) (c .before .before .before .before .before .args .v) (c .before .before .before .before .before .pre .0) (c .before .before .before .before .before .pre .1 .1)))
 
--- src/speed.rt:50:22
 mul-t10 : tie.Need-mul-t10
-mul-t10 c = ?
+mul-t10 c = rw (c .before .before .before .before .before .fall-share .ensures) (omega (arith, share-denominator-le (c .before .before .before .before .before .before .args .curve) (c .before .before .before .before .before .before .args .v) (c .before .before .before .before .before .before .pre .1 .0)))
 
--- src/speed.rt:42:1
 returns : tie.Need-returns
-returns c = ?
+unfolding reducedSpeed reducedNumerator
+returns c = rw (c .before .before .before .before .before .fall-share .ensures) (reducedSpeed-exact (c .before .before .before .before .before .before .args .curve) (c .before .before .before .before .before .before .args .v) (c .before .before .before .before .before .before .pre .0) (c .before .before .before .before .before .before .pre .1 .0) (c .before .before .before .before .before .before .pre .1 .1))
 
 pub exact-speed-spec : {M : Type 1} → statement M
 exact-speed-spec =

@@ -1,55 +1,47 @@
+-- `method::speed::fall_share` meets its contract, by kind; the place in the table of powers is at most 1,000 up to capacity.
+-- Assumes nothing.
+use Rattle.numbers.proofs.ProductLaws.{product-fits}
+use Rattle.method.specs.Speed.{fallShareBy}
+use Rattle.method.proofs.SpeedLaws.{place-le}
 use borrow.Author.Needs.{needs}
+use native.Mathlib.Omega.{arith}
 use Rattle.method.proofs.speed.fall_share.Statement.{statement}
 use Rattle.method.proofs.speed.fall_share.Tie as tie
-use Rattle.method.proofs.speed.fall_share.Reads as reads
-use Rattle.method.proofs.speed.fall_share.Lts as lts
-use Rattle.method.proofs.speed.beyond_breakpoint.Reads as beyond-breakpoint-reads
-use Rattle.numbers.proofs.div_up.Reads as div-up-reads
-use Rattle.powers.proofs.power.Reads as power-reads
 
--- src/speed.rt:27:9
 beyond-breakpoint-requires : tie.Need-beyond-breakpoint-requires
 beyond-breakpoint-requires c κs = search needs
 
--- src/speed.rt:28:16
 sub-span : tie.Need-sub-span
 sub-span c = search needs
 
--- src/speed.rt:31:24
 enum-told : tie.Need-enum-told
 enum-told c = search needs
 
--- src/speed.rt:31:24
 mul-t7 : tie.Need-mul-t7
-mul-t7 c = ?
+mul-t7 c = record { fits = product-fits 140000 140000 (omega arith) (omega arith) tt }
 
--- src/speed.rt:32:26
 mul-t8 : tie.Need-mul-t8
-mul-t8 c = ?
+mul-t8 c = record { fits = product-fits 140000 140000 (omega arith) (omega arith) tt }
 
--- src/speed.rt:35:54
 enum-told-2 : tie.Need-enum-told-2
 enum-told-2 c = search needs
 
--- src/speed.rt:35:54
 mul-div-up : tie.Need-mul-div-up
 mul-div-up c = search needs
 
--- src/speed.rt:35:38
 div-up-requires : tie.Need-div-up-requires
 div-up-requires c κs = search needs
 
--- src/speed.rt:35:24
 power-requires : tie.Need-power-requires
-power-requires c κs = ?
+power-requires c κs = rw (c .div-up .ensures, c .before .before .before .before .beyond-breakpoint .ensures) (place-le (c .before .before .before .before .before .args .curve) (c .before .before .before .before .before .args .v) (c .before .before .before .before .before .pre .0) (c .before .before .before .before .before .pre .1 .1))
 
--- src/speed.rt:22:1
 returns : tie.Need-returns
-returns c = ?
+unfolding fallShareBy
+returns c = simp (c .enum-told .given .1, c .before .before .before .beyond-breakpoint .ensures)
 
--- src/speed.rt:22:1
 returns-2 : tie.Need-returns-2
-returns-2 c = ?
+unfolding fallShareBy
+returns-2 c = simp (c .before .before .enum-told2 .given .1, c .power .ensures, c .before .div-up .ensures, c .before .before .before .before .before .beyond-breakpoint .ensures)
 
 pub fall-share-spec : {M : Type 1} → statement M
 fall-share-spec =
