@@ -10,3 +10,6 @@ pub mod FreewayLaws
 pub mod MultilaneLaws
 pub mod SpeedLaws
 pub mod ServiceLaws
+pub mod AssessLaws
+pub mod Laws
+pub mod Starred

@@ -2,6 +2,7 @@
 --   rampTerm-eq    it is t where t is at most the exact term and t + 1 is not
 --   rampTerm-le    it is at most 19,000
 --   rampTable-at   the entry at k is the term of k ramps
+--   rampTerm-rule  it is at most the exact term, and no greater number is, for k to 48
 -- Assumes nothing.
 use mathlib.Core.Path.{_≡_, refl}
 use mathlib.Core.Bool.{Bool, _&&_}
@@ -13,7 +14,7 @@ use lib.Dec.{T, leb, leb→le, le→leb}
 use lib.ListN.{getD, length}
 use Rattle.numbers.specs.Search.{Falls, endsAt}
 use Rattle.numbers.specs.Table.{everyEntry}
-use Rattle.numbers.proofs.SearchLaws.{greatest-le, greatest-last}
+use Rattle.numbers.proofs.SearchLaws.{greatest-le, greatest-last, endsAt-passes, endsAt-most}
 use Rattle.numbers.proofs.TableLaws.{and-left, and-right, everyEntry-at}
 use Rattle.method.specs.RampTerm.{rampAtMost, rampTerm}
 use Rattle.method.proofs.RampTable.{rampTable}
@@ -44,13 +45,26 @@ table-length : length rampTable ≡ 49
 unfolding rampTable
 table-length = refl
 
-entry-term : (k before t : ℕ) → T (fits k before t) → rampTerm k ≡ t
-unfolding fits
-entry-term k before t e =
-    rampTerm-eq k t (leb→le t 19000 (and-left (leb t 19000) (endsAt (rampAtMost k) t) e))
-    (and-right (leb t 19000) (endsAt (rampAtMost k) t) e)
+module _ (k : ℕ) (h : k ≤ 48) where
+  entry : ℕ
+  entry = getD rampTable k 0
 
-pub rampTable-at : (k : ℕ) → k ≤ 48 → rampTerm k ≡ getD rampTable k 0
-rampTable-at k h =
-    entry-term k (getD (0 ∷ rampTable) k 0) (getD rampTable k 0)
-    (everyEntry-at fits rampTable table-fits k (omega (arith, table-length)))
+  entry-fits : T (fits k (getD (0 ∷ rampTable) k 0) entry)
+  unfolding entry
+  entry-fits = everyEntry-at fits rampTable table-fits k (omega (arith, table-length))
+
+  entry-ends : T (endsAt (rampAtMost k) entry)
+  unfolding fits
+  entry-ends = and-right (leb entry 19000) (endsAt (rampAtMost k) entry) entry-fits
+
+  pub rampTable-at : rampTerm k ≡ getD rampTable k 0
+  unfolding entry fits
+  rampTable-at = rampTerm-eq k entry (leb→le entry 19000 (and-left (leb entry 19000) (endsAt (rampAtMost k) entry) entry-fits)) entry-ends
+
+  pub rampTerm-rule : (rampTerm k ^ 25 * 6 ^ 21 ≤ 3220 ^ 25 * k ^ 21) × ((t : ℕ) → t ^ 25 * 6 ^ 21 ≤ 3220 ^ 25 * k ^ 21 → t ≤ rampTerm k)
+  unfolding rampAtMost entry
+  rampTerm-rule =
+      rw rampTable-at (
+        leb→le (entry ^ 25 * 6 ^ 21) (3220 ^ 25 * k ^ 21) (endsAt-passes (rampAtMost k) entry entry-ends),
+        λ t e. endsAt-most (rampAtMost k) entry t (rampAtMost-falls k) entry-ends (le→leb (t ^ 25 * 6 ^ 21) (3220 ^ 25 * k ^ 21) e),
+      )

@@ -8,7 +8,8 @@
 --   Flow            the flow rate
 --   Speed           S as an exact fraction, and as it is shown
 --   Service         density and letter
---   Statements      the laws of the method, stated
+--   Assess          what a case gets, or its refusal
+--   Laws            the laws of the method, stated
 --   Starred         the starred figures of document 01
 pub mod Kinds
 pub mod Adjustments
@@ -19,3 +20,6 @@ pub mod Curves
 pub mod Flow
 pub mod Speed
 pub mod Service
+pub mod Assess
+pub mod Laws
+pub mod Starred

@@ -9,7 +9,9 @@
 //   flow         flow rate
 //   speed        speed as an exact fraction
 //   service      speed and density as they are shown, and the letter
+//   assess       from a case to its measures or its refusal
 pub mod adjustment;
+pub mod assess;
 pub mod case;
 pub mod curve;
 pub mod flow;

@@ -7,7 +7,7 @@ use crate::case::Road;
 use crate::kind;
 use crate::kind::Kind;
 ghost use mathlib.Core.Path.{_≡_};
-ghost use mathlib.Core.Bool.{_||_};
+ghost use mathlib.Core.Bool.{cond, _||_};
 ghost use lib.Dec.{ltb};
 ghost use Rattle.method.specs.Refusals.{outside, medianUnfit, mostAccess, firstRefusal, roadRefusals, loadRefusals, fieldRefusals};
 
@@ -62,30 +62,42 @@ fn most_access(kind: Kind) -> u64
     }
 }
 
+fn clearance_too_large(right: u64, left: u64) -> bool
+    ensures { λ r. ⌜ r ≡ (ltb 400 right || ltb 400 left) ⌝ }
+{
+    400 < right || 400 < left
+}
+
+// One line of the list: the number where its test is met, else what the lines after it say.
+fn refused_if(met: bool, number: u64, otherwise: u64) -> u64
+    ensures { λ r. ⌜ r ≡ cond met number otherwise ⌝ }
+{
+    if met { number } else { otherwise }
+}
+
 pub fn road_refusal(road: Road) -> u64
     ensures { λ r. ⌜ r ≡ firstRefusal (roadRefusals road) ⌝ }
 {
-    if outside(30_000, 90_000, road.speed) {
-        return SPEED_OUT_OF_RANGE;
-    }
-    if outside(100, 200, road.lane_width) {
-        return WIDTH_OUT_OF_RANGE;
-    }
-    if 400 < road.right_clearance {
-        return CLEARANCE_TOO_LARGE;
-    }
-    if 400 < road.left_clearance {
-        return CLEARANCE_TOO_LARGE;
-    }
     let kind = road.kind;
     let median = road.median;
-    if median_unfit(kind, median) {
-        return MEDIAN_UNFIT;
-    }
-    if most_access(kind) < road.access {
-        return ACCESS_TOO_LARGE;
-    }
-    0
+    let speed = outside(30_000, 90_000, road.speed);
+    let width = outside(100, 200, road.lane_width);
+    let clearance = clearance_too_large(road.right_clearance, road.left_clearance);
+    let unfit = median_unfit(kind, median);
+    let access = most_access(kind) < road.access;
+    refused_if(
+        speed,
+        SPEED_OUT_OF_RANGE,
+        refused_if(
+            width,
+            WIDTH_OUT_OF_RANGE,
+            refused_if(
+                clearance,
+                CLEARANCE_TOO_LARGE,
+                refused_if(unfit, MEDIAN_UNFIT, refused_if(access, ACCESS_TOO_LARGE, 0)),
+            ),
+        ),
+    )
 }
 
 fn load_refusal(case: Case) -> u64
@@ -93,19 +105,23 @@ fn load_refusal(case: Case) -> u64
 {
     let road = case.road;
     let kind = road.kind;
-    if outside(kind::fewest_lanes(kind), kind::most_lanes(kind), case.lanes) {
-        return LANES_NOT_OF_THE_KIND;
-    }
-    if GREATEST_DEMAND < case.demand {
-        return DEMAND_TOO_LARGE;
-    }
-    if outside(250, 1_000, case.peak_hour_factor) {
-        return FACTOR_OUT_OF_RANGE;
-    }
-    if 1_000 < case.heavy_share {
-        return SHARE_TOO_LARGE;
-    }
-    0
+    let lanes = outside(kind::fewest_lanes(kind), kind::most_lanes(kind), case.lanes);
+    let demand = GREATEST_DEMAND < case.demand;
+    let factor = outside(250, 1_000, case.peak_hour_factor);
+    let share = 1_000 < case.heavy_share;
+    refused_if(
+        lanes,
+        LANES_NOT_OF_THE_KIND,
+        refused_if(
+            demand,
+            DEMAND_TOO_LARGE,
+            refused_if(
+                factor,
+                FACTOR_OUT_OF_RANGE,
+                refused_if(share, SHARE_TOO_LARGE, 0),
+            ),
+        ),
+    )
 }
 
 pub fn field_refusal(case: Case) -> u64

@@ -4,6 +4,8 @@
 --   le-greatest       what passes is at most it
 --   greatest-eq       it is s where s passes and nothing above s does
 --   greatest-iff      of a test that falls: a number passes exactly when it is at most the greatest
+--   endsAt-passes     a test that ends at s passes there
+--   endsAt-most       of a test that falls: where it ends at s, what passes is at most s
 --   greatest-last     of a test that falls: it is s where the test ends at s
 --   least-le          it is at most the bound
 --   least-passes      it passes, where it is below the bound
@@ -86,11 +88,21 @@ greatest-eq p n s h t above = ⊎-elim zero-case passes-case (greatest-cases p n
 pub greatest-iff : (p : ℕ → Bool) (n x : ℕ) → T (p 0) → Falls p → x ≤ n → T (p x) ↔ (x ≤ greatest p n)
 greatest-iff p n x z falls h = (le-greatest p n x h, λ l. falls x (greatest p n) l (greatest-passes p n z))
 
-pub greatest-last : (p : ℕ → Bool) (n s : ℕ) → Falls p → s ≤ n → T (endsAt p s) → greatest p n ≡ s
+pub endsAt-passes : (p : ℕ → Bool) (s : ℕ) → T (endsAt p s) → T (p s)
 unfolding endsAt
+endsAt-passes p s t = and-left (p s) (not (p (suc s))) t
+
+pub endsAt-most : (p : ℕ → Bool) (s x : ℕ) → Falls p → T (endsAt p s) → T (p x) → x ≤ s
+unfolding endsAt
+endsAt-most p s x falls t e = go (decLe x s)
+  where
+    go : Dec (x ≤ s) → x ≤ s
+    go (yes l) = l
+    go (no l) = absurd (T-not (p (suc s)) (and-right (p s) (not (p (suc s))) t) (falls (suc s) x (omega arith) e))
+
+pub greatest-last : (p : ℕ → Bool) (n s : ℕ) → Falls p → s ≤ n → T (endsAt p s) → greatest p n ≡ s
 greatest-last p n s falls h t =
-    greatest-eq p n s h (and-left (p s) (not (p (suc s))) t)
-    (λ k l u e. T-not (p (suc s)) (and-right (p s) (not (p (suc s))) t) (falls (suc s) k l e))
+    greatest-eq p n s h (endsAt-passes p s t) (λ k l u e. omega (arith, endsAt-most p s k falls t e))
 
 -- what leastFrom p a n says of the n numbers from a on
 record First (p : ℕ → Bool) (a n r : ℕ) : Type 0 where

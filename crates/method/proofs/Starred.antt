@@ -1,0 +1,50 @@
+-- The starred figures (specs/Starred), shown.
+--   starred-shown   each figure of the list is what document 01 prints
+--   Shown-append    a longer list: what the layers above add
+-- Assumes nothing.
+use mathlib.Core.Path.{_≡_, refl, ap, _∙_}
+use mathlib.Core.List.{List, [], _∷_, _++_}
+use Prim.Native.Nat.{ℕ}
+use native.Mathlib.Omega.{arith}
+use Rattle.numbers.specs.Division.{divUp}
+use Rattle.numbers.specs.Search.{startsAt, endsAt}
+use Rattle.powers.specs.Power.{reachesPower, power}
+use Rattle.powers.proofs.PowerLaws.{power-eq}
+use Rattle.method.specs.Adjustments.{laneWidthAdjustment, perMissingFoot, rightClearanceAdjustment, totalClearance, twoLaneRow, totalClearanceAdjustment, accessAdjustment}
+use Rattle.method.specs.RampTerm.{rampAtMost, rampTerm}
+use Rattle.method.specs.FreeFlowSpeed.{estimatedBy, uncappedBy, freeFlowSpeed}
+use Rattle.method.specs.Refusals.{roadRefusals, loadRefusals, fieldRefusals, speedRefusals, refusals}
+use Rattle.method.specs.Curves.{capacity, breakpoint, curveAt, curveOf}
+use Rattle.method.specs.Flow.{flow, flowRate}
+use Rattle.method.specs.Speed.{fallShareBy, speed, shownSpeed}
+use Rattle.method.specs.Service.{density, shownDensity, densityLetter, letterAt, performance}
+use Rattle.method.specs.Assess.{measures}
+use Rattle.method.specs.Starred.{Figure, Shown, starredFigures}
+use Rattle.method.proofs.RampLaws.{rampTerm-eq}
+
+pub Shown-append : (fs gs : List Figure) → Shown fs → Shown gs → Shown (fs ++ gs)
+Shown-append [] gs s t = t
+Shown-append (f ∷ fs) gs s t = (s .0, Shown-append fs gs (s .1) t)
+
+ramp-6 : rampTerm 6 ≡ 3220
+unfolding endsAt rampAtMost
+ramp-6 = rampTerm-eq 6 3220 (omega arith) tt
+
+ramp-24 : rampTerm 24 ≡ 10317
+unfolding endsAt rampAtMost
+ramp-24 = rampTerm-eq 24 10317 (omega arith) tt
+
+ramp-0 : rampTerm 0 ≡ 0
+unfolding endsAt rampAtMost
+ramp-0 = rampTerm-eq 0 0 (omega arith) tt
+
+power-500 : power 500 ≡ 403321
+unfolding startsAt reachesPower
+power-500 = power-eq 500 403321 (omega arith) tt
+
+pub starred-shown : Shown starredFigures
+unfolding divUp laneWidthAdjustment perMissingFoot rightClearanceAdjustment totalClearance twoLaneRow totalClearanceAdjustment accessAdjustment estimatedBy uncappedBy freeFlowSpeed roadRefusals loadRefusals fieldRefusals speedRefusals refusals capacity breakpoint curveAt curveOf flow flowRate fallShareBy speed shownSpeed density shownDensity densityLetter letterAt performance measures starredFigures
+starred-shown = (
+  simp (ramp-6, ramp-24, ramp-0),
+  (refl, (refl, (refl, (refl, (refl, (refl, (simp power-500, (simp power-500, (refl, (refl, tt)))))))))),
+)

@@ -1,0 +1,40 @@
+-- `method::assess::assess` meets its contract: a check that finds a curve has accepted the case; one that refuses has its number.
+-- Assumes nothing.
+use mathlib.Core.Path.{sym, ap, _∙_}
+use Rattle.method.proofs.CurveLaws.{checked-accepted}
+use Rattle.method.specs.declared.assess.Assessment.the-variants as Assessment
+use Rattle.method.proofs.AssessLaws.{assessment-accepted, assessment-refused}
+use borrow.Author.Needs.{needs}
+use Rattle.method.proofs.assess.assess.Statement.{statement}
+use Rattle.method.proofs.assess.assess.Tie as tie
+
+check-requires : tie.Need-check-requires
+check-requires c κs = search needs
+
+enum-known-checked : tie.Need-enum-known-checked
+enum-known-checked c = search needs
+
+measured-requires : tie.Need-measured-requires
+measured-requires c κs = checked-accepted (c .before .before .before .before .args .case) _ (sym (c .before .before .before .check .ensures) ∙ c .before .checked .given .1)
+
+enum-known-checked-2 : tie.Need-enum-known-checked-2
+enum-known-checked-2 c = search needs
+
+returns : tie.Need-returns
+returns c =
+    ap Assessment.Measured (c .measured .ensures)
+    ∙ sym (assessment-accepted (c .before .before .before .before .before .args .case) (checked-accepted (c .before .before .before .before .before .args .case) _ (sym (c .before .before .before .before .check .ensures) ∙ c .before .before .checked .given .1) .0))
+
+returns-2 : tie.Need-returns-2
+returns-2 c = sym (assessment-refused (c .before .before .before .before .args .case) _ (sym (c .before .before .before .check .ensures) ∙ c .before .checked2 .given .1))
+
+pub assess-spec : {M : Type 1} → statement M
+assess-spec =
+    tie.close
+    (tie.spec
+    check-requires
+    enum-known-checked
+    measured-requires
+    enum-known-checked-2
+    returns
+    returns-2)
