@@ -1,0 +1,209 @@
+// Sections: prints a line for each of some cases, with letter, F, c, v, speed and density parted by tabs, or X and the refusal's number.
+// The first lines are boundary sections of document 01; the others stand at the ends of the fields and past them.
+use libc::STDOUT_FILENO;
+use method::assess;
+use method::assess::{Assessment, Measures};
+use method::case::{Case, Median, Road, Terrain, Way};
+use method::kind::Kind;
+use method::service::Letter;
+
+const LARGEST: u64 = 18_446_744_073_709_551_615;
+
+fn print_letter(letter: Letter) {
+    match letter {
+        Letter::A => io::write_all(STDOUT_FILENO, b"A"),
+        Letter::B => io::write_all(STDOUT_FILENO, b"B"),
+        Letter::C => io::write_all(STDOUT_FILENO, b"C"),
+        Letter::D => io::write_all(STDOUT_FILENO, b"D"),
+        Letter::E => io::write_all(STDOUT_FILENO, b"E"),
+        Letter::F => io::write_all(STDOUT_FILENO, b"F"),
+    };
+}
+
+fn print_field(n: u64) {
+    io::write_all(STDOUT_FILENO, b"\t");
+    io::print_decimal(STDOUT_FILENO, n);
+}
+
+fn print_measures(m: Measures) {
+    let curve = m.curve;
+    let performance = m.performance;
+    let letter = performance.letter;
+    print_letter(letter);
+    print_field(curve.free_flow_speed);
+    print_field(curve.capacity);
+    print_field(m.flow_rate);
+    print_field(performance.speed);
+    print_field(performance.density);
+}
+
+fn show(case: Case) {
+    let assessment = assess::assess(case);
+    match assessment {
+        Assessment::Measured(m) => print_measures(m),
+        Assessment::Refused(number) => {
+            io::write_all(STDOUT_FILENO, b"X");
+            print_field(number);
+        }
+    }
+    io::write_all(STDOUT_FILENO, b"\n");
+}
+
+// A road of given speed with nothing else to tell.
+fn given(kind: Kind, speed: u64) -> Road {
+    Road {
+        kind,
+        way: Way::Given,
+        speed,
+        lane_width: 120,
+        right_clearance: 60,
+        left_clearance: 60,
+        median: Median::Divided,
+        access: 0,
+    }
+}
+
+fn two_lanes(road: Road, demand: u64) -> Case {
+    Case {
+        road,
+        lanes: 2,
+        demand,
+        peak_hour_factor: 1_000,
+        heavy_share: 0,
+        terrain: Terrain::Level,
+    }
+}
+
+// The section of the manual's first example: F E 75400 110 20 0 D 24 2 2000 920 50 R.
+fn example_road() -> Road {
+    Road {
+        kind: Kind::Freeway,
+        way: Way::Estimated,
+        speed: 75_400,
+        lane_width: 110,
+        right_clearance: 20,
+        left_clearance: 0,
+        median: Median::Divided,
+        access: 24,
+    }
+}
+
+fn example() -> Case {
+    Case {
+        road: example_road(),
+        lanes: 2,
+        demand: 2_000,
+        peak_hour_factor: 920,
+        heavy_share: 50,
+        terrain: Terrain::Rolling,
+    }
+}
+
+fn multilane_road(median: Median) -> Road {
+    Road {
+        kind: Kind::Multilane,
+        way: Way::Estimated,
+        speed: 60_000,
+        lane_width: 110,
+        right_clearance: 40,
+        left_clearance: 20,
+        median,
+        access: 10,
+    }
+}
+
+// The boundary sections that this layer can answer, the printed line's section first.
+fn boundary_sections() {
+    show(example());
+    show(two_lanes(given(Kind::Freeway, 75_000), 1_650));
+    show(two_lanes(given(Kind::Freeway, 75_000), 1_652));
+    show(two_lanes(given(Kind::Freeway, 55_000), 4_500));
+    show(two_lanes(given(Kind::Freeway, 55_000), 4_501));
+    show(two_lanes(given(Kind::Freeway, 54_999), 4_500));
+    show(two_lanes(given(Kind::Multilane, 60_000), 2_800));
+    show(two_lanes(given(Kind::Multilane, 60_000), 3_600));
+    show(two_lanes(multilane_road(Median::Divided), 0));
+    show(two_lanes(multilane_road(Median::Undivided), 0));
+}
+
+// A letter that the shown speed would miss, of either kind; speeds above the upper end; the largest flow rate.
+fn ends() {
+    show(two_lanes(given(Kind::Freeway, 55_052), 3_830));
+    show(two_lanes(given(Kind::Multilane, 45_000), 3_800));
+    show(two_lanes(given(Kind::Freeway, 90_000), 0));
+    show(two_lanes(given(Kind::Multilane, 90_000), 0));
+    show(Case {
+        road: multilane_road(Median::TwoWayLeftTurnLane),
+        lanes: 2,
+        demand: 99_999,
+        peak_hour_factor: 250,
+        heavy_share: 1_000,
+        terrain: Terrain::Rolling,
+    });
+}
+
+// A case that breaks 1 to 9 at once, mended one condition at a time: each line has the next number.
+fn refusals() {
+    let mut road = Road {
+        kind: Kind::Freeway,
+        way: Way::Estimated,
+        speed: LARGEST,
+        lane_width: LARGEST,
+        right_clearance: LARGEST,
+        left_clearance: LARGEST,
+        median: Median::Undivided,
+        access: LARGEST,
+    };
+    let mut case = Case {
+        road,
+        lanes: LARGEST,
+        demand: LARGEST,
+        peak_hour_factor: LARGEST,
+        heavy_share: LARGEST,
+        terrain: Terrain::Level,
+    };
+    show(case);
+    road.speed = 60_000;
+    case.road = road;
+    show(case);
+    road.lane_width = 120;
+    case.road = road;
+    show(case);
+    road.right_clearance = 0;
+    case.road = road;
+    show(case);
+    road.left_clearance = 0;
+    case.road = road;
+    show(case);
+    road = Road {
+        kind: Kind::Freeway,
+        way: Way::Estimated,
+        speed: 60_000,
+        lane_width: 120,
+        right_clearance: 0,
+        left_clearance: 0,
+        median: Median::Divided,
+        access: LARGEST,
+    };
+    case.road = road;
+    show(case);
+    road.access = 6;
+    case.road = road;
+    show(case);
+    case.lanes = 2;
+    show(case);
+    case.demand = 2_000;
+    show(case);
+    case.peak_hour_factor = 1_000;
+    show(case);
+    case.heavy_share = 0;
+    show(case);
+    case.lanes = 4;
+    show(case);
+}
+
+fn main() {
+    boundary_sections();
+    ends();
+    refusals();
+}
