@@ -4,6 +4,7 @@
 --   uncappedSpeed-mono   F before its upper end never falls with more lanes
 --   freeFlowSpeed-mono   F never falls with more lanes
 --   freeFlowSpeed-le     F is at most its upper end
+--   speedEnds            the lower end of F is at most the upper end
 --   le-freeFlowSpeed     F is at least its lower end where it is so before the upper end
 -- Assumes nothing.
 use Prim.Native.Nat.{ℕ, _+_, _-_, _≤_, min}
@@ -57,10 +58,10 @@ pub freeFlowSpeed-le : (road : Road) (n : ℕ) → freeFlowSpeed road n ≤ high
 unfolding freeFlowSpeed
 freeFlowSpeed-le road n = omega arith
 
-ends : (kind : Kind) → lowestSpeed kind ≤ highestSpeed kind
-ends Kind.Freeway = omega arith
-ends Kind.Multilane = omega arith
+pub speedEnds : (kind : Kind) → lowestSpeed kind ≤ highestSpeed kind
+speedEnds Kind.Freeway = omega arith
+speedEnds Kind.Multilane = omega arith
 
 pub le-freeFlowSpeed : (road : Road) (n : ℕ) → lowestSpeed (road .kind) ≤ uncappedSpeed road n → lowestSpeed (road .kind) ≤ freeFlowSpeed road n
 unfolding freeFlowSpeed
-le-freeFlowSpeed road n h = omega (arith, ends (road .kind))
+le-freeFlowSpeed road n h = omega (arith, speedEnds (road .kind))

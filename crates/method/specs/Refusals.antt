@@ -5,7 +5,7 @@
 --   roadRefusals road   1 to 5, of the road's fields
 --   loadRefusals case   6 to 9, of the other fields
 --   fieldRefusals case  1 to 9
---   speedRefusals case  10
+--   speedRefusals road n  10, of a road with n lanes
 --   refusals case       1 to 10
 --   refusal case        the number of the first of 1 to 10 that refuses the case, 0 where none does
 --   Accepted case       none of 1 to 10 refuses the case

@@ -3,8 +3,9 @@
 //   right_clearance_adjustment    kind F
 //   total_clearance, total_clearance_adjustment, median_adjustment, access_adjustment   kind M
 use crate::case::Median;
+use numbers::lesser;
 ghost use mathlib.Core.Path.{_≡_};
-ghost use Prim.Native.Nat.{_≤_, min};
+ghost use Prim.Native.Nat.{_≤_};
 ghost use Rattle.method.specs.Adjustments.{laneWidthAdjustment, perMissingFoot, rightClearanceAdjustment, countedLeftClearance, totalClearance, totalClearanceAdjustment, medianAdjustment, accessAdjustment};
 
 // What total clearance takes off, for 12, 10, 8, 6, 4, 2 and 0 feet.
@@ -12,7 +13,7 @@ const TWO_LANES: [u64; 7] = [0, 400, 900, 1_300, 1_800, 3_600, 5_400];
 
 const THREE_LANES: [u64; 7] = [0, 400, 900, 1_300, 1_700, 2_800, 3_900];
 
-pub fn lane_width_adjustment(width: u64) -> u64
+pub(crate) fn lane_width_adjustment(width: u64) -> u64
     ensures { λ r. ⌜ r ≡ laneWidthAdjustment width ⌝ }
 {
     match width {
@@ -33,38 +34,29 @@ fn per_missing_foot(lanes: u64) -> u64
     }
 }
 
-pub fn right_clearance_adjustment(right: u64, lanes: u64) -> u64
+pub(crate) fn right_clearance_adjustment(right: u64, lanes: u64) -> u64
     ensures { λ r. ⌜ r ≡ rightClearanceAdjustment right lanes ⌝ }
 {
-    if 60 <= right {
-        return 0;
-    }
-    (6 - right / 10) * per_missing_foot(lanes)
-}
-
-fn at_most_60(clearance: u64) -> u64
-    ensures { λ r. ⌜ r ≡ min 60 clearance ⌝ }
-{
-    if clearance < 60 { clearance } else { 60 }
+    (6 - lesser(6, right / 10)) * per_missing_foot(lanes)
 }
 
 fn counted_left_clearance(median: Median, left: u64) -> u64
     ensures { λ r. ⌜ r ≡ countedLeftClearance median left ⌝ }
 {
     match median {
-        Median::Divided => at_most_60(left),
+        Median::Divided => lesser(60, left),
         Median::Undivided => 60,
         Median::TwoWayLeftTurnLane => 60,
     }
 }
 
-pub fn total_clearance(median: Median, right: u64, left: u64) -> u64
+pub(crate) fn total_clearance(median: Median, right: u64, left: u64) -> u64
     ensures { λ r. ⌜ r ≡ totalClearance median right left ⌝ }
 {
-    at_most_60(right) + counted_left_clearance(median, left)
+    lesser(60, right) + counted_left_clearance(median, left)
 }
 
-pub fn total_clearance_adjustment(lanes: u64, total: u64) -> u64
+pub(crate) fn total_clearance_adjustment(lanes: u64, total: u64) -> u64
     requires { ⌜ total ≤ 120 ⌝ }
     ensures { λ r. ⌜ r ≡ totalClearanceAdjustment lanes total ⌝ }
 {
@@ -75,7 +67,7 @@ pub fn total_clearance_adjustment(lanes: u64, total: u64) -> u64
     THREE_LANES[place]
 }
 
-pub fn median_adjustment(median: Median) -> u64
+pub(crate) fn median_adjustment(median: Median) -> u64
     ensures { λ r. ⌜ r ≡ medianAdjustment median ⌝ }
 {
     match median {
@@ -85,11 +77,9 @@ pub fn median_adjustment(median: Median) -> u64
     }
 }
 
-pub fn access_adjustment(points: u64) -> u64
+pub(crate) fn access_adjustment(points: u64) -> u64
+    requires { ⌜ points ≤ 200 ⌝ }
     ensures { λ r. ⌜ r ≡ accessAdjustment points ⌝ }
 {
-    if 40 <= points {
-        return 10_000;
-    }
-    250 * points
+    lesser(10_000, 250 * points)
 }

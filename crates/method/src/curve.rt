@@ -10,9 +10,10 @@ use crate::kind::Freeway;
 use crate::kind::Kind;
 use crate::kind::Multilane;
 use crate::refusal;
+use numbers::lesser;
 ghost use mathlib.Core.Path.{_≡_};
 ghost use Prim.Native.Nat.{_≤_};
-ghost use Rattle.method.specs.Kinds.{highestSpeed};
+ghost use Rattle.method.specs.Kinds.{lowestSpeed, highestSpeed};
 ghost use Rattle.method.specs.Refusals.{firstRefusal, roadRefusals};
 ghost use Rattle.method.specs.Curves.{capacity, breakpoint, curveAt, checkedCurve, checked};
 
@@ -29,20 +30,18 @@ pub enum Checked {
 }
 
 fn capacity(kind: Kind, speed: u64) -> u64
-    requires { ⌜ speed ≤ highestSpeed kind ⌝ }
+    requires { ⌜ (lowestSpeed kind ≤ speed) × (speed ≤ highestSpeed kind) ⌝ }
     ensures { λ r. ⌜ r ≡ capacity kind speed ⌝ }
 {
     match kind {
-        Kind::Freeway => if speed < 70_000 {
-            170_000 + speed
-        } else {
-            Freeway::HIGHEST_CAPACITY
-        },
-        Kind::Multilane => if speed < 65_000 {
-            100_000 + 2 * speed
-        } else {
-            Multilane::HIGHEST_CAPACITY
-        },
+        Kind::Freeway => lesser(
+            Freeway::HIGHEST_CAPACITY,
+            Freeway::LOWEST_CAPACITY + (speed - Freeway::LOWEST_SPEED),
+        ),
+        Kind::Multilane => lesser(
+            Multilane::HIGHEST_CAPACITY,
+            Multilane::LOWEST_CAPACITY + 2 * (speed - Multilane::LOWEST_SPEED),
+        ),
     }
 }
 
@@ -57,7 +56,7 @@ fn breakpoint(kind: Kind, speed: u64) -> u64
 }
 
 pub fn curve_at(kind: Kind, speed: u64) -> Curve
-    requires { ⌜ speed ≤ highestSpeed kind ⌝ }
+    requires { ⌜ (lowestSpeed kind ≤ speed) × (speed ≤ highestSpeed kind) ⌝ }
     ensures { λ r. ⌜ r ≡ curveAt kind speed ⌝ }
 {
     Curve {
@@ -77,7 +76,7 @@ pub fn checked_curve(road: Road, lanes: u64) -> Checked
     if speed < kind::lowest_speed(kind) {
         return Checked::Refused(refusal::SPEED_BELOW_LOWER_END);
     }
-    Checked::Accepted(curve_at(kind, free_flow::capped(kind, speed)))
+    Checked::Accepted(curve_at(kind, lesser(kind::highest_speed(kind), speed)))
 }
 
 pub fn check(case: Case) -> Checked

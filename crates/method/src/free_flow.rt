@@ -1,16 +1,13 @@
 // Free-flow speed, in thousandths of mi/h.
-//   uncapped_speed    F before its upper end, given or estimated
-//   capped            a speed, or the kind's upper end where it is above that
+//   uncapped_speed   F before its upper end, given or estimated
 use crate::adjustment;
 use crate::case::Road;
 use crate::case::Way;
-use crate::kind;
 use crate::kind::Kind;
 use crate::ramp;
 ghost use mathlib.Core.Path.{_≡_};
-ghost use Prim.Native.Nat.{_≤_, min};
+ghost use Prim.Native.Nat.{_≤_};
 ghost use Rattle.method.specs.declared.kind.Kind.the-variants as Kind;
-ghost use Rattle.method.specs.Kinds.{highestSpeed};
 ghost use Rattle.method.specs.FreeFlowSpeed.{estimatedBy, uncappedSpeed};
 ghost use Rattle.method.specs.Refusals.{firstRefusal, roadRefusals};
 
@@ -25,7 +22,7 @@ fn freeway_estimate(road: Road, lanes: u64) -> u64
 }
 
 fn multilane_estimate(road: Road, lanes: u64) -> u64
-    requires { ⌜ 30000 ≤ road .speed ⌝ }
+    requires { ⌜ (30000 ≤ road .speed) × (road .access ≤ 200) ⌝ }
     ensures { λ r. ⌜ r ≡ estimatedBy Kind.Multilane road lanes ⌝ }
 {
     let median = road.median;
@@ -37,7 +34,7 @@ fn multilane_estimate(road: Road, lanes: u64) -> u64
         - adjustment::access_adjustment(road.access)
 }
 
-pub fn uncapped_speed(road: Road, lanes: u64) -> u64
+pub(crate) fn uncapped_speed(road: Road, lanes: u64) -> u64
     requires { ⌜ firstRefusal (roadRefusals road) ≡ 0 ⌝ }
     ensures { λ r. ⌜ r ≡ uncappedSpeed road lanes ⌝ }
 {
@@ -50,12 +47,4 @@ pub fn uncapped_speed(road: Road, lanes: u64) -> u64
             Kind::Multilane => multilane_estimate(road, lanes),
         },
     }
-}
-
-// At most the kind's upper end.
-pub fn capped(kind: Kind, speed: u64) -> u64
-    ensures { λ r. ⌜ r ≡ min (highestSpeed kind) speed ⌝ }
-{
-    let end = kind::highest_speed(kind);
-    if speed < end { speed } else { end }
 }

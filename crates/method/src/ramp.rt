@@ -5,7 +5,7 @@ ghost use mathlib.Core.Path.{_≡_};
 ghost use Prim.Native.Nat.{_≤_};
 ghost use Rattle.method.specs.RampTerm.{rampTerm};
 
-pub fn ramp_term(ramps: u64) -> u64
+pub(crate) fn ramp_term(ramps: u64) -> u64
     requires { ⌜ ramps ≤ 48 ⌝ }
     ensures { λ r. ⌜ r ≡ rampTerm ramps ⌝ }
 {

@@ -2,8 +2,13 @@
 // The first lines are boundary sections of document 01; the others stand at the ends of the fields and past them.
 use libc::STDOUT_FILENO;
 use method::assess;
-use method::assess::{Assessment, Measures};
-use method::case::{Case, Median, Road, Terrain, Way};
+use method::assess::Assessment;
+use method::assess::Measures;
+use method::case::Case;
+use method::case::Median;
+use method::case::Road;
+use method::case::Terrain;
+use method::case::Way;
 use method::kind::Kind;
 use method::service::Letter;
 
@@ -17,7 +22,8 @@ fn print_letter(letter: Letter) {
         Letter::D => io::write_all(STDOUT_FILENO, b"D"),
         Letter::E => io::write_all(STDOUT_FILENO, b"E"),
         Letter::F => io::write_all(STDOUT_FILENO, b"F"),
-    };
+    }
+    ;
 }
 
 fn print_field(n: u64) {

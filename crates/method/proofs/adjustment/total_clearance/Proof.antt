@@ -1,14 +1,14 @@
 -- `method::adjustment::total_clearance` meets its contract: each side is at most 60.
 -- Assumes nothing.
-use Rattle.method.specs.Adjustments.{totalClearance, countedLeftClearance}
+use Rattle.method.specs.Adjustments.{totalClearance}
 use Rattle.method.proofs.AdjustmentLaws.{countedLeftClearance-le}
 use borrow.Author.Needs.{needs}
 use native.Mathlib.Omega.{arith}
 use Rattle.method.proofs.adjustment.total_clearance.Statement.{statement}
 use Rattle.method.proofs.adjustment.total_clearance.Tie as tie
 
-at-most-60-requires : tie.Need-at-most-60-requires
-at-most-60-requires c κs = search needs
+lesser-requires : tie.Need-lesser-requires
+lesser-requires c κs = search needs
 
 counted-left-clearance-requires : tie.Need-counted-left-clearance-requires
 counted-left-clearance-requires c κs = search needs
@@ -18,8 +18,8 @@ add-result c = omega (arith, countedLeftClearance-le (c .before .before .args .m
 
 returns : tie.Need-returns
 unfolding totalClearance
-returns c = omega arith
+returns c = cc
 
 pub total-clearance-spec : {M : Type 1} → statement M
 total-clearance-spec =
-    tie.close (tie.spec at-most-60-requires counted-left-clearance-requires add-result returns)
+    tie.close (tie.spec lesser-requires counted-left-clearance-requires add-result returns)

@@ -1,6 +1,8 @@
 -- `method::curve::check` meets its contract: 1 to 9 first, and where none of them refuses the curve or 10.
 -- Assumes nothing.
-use mathlib.Core.Path.{sym, ap, _∙_}
+use mathlib.Core.Path.{_≡_, sym, ap, _∙_}
+use Prim.Native.Nat.{_<_}
+use Rattle.method.specs.Refusals.{firstRefusal, fieldRefusals}
 use Rattle.method.specs.Curves.{curveOf, unlessRefused}
 use Rattle.method.proofs.RefusalLaws.{fields-parts, refusals-fields, refusals-some}
 use Rattle.method.proofs.CurveLaws.{unlessRefused-some}
@@ -17,13 +19,17 @@ checked-curve-requires c κs = fields-parts (c .before .before .before .args .ca
 
 returns : tie.Need-returns
 returns c =
-    c .checked-curve .ensures
-    ∙ ap (λ number. unlessRefused number (curveOf (c .before .before .before .before .args .case .road) (c .before .before .before .before .args .case .lanes))) (sym (refusals-fields (c .before .before .before .before .args .case) (sym (c .before .before .before .field-refusal .ensures) ∙ c .before .before .if1 .taken)))
+    let case = c .before .before .before .before .args .case in
+    c .checked-curve .ensures ∙ ap (λ number. unlessRefused number (curveOf (case .road) (case .lanes))) (sym (refusals-fields case (sym (c .before .before .before .field-refusal .ensures) ∙ c .before .before .if1 .taken)))
 
 returns-2 : tie.Need-returns-2
 returns-2 c =
-    sym (unlessRefused-some (c .before .field-refusal .result) (curveOf (c .before .before .args .case .road) (c .before .before .args .case .lanes)) (omega (arith, c .before .field-refusal .ensures, c .if1 .left)))
-    ∙ ap (λ number. unlessRefused number (curveOf (c .before .before .args .case .road) (c .before .before .args .case .lanes))) (c .before .field-refusal .ensures ∙ sym (refusals-some (c .before .before .args .case) (omega (arith, c .before .field-refusal .ensures, c .if1 .left))))
+    let case = c .before .before .args .case in
+    let number = c .before .field-refusal .result in
+    let curve = curveOf (case .road) (case .lanes) in
+    let above : 0 < number = omega (arith, c .if1 .left) in
+    sym (unlessRefused-some number curve above)
+    ∙ ap (λ n. unlessRefused n curve) (c .before .field-refusal .ensures ∙ sym (refusals-some case (omega (arith, c .before .field-refusal .ensures))))
 
 pub check-spec : {M : Type 1} → statement M
 check-spec = tie.close (tie.spec field-refusal-requires checked-curve-requires returns returns-2)

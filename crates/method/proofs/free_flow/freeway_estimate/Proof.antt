@@ -11,19 +11,25 @@ lane-width-adjustment-requires : tie.Need-lane-width-adjustment-requires
 lane-width-adjustment-requires c κs = search needs
 
 sub-result : tie.Need-sub-result
-sub-result c = omega (arith, freewayTerms-le (c .before .before .args .road .«lane_width») (c .before .before .args .road .«right_clearance») (c .before .before .args .lanes) (c .before .before .args .road .access))
+sub-result c =
+    let args = c .before .before .args in
+    omega (arith, freewayTerms-le (args .road .«lane_width») (args .road .«right_clearance») (args .lanes) (args .road .access))
 
 right-clearance-adjustment-requires : tie.Need-right-clearance-adjustment-requires
 right-clearance-adjustment-requires c κs = search needs
 
 sub-result-2 : tie.Need-sub-result-2
-sub-result-2 c = omega (arith, freewayTerms-le (c .before .before .before .args .road .«lane_width») (c .before .before .before .args .road .«right_clearance») (c .before .before .before .args .lanes) (c .before .before .before .args .road .access))
+sub-result-2 c =
+    let args = c .before .before .before .args in
+    omega (arith, freewayTerms-le (args .road .«lane_width») (args .road .«right_clearance») (args .lanes) (args .road .access))
 
 ramp-term-requires : tie.Need-ramp-term-requires
 ramp-term-requires c κs = search needs
 
 sub-result-3 : tie.Need-sub-result-3
-sub-result-3 c = omega (arith, freewayTerms-le (c .before .before .before .before .args .road .«lane_width») (c .before .before .before .before .args .road .«right_clearance») (c .before .before .before .before .args .lanes) (c .before .before .before .before .args .road .access))
+sub-result-3 c =
+    let args = c .before .before .before .before .args in
+    omega (arith, freewayTerms-le (args .road .«lane_width») (args .road .«right_clearance») (args .lanes) (args .road .access))
 
 returns : tie.Need-returns
 unfolding estimatedBy

@@ -15,25 +15,35 @@ lane-width-adjustment-requires : tie.Need-lane-width-adjustment-requires
 lane-width-adjustment-requires c κs = search needs
 
 sub-result : tie.Need-sub-result
-sub-result c = omega (arith, multilaneTerms-le (c .before .before .before .args .road) (c .before .before .before .args .lanes) (c .before .before .total-clearance .result))
+sub-result c =
+    let args = c .before .before .before .args in
+    omega (arith, multilaneTerms-le (args .road) (args .lanes) (c .before .before .total-clearance .result))
 
 total-clearance-adjustment-requires : tie.Need-total-clearance-adjustment-requires
-total-clearance-adjustment-requires c κs = omega (arith, totalClearance-le (c .before .before .before .args .road .median) (c .before .before .before .args .road .«right_clearance») (c .before .before .before .args .road .«left_clearance»))
+total-clearance-adjustment-requires c κs =
+    let road = c .before .before .before .args .road in
+    omega (arith, totalClearance-le (road .median) (road .«right_clearance») (road .«left_clearance»))
 
 sub-result-2 : tie.Need-sub-result-2
-sub-result-2 c = omega (arith, multilaneTerms-le (c .before .before .before .before .args .road) (c .before .before .before .before .args .lanes) (c .before .before .before .total-clearance .result))
+sub-result-2 c =
+    let args = c .before .before .before .before .args in
+    omega (arith, multilaneTerms-le (args .road) (args .lanes) (c .before .before .before .total-clearance .result))
 
 median-adjustment-requires : tie.Need-median-adjustment-requires
 median-adjustment-requires c κs = search needs
 
 sub-result-3 : tie.Need-sub-result-3
-sub-result-3 c = omega (arith, multilaneTerms-le (c .before .before .before .before .before .args .road) (c .before .before .before .before .before .args .lanes) (c .before .before .before .before .total-clearance .result))
+sub-result-3 c =
+    let args = c .before .before .before .before .before .args in
+    omega (arith, multilaneTerms-le (args .road) (args .lanes) (c .before .before .before .before .total-clearance .result))
 
 access-adjustment-requires : tie.Need-access-adjustment-requires
 access-adjustment-requires c κs = search needs
 
 sub-result-4 : tie.Need-sub-result-4
-sub-result-4 c = omega (arith, multilaneTerms-le (c .before .before .before .before .before .before .args .road) (c .before .before .before .before .before .before .args .lanes) (c .before .before .before .before .before .total-clearance .result))
+sub-result-4 c =
+    let args = c .before .before .before .before .before .before .args in
+    omega (arith, multilaneTerms-le (args .road) (args .lanes) (c .before .before .before .before .before .total-clearance .result))
 
 returns : tie.Need-returns
 unfolding estimatedBy

@@ -16,13 +16,17 @@ enum-told-3 : tie.Need-enum-told-3
 enum-told-3 c = search needs
 
 freeway-estimate-requires : tie.Need-freeway-estimate-requires
-freeway-estimate-requires c κs = (roadFits (c .before .before .before .before .args .road) (c .before .before .before .before .pre) .speed-low, rw (c .enum-told3 .given .1) at (roadFits (c .before .before .before .before .args .road) (c .before .before .before .before .pre) .access-high))
+freeway-estimate-requires c κs =
+    let fits = roadFits (c .before .before .before .before .args .road) (c .before .before .before .before .pre) in
+    (fits .speed-low, rw (c .enum-told3 .given .1) at (fits .access-high))
 
 enum-told-4 : tie.Need-enum-told-4
 enum-told-4 c = search needs
 
 multilane-estimate-requires : tie.Need-multilane-estimate-requires
-multilane-estimate-requires c κs = roadFits (c .before .before .before .before .args .road) (c .before .before .before .before .pre) .speed-low
+multilane-estimate-requires c κs =
+    let fits = roadFits (c .before .before .before .before .args .road) (c .before .before .before .before .pre) in
+    (fits .speed-low, rw (c .enum-told4 .given .1) at (fits .access-high))
 
 returns : tie.Need-returns
 unfolding uncappedBy

@@ -16,7 +16,7 @@ use Rattle.method.proofs.service.performance_at.Tie as tie
 
 returns : tie.Need-returns
 unfolding performance shownSpeed shownDensity letterAt
-returns c = simp (lt-leb (100 * (c .before .before .args .v)) (c .before .before .args .curve .capacity) (omega arith))
+returns c = simp (lt-leb (100 * c .before .before .args .v) (c .before .before .args .curve .capacity) (omega arith))
 
 exact-speed-requires : tie.Need-exact-speed-requires
 exact-speed-requires c κs = search needs
@@ -39,11 +39,15 @@ density-letter-requires c κs = search needs
 returns-2 : tie.Need-returns-2
 unfolding performance shownSpeed shownDensity letterAt
 returns-2 c =
-    let up : 100 * (c .before .before .before .before .before .before .before .args .v) ≤ c .before .before .before .before .before .before .before .args .curve .capacity = omega arith in
-    let dense : c .before .before .div-up .result ≡ density (c .before .before .before .before .before .before .before .args .curve) (c .before .before .before .before .before .before .before .args .v) = c .before .before .div-up .ensures ∙ density-exact (c .before .before .before .before .before .before .before .args .curve) (c .before .before .before .before .before .before .before .args .v) (c .before .before .before .before .exact-speed .result) (c .before .before .before .before .before .before .before .pre .0) up (c .before .before .before .before .exact-speed .ensures) in
+    let curve = c .before .before .before .before .before .before .before .args .curve in
+    let v = c .before .before .before .before .before .before .before .args .v in
+    let exact = c .before .before .before .before .exact-speed in
+    let ok = c .before .before .before .before .before .before .before .pre .0 in
+    let up : 100 * v ≤ curve .capacity = omega arith in
+    let dense : c .before .before .div-up .result ≡ density curve v = c .before .before .div-up .ensures ∙ density-exact curve v (exact .result) ok up (exact .ensures) in
     simp (
-      le-leb (100 * (c .before .before .before .before .before .before .before .args .v)) (c .before .before .before .before .before .before .before .args .curve .capacity) up,
-      roundedDown-eq (c .before .before .before .before .exact-speed .result) (speed (c .before .before .before .before .before .before .before .args .curve) (c .before .before .before .before .before .before .before .args .v)) (c .before .before .before .before .exact-speed .ensures .denominator-pos) (speed-denominator-pos (c .before .before .before .before .before .before .before .args .curve) (c .before .before .before .before .before .before .before .args .v) (c .before .before .before .before .before .before .before .pre .0)) (c .before .before .before .before .exact-speed .ensures .same),
+      le-leb (100 * v) (curve .capacity) up,
+      roundedDown-eq (exact .result) (speed curve v) (exact .ensures .denominator-pos) (speed-denominator-pos curve v ok) (exact .ensures .same),
       dense,
       c .density-letter .ensures ∙ ap densityLetter dense,
     )

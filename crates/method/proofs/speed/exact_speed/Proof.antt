@@ -15,7 +15,10 @@ mul-free : tie.Need-mul-free
 mul-free c = search needs
 
 mul-t5 : tie.Need-mul-t5
-mul-t5 c = rw (c .before .before .fall-share .ensures) (record { fits = product-fits 675000 19600000000 (omega arith) (share-denominator-le (c .before .before .before .args .curve) (c .before .before .before .args .v) (c .before .before .before .pre .1 .0)) tt })
+mul-t5 c =
+    let curve = c .before .before .before .args .curve in
+    let v = c .before .before .before .args .v in
+    rw (c .before .before .fall-share .ensures) (record { fits = product-fits 675000 19600000000 (omega arith) (share-denominator-le curve v (c .before .before .before .pre .1 .0)) tt })
 
 mul-t6 : tie.Need-mul-t6
 mul-t6 c = search needs
@@ -24,17 +27,30 @@ sub-t7 : tie.Need-sub-t7
 sub-t7 c = search needs
 
 mul-t8 : tie.Need-mul-t8
-mul-t8 c = rw (c .before .before .before .before .fall-share .ensures) (record { fits = product-fits 675000 19600000000 (omega arith) (le-trans (share-le (c .before .before .before .before .before .args .curve) (c .before .before .before .before .before .args .v) (c .before .before .before .before .before .pre .0) (c .before .before .before .before .before .pre .1 .1)) (share-denominator-le (c .before .before .before .before .before .args .curve) (c .before .before .before .before .before .args .v) (c .before .before .before .before .before .pre .1 .0))) tt })
+mul-t8 c =
+    let curve = c .before .before .before .before .before .args .curve in
+    let v = c .before .before .before .before .before .args .v in
+    let low = share-le curve v (c .before .before .before .before .before .pre .0) (c .before .before .before .before .before .pre .1 .1) in
+    rw (c .before .before .before .before .fall-share .ensures) (record { fits = product-fits 675000 19600000000 (omega arith) (le-trans low (share-denominator-le curve v (c .before .before .before .before .before .pre .1 .0))) tt })
 
 sub-t9 : tie.Need-sub-t9
-sub-t9 c = rw (c .before .before .before .before .fall-share .ensures) (mul-le-mul (omega arith) (share-le (c .before .before .before .before .before .args .curve) (c .before .before .before .before .before .args .v) (c .before .before .before .before .before .pre .0) (c .before .before .before .before .before .pre .1 .1)))
+sub-t9 c =
+    let curve = c .before .before .before .before .before .args .curve in
+    let v = c .before .before .before .before .before .args .v in
+    rw (c .before .before .before .before .fall-share .ensures) (mul-le-mul (omega arith) (share-le curve v (c .before .before .before .before .before .pre .0) (c .before .before .before .before .before .pre .1 .1)))
 
 mul-t10 : tie.Need-mul-t10
-mul-t10 c = rw (c .before .before .before .before .before .fall-share .ensures) (omega (arith, share-denominator-le (c .before .before .before .before .before .before .args .curve) (c .before .before .before .before .before .before .args .v) (c .before .before .before .before .before .before .pre .1 .0)))
+mul-t10 c =
+    let curve = c .before .before .before .before .before .before .args .curve in
+    let v = c .before .before .before .before .before .before .args .v in
+    rw (c .before .before .before .before .before .fall-share .ensures) (omega (arith, share-denominator-le curve v (c .before .before .before .before .before .before .pre .1 .0)))
 
 returns : tie.Need-returns
 unfolding reducedSpeed reducedNumerator
-returns c = rw (c .before .before .before .before .before .fall-share .ensures) (reducedSpeed-exact (c .before .before .before .before .before .before .args .curve) (c .before .before .before .before .before .before .args .v) (c .before .before .before .before .before .before .pre .0) (c .before .before .before .before .before .before .pre .1 .0) (c .before .before .before .before .before .before .pre .1 .1))
+returns c =
+    let curve = c .before .before .before .before .before .before .args .curve in
+    let v = c .before .before .before .before .before .before .args .v in
+    rw (c .before .before .before .before .before .fall-share .ensures) (reducedSpeed-exact curve v (c .before .before .before .before .before .before .pre .0) (c .before .before .before .before .before .before .pre .1 .0) (c .before .before .before .before .before .before .pre .1 .1))
 
 pub exact-speed-spec : {M : Type 1} → statement M
 exact-speed-spec =
