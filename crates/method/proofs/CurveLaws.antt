@@ -1,6 +1,7 @@
 -- Capacity, breakpoint and the curve (specs/Curves).
 --   capacity-mono        capacity never falls with a higher free-flow speed
 --   capacity-le          it is at most 240,000
+--   capacity-within      it lies between the kind's ends, for F between its ends
 --   unlessRefused-some   a number above 0 refuses
 --   checked-accepted     a case that is checked and found with a curve is accepted, and the curve is its own
 --   checked-refused      a case that is checked and refused: the number is its refusal's, above 0
@@ -20,11 +21,11 @@ use Rattle.method.specs.declared.case.Road.{Road}
 use Rattle.method.specs.declared.case.Case.{Case}
 use Rattle.method.specs.declared.curve.Curve.{Curve}
 use Rattle.method.specs.declared.curve.Checked.the-variants as Checked
-use Rattle.method.specs.Kinds.{lowestSpeed, highestSpeed}
-use Rattle.method.specs.FreeFlowSpeed.{uncappedSpeed, freeFlowSpeed}
+use Rattle.method.specs.Kinds.{lowestSpeed, highestSpeed, lowestCapacity, highestCapacity}
+use Rattle.method.specs.FreeFlowSpeed.{freeFlowSpeed}
 use Rattle.method.specs.Refusals.{refusal, Accepted}
 use Rattle.method.specs.Curves.{capacity, breakpoint, curveAt, WellFormed, Sized, curveOf, unlessRefused, checked}
-use Rattle.method.proofs.FreeFlowSpeedLaws.{freeFlowSpeed-le, le-freeFlowSpeed}
+use Rattle.method.proofs.FreeFlowSpeedLaws.{freeFlowSpeed-le}
 use Rattle.method.proofs.RefusalLaws.{accepted-parts, speed-accepted}
 
 pub capacity-mono : (kind : Kind) (f g : ℕ) → f ≤ g → capacity kind f ≤ capacity kind g
@@ -36,6 +37,12 @@ pub capacity-le : (kind : Kind) (f : ℕ) → capacity kind f ≤ 240000
 unfolding capacity
 capacity-le Kind.Freeway f = omega arith
 capacity-le Kind.Multilane f = omega arith
+
+pub capacity-within : (kind : Kind) (f : ℕ) → lowestSpeed kind ≤ f → f ≤ highestSpeed kind
+    → (lowestCapacity kind ≤ capacity kind f) × (capacity kind f ≤ highestCapacity kind)
+unfolding capacity
+capacity-within Kind.Freeway f h k = (omega arith, omega arith)
+capacity-within Kind.Multilane f h k = (omega arith, omega arith)
 
 pub unlessRefused-some : (n : ℕ) (curve : Curve) → 0 < n → unlessRefused n curve ≡ Checked.Refused n
 unlessRefused-some n curve p = simp (ne-eqb n 0 (λ e. omega arith))
@@ -68,8 +75,8 @@ checked-refused case n e = ⊎-elim accepted refused (checked-cases (refusal cas
 
 pub curveAt-wellFormed : (kind : Kind) (f : ℕ) → lowestSpeed kind ≤ f → f ≤ highestSpeed kind → WellFormed (curveAt kind f)
 unfolding curveAt capacity breakpoint
-curveAt-wellFormed Kind.Freeway f h k = record { breakpoint-below = omega arith; falls = omega arith }
-curveAt-wellFormed Kind.Multilane f h k = record { breakpoint-below = omega arith; falls = omega arith }
+curveAt-wellFormed Kind.Freeway f h k = record { breakpoint-below = omega arith; capacitySpeed-le = omega arith }
+curveAt-wellFormed Kind.Multilane f h k = record { breakpoint-below = omega arith; capacitySpeed-le = omega arith }
 
 pub curveAt-sized : (kind : Kind) (f : ℕ) → lowestSpeed kind ≤ f → f ≤ highestSpeed kind → Sized (curveAt kind f)
 unfolding curveAt capacity breakpoint
@@ -80,12 +87,12 @@ pub curveOf-wellFormed : (case : Case) → Accepted case → WellFormed (curveOf
 unfolding curveOf
 curveOf-wellFormed case a =
     curveAt-wellFormed (case .road .kind) (freeFlowSpeed (case .road) (case .lanes))
-    (le-freeFlowSpeed (case .road) (case .lanes) (speed-accepted (case .road) (case .lanes) (accepted-parts case a .1)))
+    (speed-accepted (case .road) (case .lanes) (accepted-parts case a .1))
     (freeFlowSpeed-le (case .road) (case .lanes))
 
 pub curveOf-sized : (case : Case) → Accepted case → Sized (curveOf (case .road) (case .lanes))
 unfolding curveOf
 curveOf-sized case a =
     curveAt-sized (case .road .kind) (freeFlowSpeed (case .road) (case .lanes))
-    (le-freeFlowSpeed (case .road) (case .lanes) (speed-accepted (case .road) (case .lanes) (accepted-parts case a .1)))
+    (speed-accepted (case .road) (case .lanes) (accepted-parts case a .1))
     (freeFlowSpeed-le (case .road) (case .lanes))

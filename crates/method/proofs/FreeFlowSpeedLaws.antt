@@ -4,8 +4,6 @@
 --   uncappedSpeed-mono   F before its upper end never falls with more lanes
 --   freeFlowSpeed-mono   F never falls with more lanes
 --   freeFlowSpeed-le     F is at most its upper end
---   speedEnds            the lower end of F is at most the upper end
---   le-freeFlowSpeed     F is at least its lower end where it is so before the upper end
 -- Assumes nothing.
 use Prim.Native.Nat.{ℕ, _+_, _-_, _≤_, min}
 use native.Mathlib.Omega.{arith}
@@ -15,7 +13,7 @@ use Rattle.method.specs.declared.kind.Kind.the-variants as Kind
 use Rattle.method.specs.declared.case.Way.{Way}
 use Rattle.method.specs.declared.case.Way.the-variants as Way
 use Rattle.method.specs.declared.case.Road.{Road}
-use Rattle.method.specs.Kinds.{lowestSpeed, highestSpeed}
+use Rattle.method.specs.Kinds.{highestSpeed}
 use Rattle.method.specs.Adjustments.{laneWidthAdjustment, rightClearanceAdjustment, totalClearance, totalClearanceAdjustment, medianAdjustment, accessAdjustment}
 use Rattle.method.specs.RampTerm.{rampTerm}
 use Rattle.method.specs.FreeFlowSpeed.{estimatedBy, estimatedSpeed, uncappedBy, uncappedSpeed, freeFlowSpeed}
@@ -57,11 +55,3 @@ freeFlowSpeed-mono road m n h = omega (arith, uncappedSpeed-mono road m n h)
 pub freeFlowSpeed-le : (road : Road) (n : ℕ) → freeFlowSpeed road n ≤ highestSpeed (road .kind)
 unfolding freeFlowSpeed
 freeFlowSpeed-le road n = omega arith
-
-pub speedEnds : (kind : Kind) → lowestSpeed kind ≤ highestSpeed kind
-speedEnds Kind.Freeway = omega arith
-speedEnds Kind.Multilane = omega arith
-
-pub le-freeFlowSpeed : (road : Road) (n : ℕ) → lowestSpeed (road .kind) ≤ uncappedSpeed road n → lowestSpeed (road .kind) ≤ freeFlowSpeed road n
-unfolding freeFlowSpeed
-le-freeFlowSpeed road n h = omega (arith, speedEnds (road .kind))

@@ -11,7 +11,7 @@ use Rattle.powers.specs.Power.{power}
 use Rattle.powers.proofs.PowerLaws.{power-le, power-mono}
 use Rattle.method.specs.declared.kind.Kind.the-variants as Kind
 use Rattle.method.specs.Curves.{capacity, breakpoint, curveAt}
-use Rattle.method.specs.Speed.{beyondBreakpoint, beyondSpan, fallShareBy, speed}
+use Rattle.method.specs.Speed.{beyondBreakpoint, spanToCapacity, fallShareBy, speed}
 use Rattle.method.proofs.CurveLaws.{curveAt-wellFormed}
 use Rattle.method.proofs.SpeedLaws.{place, place-le, reducedNumerator, reducedSpeed, speed-le}
 use Rattle.method.proofs.FreewayLaws.{lift}
@@ -19,8 +19,8 @@ use Rattle.method.proofs.FreewayLaws.{lift}
 place-antitone : (f g v : ℕ) → 45000 ≤ f → f ≤ g → place (curveAt Kind.Multilane g) v ≤ place (curveAt Kind.Multilane f) v
 unfolding curveAt capacity breakpoint
 place-antitone f g v h k =
-    divUp-mono (1000 * beyondBreakpoint (curveAt Kind.Multilane g) v) (beyondSpan (curveAt Kind.Multilane g))
-    (1000 * beyondBreakpoint (curveAt Kind.Multilane f) v) (beyondSpan (curveAt Kind.Multilane f)) (omega arith) (omega arith) (omega arith)
+    divUp-mono (1000 * beyondBreakpoint (curveAt Kind.Multilane g) v) (spanToCapacity (curveAt Kind.Multilane g))
+    (1000 * beyondBreakpoint (curveAt Kind.Multilane f) v) (spanToCapacity (curveAt Kind.Multilane f)) (omega arith) (omega arith) (omega arith)
 
 fall-rise : (f q : ℕ) → 9 * (f + q) - 2 * capacity Kind.Multilane (f + q) ≤ 9 * f - 2 * capacity Kind.Multilane f + 9 * q
 unfolding capacity

@@ -12,14 +12,14 @@ use native.Mathlib.Omega.{arith}
 use native.Mathlib.Nat.{le-trans, pow-le-pow-left, mul-le-mul-right}
 use lib.Dec.{T, leb, leb→le, le→leb}
 use lib.ListN.{getD, length}
-use Rattle.numbers.specs.Search.{Falls, endsAt}
+use Rattle.numbers.specs.Search.{DownwardClosed, endsAt}
 use Rattle.numbers.specs.Table.{everyEntry}
 use Rattle.numbers.proofs.SearchLaws.{greatest-le, greatest-last, endsAt-passes, endsAt-most}
 use Rattle.numbers.proofs.TableLaws.{and-left, and-right, everyEntry-at}
 use Rattle.method.specs.RampTerm.{rampAtMost, rampTerm}
 use Rattle.method.proofs.RampTable.{rampTable}
 
-rampAtMost-falls : (k : ℕ) → Falls (rampAtMost k)
+rampAtMost-falls : (k : ℕ) → DownwardClosed (rampAtMost k)
 unfolding rampAtMost
 rampAtMost-falls k s t h e =
     le→leb (s ^ 25 * 6 ^ 21) (3220 ^ 25 * k ^ 21)

@@ -23,7 +23,7 @@ use Rattle.method.specs.declared.kind.Kind.the-variants as Kind
 use Rattle.method.specs.declared.case.Road.{Road}
 use Rattle.method.specs.declared.case.Case.{Case}
 use Rattle.method.specs.Kinds.{lowestSpeed, fewestLanes, mostLanes}
-use Rattle.method.specs.FreeFlowSpeed.{uncappedSpeed}
+use Rattle.method.specs.FreeFlowSpeed.{freeFlowSpeed}
 use Rattle.method.specs.Refusals.{Refusal, refuses, firstRefusal, outside, medianUnfit, mostAccess, greatestDemand, roadRefusals, loadRefusals, fieldRefusals, speedRefusals, refusals, refusal, Accepted}
 
 -- every refusal of the list has a number above 0
@@ -172,8 +172,8 @@ pub fields-parts : (case : Case) → firstRefusal (fieldRefusals case) ≡ 0
 unfolding fieldRefusals
 fields-parts case z = join-none (roadRefusals (case .road)) (loadRefusals case) (road-numbered (case .road)) z
 
-pub speed-accepted : (road : Road) (n : ℕ) → firstRefusal (speedRefusals road n) ≡ 0 → lowestSpeed (road .kind) ≤ uncappedSpeed road n
+pub speed-accepted : (road : Road) (n : ℕ) → firstRefusal (speedRefusals road n) ≡ 0 → lowestSpeed (road .kind) ≤ freeFlowSpeed road n
 unfolding speedRefusals
 speed-accepted road n z =
     let none : NoneMet (speedRefusals road n) = none-met (speedRefusals road n) tt z in
-    ltb-false (uncappedSpeed road n) (lowestSpeed (road .kind)) (none .0)
+    ltb-false (freeFlowSpeed road n) (lowestSpeed (road .kind)) (none .0)

@@ -1,5 +1,6 @@
 -- Density and letter (specs/Service).
 --   density-le-iff     the density meets a limit exactly when 10,000v is at most the limit times S
+--   shownDensity-eq    up to capacity it is the shown density
 --   density-exact      it may be worked from any fraction of the value of S
 --   density-mono       more flow at no higher speed: no less density
 --   density-le         up to capacity the density is at most 450
@@ -32,7 +33,7 @@ use Rattle.method.specs.declared.service.Letter.the-variants as Letter
 use Rattle.method.specs.Kinds.{lowestSpeed, highestSpeed}
 use Rattle.method.specs.Curves.{capacity, curveAt, WellFormed}
 use Rattle.method.specs.Speed.{speed, ExactSpeed}
-use Rattle.method.specs.Service.{density, densityLetter, letterAt, letterNumber}
+use Rattle.method.specs.Service.{density, shownDensity, densityLetter, letterAt, letterNumber}
 use Rattle.method.proofs.CurveLaws.{capacity-mono, curveAt-wellFormed}
 use Rattle.method.proofs.SpeedLaws.{speed-numerator-pos, speed-denominator-pos, speed-antitone, capacitySpeed-le}
 use Rattle.method.proofs.FreewayLaws.{freewaySpeed-mono}
@@ -43,6 +44,10 @@ pub density-le-iff : (curve : Curve) (v limit : ℕ) → WellFormed curve → 10
     → (density curve v ≤ limit) ↔ AtMost (whole (10000 * v)) (times (whole limit) (speed curve v))
 unfolding density
 density-le-iff curve v limit ok h = quotient-le-iff (10000 * v) limit (speed curve v) (speed-numerator-pos curve v ok h)
+
+pub shownDensity-eq : (curve : Curve) (v : ℕ) → 100 * v ≤ curve .capacity → shownDensity curve v ≡ density curve v
+unfolding shownDensity
+shownDensity-eq curve v h = simp (le-leb (100 * v) (curve .capacity) h)
 
 pub density-exact : (curve : Curve) (v : ℕ) (s : Fraction) → WellFormed curve → 100 * v ≤ curve .capacity → ExactSpeed curve v s
     → divUp (10000 * v * s .denominator) (s .numerator) ≡ density curve v

@@ -26,19 +26,19 @@ use Rattle.method.specs.declared.kind.Kind.{Kind}
 use Rattle.method.specs.declared.kind.Kind.the-variants as Kind
 use Rattle.method.specs.declared.curve.Curve.{Curve}
 use Rattle.method.specs.Curves.{WellFormed, Sized}
-use Rattle.method.specs.Speed.{beyondBreakpoint, beyondSpan, fallShareBy, fallShare, speed, ExactSpeed}
+use Rattle.method.specs.Speed.{beyondBreakpoint, spanToCapacity, fallShareBy, fallShare, speed, ExactSpeed}
 
 -- ---- w
 -- the place in the table of powers: 1,000 × (100v − b) / (c − b), rounded up
 abbrev pub place : Curve → ℕ → ℕ
-place curve v = divUp (1000 * beyondBreakpoint curve v) (beyondSpan curve)
+place curve v = divUp (1000 * beyondBreakpoint curve v) (spanToCapacity curve)
 
-span-pos : (curve : Curve) → WellFormed curve → 0 < beyondSpan curve
+span-pos : (curve : Curve) → WellFormed curve → 0 < spanToCapacity curve
 span-pos curve ok = omega (arith, ok .breakpoint-below)
 
 pub place-le : (curve : Curve) (v : ℕ) → WellFormed curve → 100 * v ≤ curve .capacity → place curve v ≤ 1000
 place-le curve v ok h =
-    divUp-le-iff (1000 * beyondBreakpoint curve v) (beyondSpan curve) 1000 (span-pos curve ok) .1 (omega arith)
+    divUp-le-iff (1000 * beyondBreakpoint curve v) (spanToCapacity curve) 1000 (span-pos curve ok) .1 (omega arith)
 
 module _ (curve : Curve) (ok : WellFormed curve) where
   share-pos-by : (kind : Kind) (v : ℕ) → 0 < fallShareBy kind curve v .denominator
@@ -49,7 +49,7 @@ module _ (curve : Curve) (ok : WellFormed curve) where
   share-le-by : (kind : Kind) (v : ℕ) → 100 * v ≤ curve .capacity → fallShareBy kind curve v .numerator ≤ fallShareBy kind curve v .denominator
   unfolding fallShareBy
   share-le-by Kind.Freeway v h =
-      let part : beyondBreakpoint curve v ≤ beyondSpan curve = omega arith in mul-le-mul part part
+      let part : beyondBreakpoint curve v ≤ spanToCapacity curve = omega arith in mul-le-mul part part
   share-le-by Kind.Multilane v h = power-le (place curve v) (place-le curve v ok h)
 
   share-mono-by : (kind : Kind) (v w : ℕ) → v ≤ w → 100 * w ≤ curve .capacity
@@ -59,8 +59,8 @@ module _ (curve : Curve) (ok : WellFormed curve) where
       let part : beyondBreakpoint curve v ≤ beyondBreakpoint curve w = omega arith in mul-le-mul part part
   share-mono-by Kind.Multilane v w l h =
       power-mono (place curve v) (place curve w)
-      (divUp-mono (1000 * beyondBreakpoint curve v) (beyondSpan curve) (1000 * beyondBreakpoint curve w) (beyondSpan curve)
-      (span-pos curve ok) (omega arith) (le-refl (beyondSpan curve)))
+      (divUp-mono (1000 * beyondBreakpoint curve v) (spanToCapacity curve) (1000 * beyondBreakpoint curve w) (spanToCapacity curve)
+      (span-pos curve ok) (omega arith) (le-refl (spanToCapacity curve)))
       (place-le curve w ok h)
 
   share-zero-by : (kind : Kind) (v : ℕ) → 100 * v ≤ curve .breakpoint → fallShareBy kind curve v .numerator ≡ 0
@@ -68,7 +68,7 @@ module _ (curve : Curve) (ok : WellFormed curve) where
   share-zero-by Kind.Freeway v h = let part : beyondBreakpoint curve v ≡ 0 = omega arith in rw part
   share-zero-by Kind.Multilane v h =
       let part : 1000 * beyondBreakpoint curve v ≡ 0 = omega arith in
-      rw (part, divUp-zero (beyondSpan curve) (span-pos curve ok)) power-zero
+      rw (part, divUp-zero (spanToCapacity curve) (span-pos curve ok)) power-zero
 
 pub share-pos : (curve : Curve) (v : ℕ) → WellFormed curve → 0 < fallShare curve v .denominator
 share-pos curve v ok = share-pos-by curve ok (curve .kind) v
@@ -84,6 +84,10 @@ share-denominator-by Kind.Freeway curve v w = refl
 share-denominator-by Kind.Multilane curve v w = refl
 
 -- ---- S with 9 in the place of 45
+-- the speed at capacity is at most F, in whole numbers
+falls : (curve : Curve) → WellFormed curve → 2 * curve .capacity ≤ 9 * curve .«free_flow_speed»
+falls curve ok = omega (arith, ok .capacitySpeed-le)
+
 -- (F − (F − 2c/9) × p/q) × 9q
 unfoldable pub reducedNumerator : (f c p q : ℕ) → ℕ
 reducedNumerator f c p q = 9 * f * q - (9 * f - 2 * c) * p
@@ -144,7 +148,7 @@ pub reducedSpeed-pos : (curve : Curve) (v : ℕ) → WellFormed curve → 100 * 
 unfolding reducedSpeed
 reducedSpeed-pos curve v ok h =
     lt-of-lt-of-le (mul-pos (omega (arith, ok .breakpoint-below)) (share-pos curve v ok))
-    (reducedNumerator-ge (curve .«free_flow_speed») (curve .capacity) (fallShare curve v .numerator) (fallShare curve v .denominator) (ok .falls)
+    (reducedNumerator-ge (curve .«free_flow_speed») (curve .capacity) (fallShare curve v .numerator) (fallShare curve v .denominator) (falls curve ok)
     (share-le curve v ok h))
 
 pub speed-denominator-pos : (curve : Curve) (v : ℕ) → WellFormed curve → 0 < speed curve v .denominator
@@ -184,7 +188,7 @@ pub capacitySpeed-le : (curve : Curve) (v : ℕ) → WellFormed curve → 100 * 
 unfolding reducedSpeed
 capacitySpeed-le curve v ok h =
     AtMost-trans (over (10 * curve .capacity) 45) (reducedSpeed curve v) (speed curve v) (reducedSpeed-denominator-pos curve v ok)
-    (omega (arith, reducedNumerator-ge (curve .«free_flow_speed») (curve .capacity) (fallShare curve v .numerator) (fallShare curve v .denominator) (ok .falls) (share-le curve v ok h)))
+    (omega (arith, reducedNumerator-ge (curve .«free_flow_speed») (curve .capacity) (fallShare curve v .numerator) (fallShare curve v .denominator) (falls curve ok) (share-le curve v ok h)))
     (le-of-eq (sym (speed-reduced curve v ok)))
 
 -- ---- what 64 bits hold

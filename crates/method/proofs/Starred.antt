@@ -44,7 +44,5 @@ power-500 = power-eq 500 403321 (omega arith) tt
 
 pub starred-shown : Shown starredFigures
 unfolding divUp laneWidthAdjustment perMissingFoot rightClearanceAdjustment totalClearance twoLaneRow totalClearanceAdjustment accessAdjustment estimatedBy uncappedBy freeFlowSpeed roadRefusals loadRefusals fieldRefusals speedRefusals refusals capacity breakpoint curveAt curveOf flow flowRate fallShareBy speed shownSpeed density shownDensity densityLetter letterAt performance measures starredFigures
-starred-shown = (
-  simp (ramp-6, ramp-24, ramp-0),
-  (refl, (refl, (refl, (refl, (refl, (refl, (simp power-500, (simp power-500, (refl, (refl, tt)))))))))),
-)
+starred-shown =
+    (simp ramp-24, (simp (ramp-6, ramp-24, ramp-0), (refl, (refl, (refl, (refl, (refl, (refl, (simp power-500, (simp power-500, (refl, (refl, tt))))))))))))

@@ -11,6 +11,7 @@
 use Prim.Native.Nat.{ℕ, _+_, _*_, _-_, _≤_, _<_, min}
 use mathlib.Core.Bool.{cond}
 use lib.Dec.{eqb}
+use Rattle.numbers.specs.Fraction.{over, whole, AtMost}
 use Rattle.method.specs.declared.kind.Kind.{Kind}
 use Rattle.method.specs.declared.kind.Kind.the-variants as Kind
 use Rattle.method.specs.declared.case.Road.{Road}
@@ -37,7 +38,7 @@ curveAt kind f =
 
 pub record WellFormed (curve : Curve) : Type 0 where
   pub breakpoint-below : curve .breakpoint < curve .capacity
-  pub falls : 2 * curve .capacity ≤ 9 * curve .«free_flow_speed»
+  pub capacitySpeed-le : AtMost (over (10 * curve .capacity) 45) (whole (curve .«free_flow_speed»))
 
 pub record Sized (curve : Curve) : Type 0 where
   pub speed-le : curve .«free_flow_speed» ≤ 75000

@@ -22,7 +22,7 @@ use Rattle.method.specs.declared.case.Median.the-variants as Median
 use Rattle.method.specs.declared.case.Road.{Road}
 use Rattle.method.specs.declared.case.Case.{Case}
 use Rattle.method.specs.Kinds.{lowestSpeed, fewestLanes, mostLanes}
-use Rattle.method.specs.FreeFlowSpeed.{uncappedSpeed}
+use Rattle.method.specs.FreeFlowSpeed.{freeFlowSpeed}
 
 pub record Refusal : Type 0 where
   pub number : ℕ
@@ -65,7 +65,7 @@ roadRefusals road =
     ∷ refuses 5 (ltb (mostAccess (road .kind)) (road .access))
     ∷ []
 
--- "6 lanes not of the kind; 7 V above 99,999; 8 H not 250 to 1,000; 9 P above 1,000"
+-- "6 lanes not of the kind; 7 V above 99,999", "8 H not 250 to 1,000; 9 P above 1,000"
 unfoldable pub loadRefusals : Case → List Refusal
 loadRefusals case =
     refuses 6 (outside (fewestLanes (case .road .kind)) (mostLanes (case .road .kind)) (case .lanes))
@@ -79,7 +79,7 @@ fieldRefusals case = roadRefusals (case .road) ++ loadRefusals case
 
 -- "10 F below the lower end"
 unfoldable pub speedRefusals : Road → ℕ → List Refusal
-speedRefusals road n = refuses 10 (ltb (uncappedSpeed road n) (lowestSpeed (road .kind))) ∷ []
+speedRefusals road n = refuses 10 (ltb (freeFlowSpeed road n) (lowestSpeed (road .kind))) ∷ []
 
 unfoldable pub refusals : Case → List Refusal
 refusals case = fieldRefusals case ++ speedRefusals (case .road) (case .lanes)

@@ -1,5 +1,6 @@
 -- Speed on a curve at flow rate v, in thousandths of mi/h (document 01, "Capacity and curve").
 --   beyondBreakpoint curve v   100v − b, 0 up to the breakpoint
+--   spanToCapacity curve       c − b
 --   fallShare curve v          w, the part of the fall from F to the speed at capacity that is reached at v
 --   speed curve v              S, exactly, for v up to capacity
 --   shownSpeed curve v         S rounded down; 0 above capacity
@@ -18,15 +19,15 @@ use Rattle.method.specs.declared.curve.Curve.{Curve}
 abbrev pub beyondBreakpoint : Curve → ℕ → ℕ
 beyondBreakpoint curve v = 100 * v - curve .breakpoint
 
-abbrev pub beyondSpan : Curve → ℕ
-beyondSpan curve = curve .capacity - curve .breakpoint
+abbrev pub spanToCapacity : Curve → ℕ
+spanToCapacity curve = curve .capacity - curve .breakpoint
 
 -- "F: w = ((100v − b) / (c − b)) squared, exactly"
 -- "M: i is 1,000 × (100v − b) / (c − b), rounded up; w = T(i) millionths"
 unfoldable pub fallShareBy : Kind → Curve → ℕ → Fraction
-fallShareBy Kind.Freeway curve v = squared (over (beyondBreakpoint curve v) (beyondSpan curve))
+fallShareBy Kind.Freeway curve v = squared (over (beyondBreakpoint curve v) (spanToCapacity curve))
 fallShareBy Kind.Multilane curve v =
-    over (power (roundedUp (over (1000 * beyondBreakpoint curve v) (beyondSpan curve)))) 1000000
+    over (power (roundedUp (over (1000 * beyondBreakpoint curve v) (spanToCapacity curve)))) 1000000
 
 abbrev pub fallShare : Curve → ℕ → Fraction
 fallShare curve v = fallShareBy (curve .kind) curve v
@@ -45,5 +46,5 @@ shownSpeed curve v = cond (leb (100 * v) (curve .capacity)) (roundedDown (speed 
 pub record ExactSpeed (curve : Curve) (v : ℕ) (s : Fraction) : Type 0 where
   pub same : SameValue s (speed curve v)
   pub denominator-pos : 0 < s .denominator
-  pub denominator-le : s .denominator ≤ 176400000000
+  pub denominator-le : s .denominator ≤ 9 * (140000 * 140000)
   pub numerator-pos : 0 < s .numerator

@@ -52,8 +52,30 @@ given kind f =
     }
 
 abbrev twoLanes : Road → ℕ → Case
-twoLanes road v =
-    record { road = road; lanes = 2; demand = v; «peak_hour_factor» = 1000; «heavy_share» = 0; terrain = Terrain.Level }
+twoLanes road demand =
+    record { road = road; lanes = 2; demand = demand; «peak_hour_factor» = 1000; «heavy_share» = 0; terrain = Terrain.Level }
+
+-- the line F E 75400 110 20 0 D 24 2 2000 920 50 R
+abbrev example : Case
+example =
+    record {
+      road =
+          record {
+            kind = Kind.Freeway;
+            way = Way.Estimated;
+            speed = 75400;
+            «lane_width» = 110;
+            «right_clearance» = 20;
+            «left_clearance» = 0;
+            median = Median.Divided;
+            access = 24;
+          };
+      lanes = 2;
+      demand = 2000;
+      «peak_hour_factor» = 920;
+      «heavy_share» = 50;
+      terrain = Terrain.Rolling;
+    }
 
 -- M, E, 60,000, width 110, right 40, left 20, 10 access points
 abbrev multilane : Median → Road
@@ -72,7 +94,8 @@ multilane m =
 -- letter, F, c, v, speed and density of a case that is accepted; its number where it is refused. A is 1 and F is 6.
 unfoldable pub starredFigures : List Figure
 starredFigures =
-    figure (rampTerm 6 ∷ rampTerm 24 ∷ rampTerm 0 ∷ []) (3220 ∷ 10317 ∷ 0 ∷ [])
+    figure (values (assessment example)) (3 ∷ 60783 ∷ 230783 ∷ 1196 ∷ 60783 ∷ 197 ∷ [])
+    ∷ figure (rampTerm 6 ∷ rampTerm 24 ∷ rampTerm 0 ∷ []) (3220 ∷ 10317 ∷ 0 ∷ [])
     ∷ figure (densityAndLetter Kind.Freeway 75000 825) (110 ∷ 1 ∷ [])
     ∷ figure (densityAndLetter Kind.Freeway 75000 826) (111 ∷ 2 ∷ [])
     ∷ figure (values (assessment (twoLanes (given Kind.Freeway 55000) 4500))) (5 ∷ 55000 ∷ 225000 ∷ 2250 ∷ 50000 ∷ 450 ∷ [])

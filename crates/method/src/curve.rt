@@ -13,7 +13,7 @@ use crate::refusal;
 use numbers::lesser;
 ghost use mathlib.Core.Path.{_≡_};
 ghost use Prim.Native.Nat.{_≤_};
-ghost use Rattle.method.specs.Kinds.{lowestSpeed, highestSpeed};
+ghost use Rattle.method.specs.Kinds.{highestSpeed};
 ghost use Rattle.method.specs.Refusals.{firstRefusal, roadRefusals};
 ghost use Rattle.method.specs.Curves.{capacity, breakpoint, curveAt, checkedCurve, checked};
 
@@ -30,17 +30,17 @@ pub enum Checked {
 }
 
 fn capacity(kind: Kind, speed: u64) -> u64
-    requires { ⌜ (lowestSpeed kind ≤ speed) × (speed ≤ highestSpeed kind) ⌝ }
+    requires { ⌜ speed ≤ highestSpeed kind ⌝ }
     ensures { λ r. ⌜ r ≡ capacity kind speed ⌝ }
 {
     match kind {
         Kind::Freeway => lesser(
             Freeway::HIGHEST_CAPACITY,
-            Freeway::LOWEST_CAPACITY + (speed - Freeway::LOWEST_SPEED),
+            Freeway::LOWEST_CAPACITY + speed - Freeway::LOWEST_SPEED,
         ),
         Kind::Multilane => lesser(
             Multilane::HIGHEST_CAPACITY,
-            Multilane::LOWEST_CAPACITY + 2 * (speed - Multilane::LOWEST_SPEED),
+            Multilane::LOWEST_CAPACITY + 2 * speed - 2 * Multilane::LOWEST_SPEED,
         ),
     }
 }
@@ -56,7 +56,7 @@ fn breakpoint(kind: Kind, speed: u64) -> u64
 }
 
 pub fn curve_at(kind: Kind, speed: u64) -> Curve
-    requires { ⌜ (lowestSpeed kind ≤ speed) × (speed ≤ highestSpeed kind) ⌝ }
+    requires { ⌜ speed ≤ highestSpeed kind ⌝ }
     ensures { λ r. ⌜ r ≡ curveAt kind speed ⌝ }
 {
     Curve {
@@ -72,11 +72,11 @@ pub fn checked_curve(road: Road, lanes: u64) -> Checked
     ensures { λ r. ⌜ r ≡ checkedCurve road lanes ⌝ }
 {
     let kind = road.kind;
-    let speed = free_flow::uncapped_speed(road, lanes);
+    let speed = free_flow::free_flow_speed(road, lanes);
     if speed < kind::lowest_speed(kind) {
         return Checked::Refused(refusal::SPEED_BELOW_LOWER_END);
     }
-    Checked::Accepted(curve_at(kind, lesser(kind::highest_speed(kind), speed)))
+    Checked::Accepted(curve_at(kind, speed))
 }
 
 pub fn check(case: Case) -> Checked

@@ -1,14 +1,16 @@
 // Free-flow speed, in thousandths of mi/h.
-//   uncapped_speed   F before its upper end, given or estimated
+//   free_flow_speed   F, given or estimated, at most the kind's upper end
 use crate::adjustment;
 use crate::case::Road;
 use crate::case::Way;
+use crate::kind;
 use crate::kind::Kind;
 use crate::ramp;
+use numbers::lesser;
 ghost use mathlib.Core.Path.{_≡_};
 ghost use Prim.Native.Nat.{_≤_};
 ghost use Rattle.method.specs.declared.kind.Kind.the-variants as Kind;
-ghost use Rattle.method.specs.FreeFlowSpeed.{estimatedBy, uncappedSpeed};
+ghost use Rattle.method.specs.FreeFlowSpeed.{estimatedBy, uncappedSpeed, freeFlowSpeed};
 ghost use Rattle.method.specs.Refusals.{firstRefusal, roadRefusals};
 
 fn freeway_estimate(road: Road, lanes: u64) -> u64
@@ -34,7 +36,7 @@ fn multilane_estimate(road: Road, lanes: u64) -> u64
         - adjustment::access_adjustment(road.access)
 }
 
-pub(crate) fn uncapped_speed(road: Road, lanes: u64) -> u64
+fn uncapped_speed(road: Road, lanes: u64) -> u64
     requires { ⌜ firstRefusal (roadRefusals road) ≡ 0 ⌝ }
     ensures { λ r. ⌜ r ≡ uncappedSpeed road lanes ⌝ }
 {
@@ -47,4 +49,12 @@ pub(crate) fn uncapped_speed(road: Road, lanes: u64) -> u64
             Kind::Multilane => multilane_estimate(road, lanes),
         },
     }
+}
+
+pub(crate) fn free_flow_speed(road: Road, lanes: u64) -> u64
+    requires { ⌜ firstRefusal (roadRefusals road) ≡ 0 ⌝ }
+    ensures { λ r. ⌜ r ≡ freeFlowSpeed road lanes ⌝ }
+{
+    let kind = road.kind;
+    lesser(kind::highest_speed(kind), uncapped_speed(road, lanes))
 }

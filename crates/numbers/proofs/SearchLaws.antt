@@ -3,16 +3,16 @@
 --   greatest-passes   it passes, where 0 passes
 --   le-greatest       what passes is at most it
 --   greatest-eq       it is s where s passes and nothing above s does
---   greatest-iff      of a test that falls: a number passes exactly when it is at most the greatest
+--   greatest-iff      of a test that is downward closed: a number passes exactly when it is at most the greatest
 --   endsAt-passes     a test that ends at s passes there
---   endsAt-most       of a test that falls: where it ends at s, what passes is at most s
---   greatest-last     of a test that falls: it is s where the test ends at s
+--   endsAt-most       of a test that is downward closed: where it ends at s, what passes is at most s
+--   greatest-last     of a test that is downward closed: it is s where the test ends at s
 --   least-le          it is at most the bound
 --   least-passes      it passes, where it is below the bound
 --   least-le-of       it is at most what passes
 --   least-eq          it is s where s passes and nothing below s does
---   least-iff         of a test that rises: a number passes exactly when the least is at most it
---   least-first       of a test that rises: it is s where the test starts at s
+--   least-iff         of a test that is upward closed: a number passes exactly when the least is at most it
+--   least-first       of a test that is upward closed: it is s where the test starts at s
 -- Assumes nothing.
 use mathlib.Core.Path.{_≡_, refl, sym, ap, subst, _∙_}
 use mathlib.Core.Bool.{Bool, true, false, cond, not, _&&_}
@@ -23,7 +23,7 @@ use native.Mathlib.Omega.{arith}
 use native.Mathlib.Nat.{le-refl, le-trans, le-antisymm}
 use native.Mathlib.Decide.{decLe}
 use Rattle.numbers.proofs.TableLaws.{and-left, and-right}
-use Rattle.numbers.specs.Search.{greatest, leastFrom, least, Falls, Rises, endsAt, startsAt}
+use Rattle.numbers.specs.Search.{greatest, leastFrom, least, DownwardClosed, UpwardClosed, endsAt, startsAt}
 
 -- one step of a search downwards: it takes suc n where that passes, and what is found up to n where it does not
 module _ (p : ℕ → Bool) (n g : ℕ) where
@@ -85,14 +85,14 @@ greatest-eq p n s h t above = ⊎-elim zero-case passes-case (greatest-cases p n
         go (yes l) = omega (arith, low)
         go (no l) = absurd (above (greatest p n) (omega arith) (greatest-le p n) g)
 
-pub greatest-iff : (p : ℕ → Bool) (n x : ℕ) → T (p 0) → Falls p → x ≤ n → T (p x) ↔ (x ≤ greatest p n)
+pub greatest-iff : (p : ℕ → Bool) (n x : ℕ) → T (p 0) → DownwardClosed p → x ≤ n → T (p x) ↔ (x ≤ greatest p n)
 greatest-iff p n x z falls h = (le-greatest p n x h, λ l. falls x (greatest p n) l (greatest-passes p n z))
 
 pub endsAt-passes : (p : ℕ → Bool) (s : ℕ) → T (endsAt p s) → T (p s)
 unfolding endsAt
 endsAt-passes p s t = and-left (p s) (not (p (suc s))) t
 
-pub endsAt-most : (p : ℕ → Bool) (s x : ℕ) → Falls p → T (endsAt p s) → T (p x) → x ≤ s
+pub endsAt-most : (p : ℕ → Bool) (s x : ℕ) → DownwardClosed p → T (endsAt p s) → T (p x) → x ≤ s
 unfolding endsAt
 endsAt-most p s x falls t e = go (decLe x s)
   where
@@ -100,7 +100,7 @@ endsAt-most p s x falls t e = go (decLe x s)
     go (yes l) = l
     go (no l) = absurd (T-not (p (suc s)) (and-right (p s) (not (p (suc s))) t) (falls (suc s) x (omega arith) e))
 
-pub greatest-last : (p : ℕ → Bool) (n s : ℕ) → Falls p → s ≤ n → T (endsAt p s) → greatest p n ≡ s
+pub greatest-last : (p : ℕ → Bool) (n s : ℕ) → DownwardClosed p → s ≤ n → T (endsAt p s) → greatest p n ≡ s
 greatest-last p n s falls h t =
     greatest-eq p n s h (endsAt-passes p s t) (λ k l u e. omega (arith, endsAt-most p s k falls t e))
 
@@ -165,13 +165,13 @@ least-eq p n s h t below = go (decLe s (least p n))
     go (yes l) = le-antisymm low l
     go (no l) = absurd (below (least p n) (omega arith) (least-passes p n (omega (arith, low))))
 
-pub least-iff : (p : ℕ → Bool) (n x : ℕ) → Rises p → x < n → T (p x) ↔ (least p n ≤ x)
+pub least-iff : (p : ℕ → Bool) (n x : ℕ) → UpwardClosed p → x < n → T (p x) ↔ (least p n ≤ x)
 least-iff p n x rises h = (
   λ t. least-le-of p n x t h,
   λ l. rises (least p n) x l (least-passes p n (omega arith)),
 )
 
-pub least-first : (p : ℕ → Bool) (n s : ℕ) → Rises p → s < n → T (startsAt p s) → least p n ≡ s
+pub least-first : (p : ℕ → Bool) (n s : ℕ) → UpwardClosed p → s < n → T (startsAt p s) → least p n ≡ s
 unfolding startsAt
 least-first p n zero rises h t = least-eq p n 0 h t (λ k l. absurd (omega arith))
 least-first p n (suc s) rises h t =

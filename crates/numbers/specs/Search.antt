@@ -1,8 +1,8 @@
 -- The greatest and the least number that pass a test.
 --   greatest p n   the greatest number up to n that passes p; 0 where none does
 --   least p n      the least number below n that passes p; n where none does
---   Falls p        with a number every smaller one passes
---   Rises p        with a number every larger one passes
+--   DownwardClosed p   with a number every smaller one passes
+--   UpwardClosed p     with a number every larger one passes
 --   endsAt p s     s passes, and the next number fails
 --   startsAt p s   s passes, and the number before it, if there is one, fails
 -- Assumes nothing.
@@ -22,11 +22,11 @@ leastFrom p a (suc n) = let after = leastFrom p (suc a) n in cond (p a) a after
 unfoldable pub least : (ℕ → Bool) → ℕ → ℕ
 least p n = leastFrom p 0 n
 
-abbrev pub Falls : (ℕ → Bool) → Type 0
-Falls p = (m n : ℕ) → m ≤ n → T (p n) → T (p m)
+abbrev pub DownwardClosed : (ℕ → Bool) → Type 0
+DownwardClosed p = (m n : ℕ) → m ≤ n → T (p n) → T (p m)
 
-abbrev pub Rises : (ℕ → Bool) → Type 0
-Rises p = (m n : ℕ) → m ≤ n → T (p m) → T (p n)
+abbrev pub UpwardClosed : (ℕ → Bool) → Type 0
+UpwardClosed p = (m n : ℕ) → m ≤ n → T (p m) → T (p n)
 
 unfoldable pub endsAt : (ℕ → Bool) → ℕ → Bool
 endsAt p s = p s && not (p (suc s))

@@ -1,5 +1,5 @@
 -- The laws of T that specs/Laws states, proved.
---   power-is-least, power-rises
+--   power-is-least, power-never-falls
 -- Assumes nothing.
 use Prim.Native.Nat.{ℕ, _*_, _^_, _≤_}
 use native.Mathlib.Omega.{arith}
@@ -7,7 +7,7 @@ use native.Mathlib.Decide.{decLe}
 use lib.Dec.{T, leb→le, le→leb}
 use Rattle.numbers.proofs.SearchLaws.{least-passes, least-le-of}
 use Rattle.powers.specs.Power.{reachesPower, power}
-use Rattle.powers.specs.Laws.{PowerIsLeast, PowerRises}
+use Rattle.powers.specs.Laws.{PowerIsLeast, PowerNeverFalls}
 use Rattle.powers.proofs.PowerLaws.{power-le, power-mono}
 
 pub power-is-least : PowerIsLeast
@@ -21,5 +21,5 @@ power-is-least i h = (leb→le (i ^ 131 * 10 ^ 207) (power i ^ 100) (least-passe
     no-less : (t : ℕ) → i ^ 131 * 10 ^ 207 ≤ t ^ 100 → power i ≤ t
     no-less t e = go t e (decLe t 1000000)
 
-pub power-rises : PowerRises
-power-rises i j h k = (power-mono i j h k, power-le j k)
+pub power-never-falls : PowerNeverFalls
+power-never-falls i j h k = (power-mono i j h k, power-le j k)

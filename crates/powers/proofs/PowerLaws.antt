@@ -14,7 +14,7 @@ use native.Mathlib.Decide.{decLe}
 use native.Mathlib.Nat.{le-trans, le-refl, pow-le-pow-left}
 use lib.Dec.{T, leb, leb→le, le→leb}
 use lib.ListN.{getD, length}
-use Rattle.numbers.specs.Search.{least, Rises, startsAt}
+use Rattle.numbers.specs.Search.{least, UpwardClosed, startsAt}
 use Rattle.numbers.specs.Table.{everyEntry}
 use Rattle.numbers.proofs.SearchLaws.{least-first}
 use Rattle.numbers.proofs.TableLaws.{and-left, and-right, everyEntry-at}
@@ -33,7 +33,7 @@ table-length : length powerTable ≡ 1001
 unfolding powerTable
 table-length = refl
 
-reachesPower-rises : (i : ℕ) → Rises (reachesPower i)
+reachesPower-rises : (i : ℕ) → UpwardClosed (reachesPower i)
 unfolding reachesPower
 reachesPower-rises i s t h e =
     le→leb (i ^ 131 * 10 ^ 207) (t ^ 100) (le-trans (leb→le (i ^ 131 * 10 ^ 207) (s ^ 100) e) (pow-le-pow-left h 100))

@@ -9,6 +9,6 @@ PowerIsLeast =
     (i : ℕ) → i ≤ 1000
     → (i ^ 131 * 10 ^ 207 ≤ power i ^ 100) × ((t : ℕ) → i ^ 131 * 10 ^ 207 ≤ t ^ 100 → power i ≤ t)
 
--- T rises, and its last entry is the largest: 1,000,000 millionths.
-abbrev pub PowerRises : Type 0
-PowerRises = (i j : ℕ) → i ≤ j → j ≤ 1000 → (power i ≤ power j) × (power j ≤ 1000000)
+-- T never falls, and is at most 1,000,000 millionths.
+abbrev pub PowerNeverFalls : Type 0
+PowerNeverFalls = (i j : ℕ) → i ≤ j → j ≤ 1000 → (power i ≤ power j) × (power j ≤ 1000000)

@@ -1,4 +1,4 @@
--- `method::refusal::load_refusal` meets its contract: its lines are those of the list.
+-- `method::refusal::load_refusal` meets its contract: its lines are those of the list, one after the other.
 -- Assumes nothing.
 use Rattle.method.specs.Refusals.{loadRefusals}
 use borrow.Author.Needs.{needs}
@@ -31,7 +31,17 @@ refused-if-requires-4 c κs = search needs
 
 returns : tie.Need-returns
 unfolding loadRefusals
-returns c = cc
+returns c =
+    simp (
+      c .refused-if4 .ensures,
+      c .before .refused-if3 .ensures,
+      c .before .before .refused-if2 .ensures,
+      c .before .before .before .refused-if .ensures,
+      c .before .before .before .before .before .before .before .outside .ensures,
+      c .before .before .before .before .before .outside2 .ensures,
+      c .before .before .before .before .before .before .before .before .before .fewest-lanes .ensures,
+      c .before .before .before .before .before .before .before .before .most-lanes .ensures,
+    )
 
 pub load-refusal-spec : {M : Type 1} → statement M
 load-refusal-spec =

@@ -1,4 +1,4 @@
--- `method::refusal::road_refusal` meets its contract: its lines are those of the list.
+-- `method::refusal::road_refusal` meets its contract: its lines are those of the list, one after the other.
 -- Assumes nothing.
 use Rattle.method.specs.Refusals.{roadRefusals}
 use borrow.Author.Needs.{needs}
@@ -37,7 +37,19 @@ refused-if-requires-5 c κs = search needs
 
 returns : tie.Need-returns
 unfolding roadRefusals
-returns c = cc
+returns c =
+    simp (
+      c .refused-if5 .ensures,
+      c .before .refused-if4 .ensures,
+      c .before .before .refused-if3 .ensures,
+      c .before .before .before .refused-if2 .ensures,
+      c .before .before .before .before .refused-if .ensures,
+      c .before .before .before .before .before .before .before .before .before .before .outside .ensures,
+      c .before .before .before .before .before .before .before .before .before .outside2 .ensures,
+      c .before .before .before .before .before .before .before .before .clearance-too-large .ensures,
+      c .before .before .before .before .before .before .before .median-unfit .ensures,
+      c .before .before .before .before .before .before .most-access .ensures,
+    )
 
 pub road-refusal-spec : {M : Type 1} → statement M
 road-refusal-spec =
