@@ -12,4 +12,4 @@ pub mod SpeedLaws
 pub mod ServiceLaws
 pub mod AssessLaws
 pub mod Laws
-pub mod Starred
+pub mod Boundary

@@ -10,7 +10,7 @@
 --   Service         density and letter
 --   Assess          what a case gets, or its refusal
 --   Laws            the laws of the method, stated
---   Starred         the starred figures of document 01
+--   Boundary        the boundary sections of document 01
 pub mod Kinds
 pub mod Adjustments
 pub mod RampTerm
@@ -22,4 +22,4 @@ pub mod Speed
 pub mod Service
 pub mod Assess
 pub mod Laws
-pub mod Starred
+pub mod Boundary

@@ -1,6 +1,6 @@
--- The starred figures (specs/Starred), shown.
---   starred-shown   each figure of the list is what document 01 prints
---   Shown-append    a longer list: what the layers above add
+-- The boundary sections (specs/Boundary), shown.
+--   boundary-shown   each figure of the list is what is to be shown
+--   Shown-append     a longer list: what the layers above add
 -- Assumes nothing.
 use mathlib.Core.Path.{_≡_, refl, ap, _∙_}
 use mathlib.Core.List.{List, [], _∷_, _++_}
@@ -19,7 +19,7 @@ use Rattle.method.specs.Flow.{flow, flowRate}
 use Rattle.method.specs.Speed.{fallShareBy, speed, shownSpeed}
 use Rattle.method.specs.Service.{density, shownDensity, densityLetter, letterAt, performance}
 use Rattle.method.specs.Assess.{measures}
-use Rattle.method.specs.Starred.{Figure, Shown, starredFigures}
+use Rattle.method.specs.Boundary.{Figure, Shown, boundaryFigures}
 use Rattle.method.proofs.RampLaws.{rampTerm-eq}
 
 pub Shown-append : (fs gs : List Figure) → Shown fs → Shown gs → Shown (fs ++ gs)
@@ -42,7 +42,46 @@ power-500 : power 500 ≡ 403321
 unfolding startsAt reachesPower
 power-500 = power-eq 500 403321 (omega arith) tt
 
-pub starred-shown : Shown starredFigures
-unfolding divUp laneWidthAdjustment perMissingFoot rightClearanceAdjustment totalClearance twoLaneRow totalClearanceAdjustment accessAdjustment estimatedBy uncappedBy freeFlowSpeed roadRefusals loadRefusals fieldRefusals speedRefusals refusals capacity breakpoint curveAt curveOf flow flowRate fallShareBy speed shownSpeed density shownDensity densityLetter letterAt performance measures starredFigures
-starred-shown =
-    (simp ramp-24, (simp (ramp-6, ramp-24, ramp-0), (refl, (refl, (refl, (refl, (refl, (refl, (simp power-500, (simp power-500, (refl, (refl, tt))))))))))))
+power-1000 : power 1000 ≡ 1000000
+unfolding startsAt reachesPower
+power-1000 = power-eq 1000 1000000 (omega arith) tt
+
+pub boundary-shown : Shown boundaryFigures
+unfolding divUp laneWidthAdjustment perMissingFoot rightClearanceAdjustment totalClearance twoLaneRow totalClearanceAdjustment accessAdjustment estimatedBy uncappedBy freeFlowSpeed roadRefusals loadRefusals fieldRefusals speedRefusals refusals capacity breakpoint curveAt curveOf flow flowRate fallShareBy speed shownSpeed density shownDensity densityLetter letterAt performance measures boundaryFigures
+boundary-shown = (
+  simp ramp-24,
+  (
+    simp (ramp-6, ramp-24, ramp-0),
+    (
+      refl,
+      (
+        refl,
+        (
+          refl,
+          (
+            refl,
+            (
+              refl,
+              (
+                refl,
+                (
+                  simp power-500,
+                  (
+                    simp power-500,
+                    (
+                      refl,
+                      (
+                        refl,
+                        (refl, (refl, (simp power-1000, (refl, tt)))),
+                      ),
+                    ),
+                  ),
+                ),
+              ),
+            ),
+          ),
+        ),
+      ),
+    ),
+  ),
+)

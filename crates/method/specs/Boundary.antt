@@ -1,7 +1,7 @@
--- The starred figures of document 01, "Boundary sections", as far as this layer can state them: one list, which the layers above make longer.
---   Figure          what the definitions give, and what document 01 prints
---   Shown fs        the two are the same for each figure of the list
---   starredFigures  the list
+-- The boundary sections of document 01, as far as this layer can state them: one list, which the layers above make longer.
+--   Figure           what the definitions give, and what is to be shown
+--   Shown fs         the two are the same for each figure of the list
+--   boundaryFigures  the list
 -- Assumes nothing.
 use mathlib.Core.Path.{_≡_}
 use mathlib.Core.List.{List, [], _∷_}
@@ -37,20 +37,21 @@ Shown (f ∷ fs) = (f .worked ≡ f .printed) × Shown fs
 abbrev densityAndLetter : Kind → ℕ → ℕ → List ℕ
 densityAndLetter kind f v = shownDensity (curveAt kind f) v ∷ letterNumber (letterAt (curveAt kind f) v) ∷ []
 
--- a road of given speed f, and with N = 2, H = 1,000, P = 0 and demand V a case of it
-abbrev given : Kind → ℕ → Road
-given kind f =
+-- a road of given speed f and lane width w
+abbrev given : Kind → ℕ → ℕ → Road
+given kind f w =
     record {
       kind = kind;
       way = Way.Given;
       speed = f;
-      «lane_width» = 120;
+      «lane_width» = w;
       «right_clearance» = 60;
       «left_clearance» = 60;
       median = Median.Divided;
       access = 0;
     }
 
+-- N = 2, H = 1,000, P = 0, level
 abbrev twoLanes : Road → ℕ → Case
 twoLanes road demand =
     record { road = road; lanes = 2; demand = demand; «peak_hour_factor» = 1000; «heavy_share» = 0; terrain = Terrain.Level }
@@ -91,19 +92,25 @@ multilane m =
       access = 10;
     }
 
--- letter, F, c, v, speed and density of a case that is accepted; its number where it is refused. A is 1 and F is 6.
-unfoldable pub starredFigures : List Figure
-starredFigures =
+-- Of a case that is accepted letter, F, c, v, speed and density, of one that is refused its number. A is 1 and F is 6.
+-- Starred in document 01: all down to the right clearance. Not starred: no demand; two letters that the shown speed would miss; a case
+-- that breaks 1 and 2.
+unfoldable pub boundaryFigures : List Figure
+boundaryFigures =
     figure (values (assessment example)) (3 ∷ 60783 ∷ 230783 ∷ 1196 ∷ 60783 ∷ 197 ∷ [])
     ∷ figure (rampTerm 6 ∷ rampTerm 24 ∷ rampTerm 0 ∷ []) (3220 ∷ 10317 ∷ 0 ∷ [])
     ∷ figure (densityAndLetter Kind.Freeway 75000 825) (110 ∷ 1 ∷ [])
     ∷ figure (densityAndLetter Kind.Freeway 75000 826) (111 ∷ 2 ∷ [])
-    ∷ figure (values (assessment (twoLanes (given Kind.Freeway 55000) 4500))) (5 ∷ 55000 ∷ 225000 ∷ 2250 ∷ 50000 ∷ 450 ∷ [])
-    ∷ figure (values (assessment (twoLanes (given Kind.Freeway 55000) 4501))) (6 ∷ 55000 ∷ 225000 ∷ 2251 ∷ 0 ∷ 0 ∷ [])
-    ∷ figure (refusalNumber (assessment (twoLanes (given Kind.Freeway 54999) 4500)) ∷ []) (10 ∷ [])
-    ∷ figure (values (assessment (twoLanes (given Kind.Multilane 60000) 2800))) (3 ∷ 60000 ∷ 220000 ∷ 1400 ∷ 60000 ∷ 234 ∷ [])
-    ∷ figure (values (assessment (twoLanes (given Kind.Multilane 60000) 3600))) (4 ∷ 60000 ∷ 220000 ∷ 1800 ∷ 55518 ∷ 325 ∷ [])
+    ∷ figure (values (assessment (twoLanes (given Kind.Freeway 55000 120) 4500))) (5 ∷ 55000 ∷ 225000 ∷ 2250 ∷ 50000 ∷ 450 ∷ [])
+    ∷ figure (values (assessment (twoLanes (given Kind.Freeway 55000 120) 4501))) (6 ∷ 55000 ∷ 225000 ∷ 2251 ∷ 0 ∷ 0 ∷ [])
+    ∷ figure (refusalNumber (assessment (twoLanes (given Kind.Freeway 54999 120) 4500)) ∷ []) (10 ∷ [])
+    ∷ figure (values (assessment (twoLanes (given Kind.Multilane 60000 120) 2800))) (3 ∷ 60000 ∷ 220000 ∷ 1400 ∷ 60000 ∷ 234 ∷ [])
+    ∷ figure (values (assessment (twoLanes (given Kind.Multilane 60000 120) 3600))) (4 ∷ 60000 ∷ 220000 ∷ 1800 ∷ 55518 ∷ 325 ∷ [])
     ∷ figure (power 500 ∷ []) (403321 ∷ [])
     ∷ figure (freeFlowSpeed (multilane Median.Divided) 2 ∷ freeFlowSpeed (multilane Median.Undivided) 2 ∷ []) (54300 ∷ 53600 ∷ [])
     ∷ figure (rightClearanceAdjustment 59 2 ∷ []) (600 ∷ [])
+    ∷ figure (values (assessment (twoLanes (given Kind.Freeway 55000 120) 0))) (1 ∷ 55000 ∷ 225000 ∷ 0 ∷ 55000 ∷ 0 ∷ [])
+    ∷ figure (values (assessment (twoLanes (given Kind.Freeway 55052 120) 3830))) (4 ∷ 55052 ∷ 225052 ∷ 1915 ∷ 54714 ∷ 350 ∷ [])
+    ∷ figure (values (assessment (twoLanes (given Kind.Multilane 45000 120) 3800))) (5 ∷ 45000 ∷ 190000 ∷ 1900 ∷ 42222 ∷ 450 ∷ [])
+    ∷ figure (refusalNumber (assessment (twoLanes (given Kind.Freeway 0 0) 0)) ∷ []) (1 ∷ [])
     ∷ []
