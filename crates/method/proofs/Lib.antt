@@ -6,6 +6,7 @@ pub mod RefusalLaws
 pub mod FreeFlowSpeedLaws
 pub mod CurveLaws
 pub mod FlowLaws
+pub mod TermsLaws
 pub mod FreewayLaws
 pub mod MultilaneLaws
 pub mod SpeedLaws

@@ -2,6 +2,7 @@
 --   density-le-iff     the density meets a limit exactly when 10,000v is at most the limit times S
 --   shownDensity-eq    up to capacity it is the shown density
 --   density-exact      it may be worked from any fraction of the value of S
+--   limit-exact        the test of a limit may be worked from any such fraction too
 --   density-mono       more flow at no higher speed: no less density
 --   density-le         up to capacity the density is at most 450
 --   density-zero       without flow it is 0
@@ -22,9 +23,9 @@ use lib.Dec.{leb}
 use Rattle.numbers.specs.declared.Fraction.{Fraction}
 use Rattle.numbers.specs.Division.{divUp}
 use Rattle.numbers.specs.Fraction.{over, whole, times, dividedBy, roundedUp, AtMost}
-use Rattle.numbers.proofs.DivisionLaws.{divUp-zero}
+use Rattle.numbers.proofs.DivisionLaws.{divUp-le-iff, divUp-zero}
 use Rattle.numbers.proofs.FractionLaws.{AtMost-trans, roundedUp-mono, roundedUp-eq, dividedBy-mono, quotient-le-iff}
-use Rattle.numbers.proofs.ChoiceLaws.{cond-le, le-cond, cond-leb-mono}
+use Rattle.numbers.proofs.ChoiceLaws.{leb-iff, cond-le, le-cond, cond-leb-mono}
 use Rattle.method.specs.declared.kind.Kind.{Kind}
 use Rattle.method.specs.declared.kind.Kind.the-variants as Kind
 use Rattle.method.specs.declared.curve.Curve.{Curve}
@@ -33,7 +34,7 @@ use Rattle.method.specs.declared.service.Letter.the-variants as Letter
 use Rattle.method.specs.Kinds.{lowestSpeed, highestSpeed}
 use Rattle.method.specs.Curves.{capacity, curveAt, WellFormed}
 use Rattle.method.specs.Speed.{speed, ExactSpeed}
-use Rattle.method.specs.Service.{density, shownDensity, densityLetter, letterAt, letterNumber}
+use Rattle.method.specs.Service.{density, shownDensity, densityLetter, letterAt, meetsLimit, letterNumber}
 use Rattle.method.proofs.CurveLaws.{capacity-mono, curveAt-wellFormed}
 use Rattle.method.proofs.SpeedLaws.{speed-numerator-pos, speed-denominator-pos, speed-antitone, capacitySpeed-le}
 use Rattle.method.proofs.FreewayLaws.{freewaySpeed-mono}
@@ -59,6 +60,16 @@ density-exact curve v s ok h exact =
   where
     crossed : (m a b x y : ℕ) → a * y ≡ x * b → m * b * (1 * x) ≡ m * y * a
     crossed m a b x y e = omega (arith, ap (λ n. m * n) e)
+
+pub limit-exact : (curve : Curve) (v limit : ℕ) (s : Fraction) → WellFormed curve → 100 * v ≤ curve .capacity → ExactSpeed curve v s
+    → leb (10000 * v * s .denominator) (limit * s .numerator) ≡ meetsLimit curve v limit
+unfolding meetsLimit
+limit-exact curve v limit s ok h exact =
+    let dense = density-exact curve v s ok h exact in
+    let iff = divUp-le-iff (10000 * v * s .denominator) (s .numerator) limit (exact .numerator-pos) in
+    simp (le-leb (100 * v) (curve .capacity) h)
+    (leb-iff (10000 * v * s .denominator) (limit * s .numerator) (density curve v) limit
+    (λ k. rw dense at (iff .1 k), λ k. iff .0 (rw dense k)))
 
 pub density-mono : (curve₁ curve₂ : Curve) (v w : ℕ) → WellFormed curve₁ → WellFormed curve₂
     → 100 * v ≤ curve₁ .capacity → 100 * w ≤ curve₂ .capacity → v ≤ w → AtMost (speed curve₂ w) (speed curve₁ v)

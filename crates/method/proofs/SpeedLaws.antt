@@ -12,7 +12,7 @@
 use mathlib.Core.Path.{_≡_, refl, sym, ap}
 use Prim.Native.Nat.{ℕ, _+_, _*_, _-_, _≤_, _<_}
 use native.Mathlib.Omega.{arith}
-use native.Mathlib.Nat.{mul-le-mul, mul-le-mul-left, mul-le-mul-right, mul-pos, mul-sub, mul-comm, zero-mul, mul-zero, le-refl, le-of-eq, lt-of-lt-of-le}
+use native.Mathlib.Nat.{mul-le-mul, mul-le-mul-left, mul-le-mul-right, mul-pos, mul-sub, mul-comm, zero-mul, mul-zero, le-refl, le-of-eq, le-trans, sub-le, lt-of-lt-of-le}
 use native.Mathlib.Decide.{decLe}
 use borrow.Author.Tests.{le-leb, lt-leb}
 use Rattle.numbers.specs.declared.Fraction.{Fraction}
@@ -192,13 +192,17 @@ capacitySpeed-le curve v ok h =
     (le-of-eq (sym (speed-reduced curve v ok)))
 
 -- ---- what 64 bits hold
-share-denominator-le-by : (kind : Kind) (curve : Curve) (v : ℕ) → Sized curve → fallShareBy kind curve v .denominator ≤ 19600000000
+share-denominator-le-by : (kind : Kind) (curve : Curve) (v : ℕ) → Sized curve → fallShareBy kind curve v .denominator ≤ 140000 * 140000
 unfolding fallShareBy
 share-denominator-le-by Kind.Freeway curve v sized = mul-le-mul {n₂ = 140000} {m₂ = 140000} (sized .span-le) (sized .span-le)
 share-denominator-le-by Kind.Multilane curve v sized = omega arith
 
-pub share-denominator-le : (curve : Curve) (v : ℕ) → Sized curve → fallShare curve v .denominator ≤ 19600000000
+pub share-denominator-le : (curve : Curve) (v : ℕ) → Sized curve → fallShare curve v .denominator ≤ 140000 * 140000
 share-denominator-le curve v sized = share-denominator-le-by (curve .kind) curve v sized
+
+reducedNumerator-le : (f c p q : ℕ) → f ≤ 75000 → q ≤ 140000 * 140000 → reducedNumerator f c p q ≤ 9 * 75000 * (140000 * 140000)
+unfolding reducedNumerator
+reducedNumerator-le f c p q h k = le-trans (sub-le (9 * f * q) ((9 * f - 2 * c) * p)) (mul-le-mul {n₂ = 675000} {m₂ = 19600000000} (omega arith) k)
 
 pub reducedSpeed-exact : (curve : Curve) (v : ℕ) → WellFormed curve → Sized curve → 100 * v ≤ curve .capacity → ExactSpeed curve v (reducedSpeed curve v)
 unfolding reducedSpeed
@@ -208,4 +212,5 @@ reducedSpeed-exact curve v ok sized h =
       denominator-pos = reducedSpeed-denominator-pos curve v ok;
       denominator-le = omega (arith, share-denominator-le curve v sized);
       numerator-pos = reducedSpeed-pos curve v ok h;
+      numerator-le = reducedNumerator-le (curve .«free_flow_speed») (curve .capacity) (fallShare curve v .numerator) (fallShare curve v .denominator) (sized .speed-le) (share-denominator-le curve v sized);
     }

@@ -7,6 +7,7 @@
 --   Curves          capacity, breakpoint, the curve of a case
 --   Flow            the flow rate
 --   Speed           S as an exact fraction, and as it is shown
+--   Terms           what the code works out once a curve
 --   Service         density and letter
 --   Assess          what a case gets, or its refusal
 --   Laws            the laws of the method, stated
@@ -19,6 +20,7 @@ pub mod Refusals
 pub mod Curves
 pub mod Flow
 pub mod Speed
+pub mod Terms
 pub mod Service
 pub mod Assess
 pub mod Laws

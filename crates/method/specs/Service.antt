@@ -4,12 +4,14 @@
 --   shownDensity curve v   the same; 0 above capacity
 --   densityLetter d        the letter of a density up to capacity
 --   letterAt curve v       the letter; F above capacity
+--   meetsLimit curve v l   up to capacity, with a density of at most l
+--   densityLimit n         the greatest density of letter number n, A to E
 --   letterNumber l         A is 1, the best, F is 6, the worst
 --   performance curve v    speed and density as they are shown, and the letter
 -- Assumes nothing.
 use Prim.Native.Nat.{ℕ, _*_}
-use mathlib.Core.Bool.{cond}
-use lib.Dec.{leb}
+use mathlib.Core.Bool.{Bool, cond, _&&_}
+use lib.Dec.{leb, eqb}
 use Rattle.numbers.specs.Fraction.{whole, dividedBy, roundedUp}
 use Rattle.method.specs.declared.curve.Curve.{Curve}
 use Rattle.method.specs.declared.service.Letter.{Letter}
@@ -34,6 +36,13 @@ densityLetter d =
 
 unfoldable pub letterAt : Curve → ℕ → Letter
 letterAt curve v = cond (leb (100 * v) (curve .capacity)) (densityLetter (density curve v)) Letter.F
+
+unfoldable pub meetsLimit : Curve → ℕ → ℕ → Bool
+meetsLimit curve v limit = leb (100 * v) (curve .capacity) && leb (density curve v) limit
+
+-- "density to 110 is A, 180 B, 260 C, 350 D, 450 E"
+unfoldable pub densityLimit : ℕ → ℕ
+densityLimit n = cond (eqb n 1) 110 (cond (eqb n 2) 180 (cond (eqb n 3) 260 (cond (eqb n 4) 350 450)))
 
 -- "Letters run from A, the best, to F, the worst"
 abbrev pub letterNumber : Letter → ℕ

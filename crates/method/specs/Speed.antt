@@ -48,3 +48,4 @@ pub record ExactSpeed (curve : Curve) (v : ℕ) (s : Fraction) : Type 0 where
   pub denominator-pos : 0 < s .denominator
   pub denominator-le : s .denominator ≤ 9 * (140000 * 140000)
   pub numerator-pos : 0 < s .numerator
+  pub numerator-le : s .numerator ≤ 9 * 75000 * (140000 * 140000)

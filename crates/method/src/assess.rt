@@ -1,6 +1,7 @@
 // From a case to what it gets, or to its refusal.
 //   Measures     the curve of an accepted case, its flow rate, and what that gets on the curve
 //   Assessment   measures or a refusal
+//   measured     of an accepted case, with the terms of its curve
 //   assess       for any case at all
 use crate::case::Case;
 use crate::curve;
@@ -9,9 +10,12 @@ use crate::curve::Curve;
 use crate::flow;
 use crate::service;
 use crate::service::Performance;
+use crate::speed;
+use crate::speed::CurveTerms;
 ghost use mathlib.Core.Path.{_≡_};
 ghost use Rattle.method.specs.Curves.{curveOf};
 ghost use Rattle.method.specs.Refusals.{Accepted};
+ghost use Rattle.method.specs.Terms.{curveTerms};
 ghost use Rattle.method.specs.Assess.{measures, assessment};
 
 pub struct Measures {
@@ -25,15 +29,17 @@ pub enum Assessment {
     Refused(u64),
 }
 
-fn measured(case: Case, curve: Curve) -> Measures
-    requires { ⌜ Accepted case × (curve ≡ curveOf (case .road) (case .lanes)) ⌝ }
+// Of an accepted case, with the terms of its curve.
+pub fn measured(case: Case, terms: CurveTerms) -> Measures
+    requires { ⌜ Accepted case × (terms ≡ curveTerms (curveOf (case .road) (case .lanes))) ⌝ }
     ensures { λ r. ⌜ r ≡ measures case ⌝ }
 {
+    let curve = terms.curve;
     let flow_rate = flow::flow_rate(case);
     Measures {
         curve,
         flow_rate,
-        performance: service::performance_at(curve, flow_rate),
+        performance: service::performance_at(terms, flow_rate),
     }
 }
 
@@ -42,7 +48,9 @@ pub fn assess(case: Case) -> Assessment
 {
     let checked = curve::check(case);
     match checked {
-        Checked::Accepted(curve) => Assessment::Measured(measured(case, curve)),
+        Checked::Accepted(curve) => {
+            Assessment::Measured(measured(case, speed::terms_of(curve)))
+        }
         Checked::Refused(number) => Assessment::Refused(number),
     }
 }

@@ -7,7 +7,7 @@
 //   refusal      refusals 1 to 9, their numbers and 10's
 //   curve        capacity, breakpoint, the curve of a case or its refusal
 //   flow         flow rate
-//   speed        speed as an exact fraction
+//   speed        the terms of a curve, and speed as an exact fraction
 //   service      speed and density as they are shown, and the letter
 //   assess       from a case to its measures or its refusal
 mod adjustment;
@@ -21,4 +21,4 @@ mod ramp;
 mod ramp_table;
 pub mod refusal;
 pub mod service;
-mod speed;
+pub mod speed;

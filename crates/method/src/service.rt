@@ -2,11 +2,13 @@
 //   Letter           A to F
 //   Performance      speed and density as they are shown, and the letter
 //   performance_at   the three at a flow rate
-use crate::curve::Curve;
-use crate::speed::exact_speed;
+//   meets_limit      whether a flow rate keeps to capacity and to a density
+//   density_limit    the greatest density of a letter
+use crate::speed::{CurveTerms, exact_speed};
 ghost use mathlib.Core.Path.{_≡_};
-ghost use Rattle.method.specs.Curves.{WellFormed, Sized};
-ghost use Rattle.method.specs.Service.{densityLetter, performance};
+ghost use Prim.Native.Nat.{_≤_};
+ghost use Rattle.method.specs.Terms.{Prepared};
+ghost use Rattle.method.specs.Service.{densityLetter, performance, meetsLimit, densityLimit};
 
 pub enum Letter {
     A,
@@ -39,22 +41,47 @@ fn density_letter(density: u64) -> Letter
 }
 
 // At any flow rate v.
-pub fn performance_at(curve: Curve, v: u64) -> Performance
-    requires { ⌜ WellFormed curve × Sized curve ⌝ }
-    ensures { λ r. ⌜ r ≡ performance curve v ⌝ }
+pub fn performance_at(terms: CurveTerms, v: u64) -> Performance
+    requires { ⌜ Prepared terms ⌝ }
+    ensures { λ r. ⌜ r ≡ performance (terms .curve) v ⌝ }
 {
-    if curve.capacity / 100 < v {
+    if terms.most_flow < v {
         return Performance {
             speed: 0,
             density: 0,
             letter: Letter::F,
         };
     }
-    let exact = exact_speed(curve, v);
+    let exact = exact_speed(terms, v);
     let density = numbers::div_up(10_000 * v * exact.denominator, exact.numerator);
     Performance {
         speed: exact.numerator / exact.denominator,
         density,
         letter: density_letter(density),
+    }
+}
+
+// The same question as a letter's, with no division on kind F: up to capacity, with a density of at most the limit.
+pub fn meets_limit(terms: CurveTerms, v: u64, limit: u64) -> bool
+    requires { ⌜ Prepared terms × (limit ≤ 450) ⌝ }
+    ensures { λ r. ⌜ r ≡ meetsLimit (terms .curve) v limit ⌝ }
+{
+    if terms.most_flow < v {
+        return false;
+    }
+    let exact = exact_speed(terms, v);
+    10_000 * v * exact.denominator <= limit * exact.numerator
+}
+
+// The greatest density that gets a letter or a better one, A to D by their numbers 1 to 4, and E.
+pub fn density_limit(letter: u64) -> u64
+    ensures { λ r. ⌜ r ≡ densityLimit letter ⌝ }
+{
+    match letter {
+        1 => 110,
+        2 => 180,
+        3 => 260,
+        4 => 350,
+        _ => 450,
     }
 }

@@ -1,4 +1,6 @@
 // Speed on a curve, as an exact fraction of thousandths of mi/h.
+//   CurveTerms    a curve with what its speeds have in common
+//   terms_of      the terms of a curve, worked out once
 //   exact_speed   S at a flow rate up to capacity, in the form that 64 bits hold
 use crate::curve::Curve;
 use crate::kind::Kind;
@@ -7,6 +9,48 @@ ghost use mathlib.Core.Path.{_≡_};
 ghost use Prim.Native.Nat.{_*_, _-_, _≤_};
 ghost use Rattle.method.specs.Curves.{WellFormed, Sized};
 ghost use Rattle.method.specs.Speed.{beyondBreakpoint, fallShare, ExactSpeed};
+ghost use Rattle.method.specs.Terms.{fallWhole, curveTerms, Prepared};
+
+pub struct CurveTerms {
+    pub curve: Curve,
+    // the greatest flow rate up to capacity
+    pub most_flow: u64,
+    // c - b
+    pub span: u64,
+    // the denominator of w
+    pub whole: u64,
+    // 9F times that
+    pub free: u64,
+    // 9F - 2c
+    pub fall: u64,
+}
+
+fn fall_whole(kind: Kind, span: u64) -> u64
+    requires { ⌜ span ≤ 140000 ⌝ }
+    ensures { λ r. ⌜ r ≡ fallWhole kind span ⌝ }
+{
+    match kind {
+        Kind::Freeway => span * span,
+        Kind::Multilane => 1_000_000,
+    }
+}
+
+pub fn terms_of(curve: Curve) -> CurveTerms
+    requires { ⌜ WellFormed curve × Sized curve ⌝ }
+    ensures { λ r. ⌜ r ≡ curveTerms curve ⌝ }
+{
+    let kind = curve.kind;
+    let span = curve.capacity - curve.breakpoint;
+    let whole = fall_whole(kind, span);
+    CurveTerms {
+        curve,
+        most_flow: curve.capacity / 100,
+        span,
+        whole,
+        free: 9 * curve.free_flow_speed * whole,
+        fall: 9 * curve.free_flow_speed - 2 * curve.capacity,
+    }
+}
 
 fn beyond_breakpoint(curve: Curve, v: u64) -> u64
     requires { ⌜ Sized curve × (100 * v ≤ curve .capacity) ⌝ }
@@ -19,34 +63,27 @@ fn beyond_breakpoint(curve: Curve, v: u64) -> u64
     flow - curve.breakpoint
 }
 
-fn fall_share(curve: Curve, v: u64) -> Fraction
-    requires { ⌜ WellFormed curve × (Sized curve × (100 * v ≤ curve .capacity)) ⌝ }
-    ensures { λ r. ⌜ r ≡ fallShare curve v ⌝ }
+// The numerator of w.
+fn fallen(terms: CurveTerms, v: u64) -> u64
+    requires { ⌜ Prepared terms × (100 * v ≤ terms .curve .capacity) ⌝ }
+    ensures { λ r. ⌜ r ≡ fallShare (terms .curve) v .numerator ⌝ }
 {
+    let curve = terms.curve;
     let kind = curve.kind;
     let beyond = beyond_breakpoint(curve, v);
-    let span = curve.capacity - curve.breakpoint;
     match kind {
-        Kind::Freeway => Fraction {
-            numerator: beyond * beyond,
-            denominator: span * span,
-        },
-        Kind::Multilane => Fraction {
-            numerator: powers::power(numbers::div_up(1_000 * beyond, span)),
-            denominator: 1_000_000,
-        },
+        Kind::Freeway => beyond * beyond,
+        Kind::Multilane => powers::power(numbers::div_up(1_000 * beyond, terms.span)),
     }
 }
 
 // F - (F - 2c/9) x w, over 9 times the denominator of w.
-pub(crate) fn exact_speed(curve: Curve, v: u64) -> Fraction
-    requires { ⌜ WellFormed curve × (Sized curve × (100 * v ≤ curve .capacity)) ⌝ }
-    ensures { λ r. ⌜ ExactSpeed curve v r ⌝ }
+pub(crate) fn exact_speed(terms: CurveTerms, v: u64) -> Fraction
+    requires { ⌜ Prepared terms × (100 * v ≤ terms .curve .capacity) ⌝ }
+    ensures { λ r. ⌜ ExactSpeed (terms .curve) v r ⌝ }
 {
-    let share = fall_share(curve, v);
-    let free = 9 * curve.free_flow_speed;
     Fraction {
-        numerator: free * share.denominator - (free - 2 * curve.capacity) * share.numerator,
-        denominator: 9 * share.denominator,
+        numerator: terms.free - terms.fall * fallen(terms, v),
+        denominator: 9 * terms.whole,
     }
 }

@@ -1,16 +1,26 @@
 -- A choice by a test, `cond`, and the order of what it gives.
+--   leb-iff             tests of facts that hold together are equal
 --   cond-le             both outcomes are at most z: so is the choice
 --   le-cond             both outcomes are at least z: so is the choice
 --   cond-leb-mono       x ≤ limit, else worse: with a larger x no less
 --   cond-leb-antitone   x ≤ limit, else smaller: with a larger x no more
 -- Assumes nothing.
 use mathlib.Core.Bool.{Bool, true, false, cond}
+use mathlib.Core.Path.{_≡_}
+use mathlib.Core.Logic.{_↔_}
 use Prim.Native.Nat.{ℕ, _≤_}
 use native.Mathlib.Omega.{arith}
 use native.Mathlib.Nat.{le-refl, le-trans}
 use native.Mathlib.Decide.{decLe}
 use borrow.Author.Tests.{le-leb, lt-leb}
 use lib.Dec.{leb}
+
+pub leb-iff : (a b c d : ℕ) → (a ≤ b) ↔ (c ≤ d) → leb a b ≡ leb c d
+leb-iff a b c d e = go (decLe a b)
+  where
+    go : Dec (a ≤ b) → leb a b ≡ leb c d
+    go (yes h) = simp (le-leb a b h, le-leb c d (e .0 h))
+    go (no h) = let not : c ≤ d → ⊥ = λ k. h (e .1 k) in simp (lt-leb a b (omega arith), lt-leb c d (omega arith))
 
 pub cond-le : (b : Bool) {x y z : ℕ} → x ≤ z → y ≤ z → cond b x y ≤ z
 cond-le true h k = h

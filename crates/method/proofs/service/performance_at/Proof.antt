@@ -8,6 +8,7 @@ use Rattle.numbers.proofs.FractionLaws.{roundedDown-eq}
 use Rattle.method.specs.Speed.{speed, shownSpeed}
 use Rattle.method.specs.Service.{density, shownDensity, densityLetter, letterAt, performance}
 use Rattle.method.proofs.SpeedLaws.{speed-denominator-pos}
+use Rattle.method.proofs.TermsLaws.{terms-facts}
 use Rattle.method.proofs.ServiceLaws.{density-exact}
 use borrow.Author.Needs.{needs}
 use native.Mathlib.Omega.{arith}
@@ -16,22 +17,24 @@ use Rattle.method.proofs.service.performance_at.Tie as tie
 
 returns : tie.Need-returns
 unfolding performance shownSpeed shownDensity letterAt
-returns c = simp (lt-leb (100 * c .before .before .args .v) (c .before .before .args .curve .capacity) (omega arith))
+returns c =
+    let terms = c .before .before .args .terms in
+    simp (lt-leb (100 * c .before .before .args .v) (terms .curve .capacity) (omega (arith, terms-facts terms (c .before .before .pre) .most-eq)))
 
 exact-speed-requires : tie.Need-exact-speed-requires
-exact-speed-requires c κs = search needs
+exact-speed-requires c κs = (c .before .before .pre, omega (arith, terms-facts (c .before .before .args .terms) (c .before .before .pre) .most-eq))
 
 mul-div-up : tie.Need-mul-div-up
-mul-div-up c = search needs
+mul-div-up c = omega (arith, terms-facts (c .before .before .before .args .terms) (c .before .before .before .pre) .most-eq, c .before .before .before .pre .sized .capacity-le)
 
 mul-div-up-2 : tie.Need-mul-div-up-2
-mul-div-up-2 c = record { fits = product-fits 24000000 176400000000 (omega arith) (c .before .exact-speed .ensures .denominator-le) tt }
+mul-div-up-2 c = record { fits = product-fits 24000000 176400000000 (omega (arith, terms-facts (c .before .before .before .before .args .terms) (c .before .before .before .before .pre) .most-eq, c .before .before .before .before .pre .sized .capacity-le)) (c .before .exact-speed .ensures .denominator-le) tt }
 
 div-up-requires : tie.Need-div-up-requires
 div-up-requires c κs = search needs
 
-div-t5 : tie.Need-div-t5
-div-t5 c = search needs
+div-t7 : tie.Need-div-t7
+div-t7 c = search needs
 
 density-letter-requires : tie.Need-density-letter-requires
 density-letter-requires c κs = search needs
@@ -39,11 +42,11 @@ density-letter-requires c κs = search needs
 returns-2 : tie.Need-returns-2
 unfolding performance shownSpeed shownDensity letterAt
 returns-2 c =
-    let curve = c .before .before .before .before .before .before .before .args .curve in
+    let curve = c .before .before .before .before .before .before .before .args .terms .curve in
     let v = c .before .before .before .before .before .before .before .args .v in
     let exact = c .before .before .before .before .exact-speed in
-    let ok = c .before .before .before .before .before .before .before .pre .0 in
-    let up : 100 * v ≤ curve .capacity = omega arith in
+    let ok = c .before .before .before .before .before .before .before .pre .well-formed in
+    let up : 100 * v ≤ curve .capacity = omega (arith, terms-facts (c .before .before .before .before .before .before .before .args .terms) (c .before .before .before .before .before .before .before .pre) .most-eq) in
     let dense : c .before .before .div-up .result ≡ density curve v = c .before .before .div-up .ensures ∙ density-exact curve v (exact .result) ok up (exact .ensures) in
     simp (
       le-leb (100 * v) (curve .capacity) up,
@@ -61,6 +64,6 @@ performance-at-spec =
     mul-div-up
     mul-div-up-2
     div-up-requires
-    div-t5
+    div-t7
     density-letter-requires
     returns-2)

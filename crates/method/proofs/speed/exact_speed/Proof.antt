@@ -1,58 +1,33 @@
--- `method::speed::exact_speed` meets its contract: the result is reducedSpeed of proofs/SpeedLaws, whose value is S.
+-- `method::speed::exact_speed` meets its contract: it is the speed of proofs/TermsLaws, whose value is S.
 -- Assumes nothing.
-use native.Mathlib.Nat.{mul-le-mul, le-trans}
+use native.Mathlib.Nat.{le-trans}
 use Rattle.numbers.proofs.ProductLaws.{product-fits}
-use Rattle.method.proofs.SpeedLaws.{share-le, share-denominator-le, reducedNumerator, reducedSpeed, reducedSpeed-exact}
+use Rattle.method.proofs.TermsLaws.{terms-ends, terms-exact}
 use borrow.Author.Needs.{needs}
 use native.Mathlib.Omega.{arith}
 use Rattle.method.proofs.speed.exact_speed.Statement.{statement}
 use Rattle.method.proofs.speed.exact_speed.Tie as tie
 
-fall-share-requires : tie.Need-fall-share-requires
-fall-share-requires c κs = search needs
+fallen-requires : tie.Need-fallen-requires
+fallen-requires c κs = search needs
 
-mul-free : tie.Need-mul-free
-mul-free c = search needs
+mul-t4 : tie.Need-mul-t4
+mul-t4 c =
+    let ends = terms-ends (c .before .before .args .terms) (c .before .before .args .v) (c .before .before .pre .0) (c .before .before .pre .1) in
+    rw (c .before .fallen .ensures) (record { fits = product-fits 675000 19600000000 (ends .fall-le) (le-trans (ends .fallen-le) (ends .whole-le)) tt })
 
-mul-t5 : tie.Need-mul-t5
-mul-t5 c =
-    let curve = c .before .before .before .args .curve in
-    let v = c .before .before .before .args .v in
-    rw (c .before .before .fall-share .ensures) (record { fits = product-fits 675000 19600000000 (omega arith) (share-denominator-le curve v (c .before .before .before .pre .1 .0)) tt })
+sub-t5 : tie.Need-sub-t5
+sub-t5 c =
+    let ends = terms-ends (c .before .before .before .args .terms) (c .before .before .before .args .v) (c .before .before .before .pre .0) (c .before .before .before .pre .1) in
+    rw (c .before .before .fallen .ensures) (ends .fall-free)
 
 mul-t6 : tie.Need-mul-t6
-mul-t6 c = search needs
-
-sub-t7 : tie.Need-sub-t7
-sub-t7 c = search needs
-
-mul-t8 : tie.Need-mul-t8
-mul-t8 c =
-    let curve = c .before .before .before .before .before .args .curve in
-    let v = c .before .before .before .before .before .args .v in
-    let low = share-le curve v (c .before .before .before .before .before .pre .0) (c .before .before .before .before .before .pre .1 .1) in
-    rw (c .before .before .before .before .fall-share .ensures) (record { fits = product-fits 675000 19600000000 (omega arith) (le-trans low (share-denominator-le curve v (c .before .before .before .before .before .pre .1 .0))) tt })
-
-sub-t9 : tie.Need-sub-t9
-sub-t9 c =
-    let curve = c .before .before .before .before .before .args .curve in
-    let v = c .before .before .before .before .before .args .v in
-    rw (c .before .before .before .before .fall-share .ensures) (mul-le-mul (omega arith) (share-le curve v (c .before .before .before .before .before .pre .0) (c .before .before .before .before .before .pre .1 .1)))
-
-mul-t10 : tie.Need-mul-t10
-mul-t10 c =
-    let curve = c .before .before .before .before .before .before .args .curve in
-    let v = c .before .before .before .before .before .before .args .v in
-    rw (c .before .before .before .before .before .fall-share .ensures) (omega (arith, share-denominator-le curve v (c .before .before .before .before .before .before .pre .1 .0)))
+mul-t6 c =
+    let ends = terms-ends (c .before .before .before .before .args .terms) (c .before .before .before .before .args .v) (c .before .before .before .before .pre .0) (c .before .before .before .before .pre .1) in
+    omega (arith, ends .whole-le)
 
 returns : tie.Need-returns
-unfolding reducedSpeed reducedNumerator
-returns c =
-    let curve = c .before .before .before .before .before .before .args .curve in
-    let v = c .before .before .before .before .before .before .args .v in
-    rw (c .before .before .before .before .before .fall-share .ensures) (reducedSpeed-exact curve v (c .before .before .before .before .before .before .pre .0) (c .before .before .before .before .before .before .pre .1 .0) (c .before .before .before .before .before .before .pre .1 .1))
+returns c = rw (c .before .before .before .fallen .ensures) (terms-exact (c .before .before .before .before .args .terms) (c .before .before .before .before .args .v) (c .before .before .before .before .pre .0) (c .before .before .before .before .pre .1))
 
 pub exact-speed-spec : {M : Type 1} → statement M
-exact-speed-spec =
-    tie.close
-    (tie.spec fall-share-requires mul-free mul-t5 mul-t6 sub-t7 mul-t8 sub-t9 mul-t10 returns)
+exact-speed-spec = tie.close (tie.spec fallen-requires mul-t4 sub-t5 mul-t6 returns)
