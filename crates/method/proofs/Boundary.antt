@@ -15,7 +15,7 @@ use Rattle.method.specs.RampTerm.{rampAtMost, rampTerm}
 use Rattle.method.specs.FreeFlowSpeed.{estimatedBy, uncappedBy, freeFlowSpeed}
 use Rattle.method.specs.Refusals.{roadRefusals, loadRefusals, fieldRefusals, speedRefusals, refusals}
 use Rattle.method.specs.Curves.{capacity, breakpoint, curveAt, curveOf}
-use Rattle.method.specs.Flow.{flow, flowRate}
+use Rattle.method.specs.Flow.{heavyFactor, flowRate}
 use Rattle.method.specs.Speed.{fallShareBy, speed, shownSpeed}
 use Rattle.method.specs.Service.{density, shownDensity, densityLetter, letterAt, performance}
 use Rattle.method.specs.Assess.{measures}
@@ -47,7 +47,7 @@ unfolding startsAt reachesPower
 power-1000 = power-eq 1000 1000000 (omega arith) tt
 
 pub boundary-shown : Shown boundaryFigures
-unfolding divUp laneWidthAdjustment perMissingFoot rightClearanceAdjustment totalClearance twoLaneRow totalClearanceAdjustment accessAdjustment estimatedBy uncappedBy freeFlowSpeed roadRefusals loadRefusals fieldRefusals speedRefusals refusals capacity breakpoint curveAt curveOf flow flowRate fallShareBy speed shownSpeed density shownDensity densityLetter letterAt performance measures boundaryFigures
+unfolding divUp laneWidthAdjustment perMissingFoot rightClearanceAdjustment totalClearance twoLaneRow totalClearanceAdjustment accessAdjustment estimatedBy uncappedBy freeFlowSpeed roadRefusals loadRefusals fieldRefusals speedRefusals refusals capacity breakpoint curveAt curveOf heavyFactor flowRate fallShareBy speed shownSpeed density shownDensity densityLetter letterAt performance measures boundaryFigures
 boundary-shown = (
   simp ramp-24,
   (

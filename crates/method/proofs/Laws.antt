@@ -7,7 +7,6 @@ use Rattle.method.specs.declared.case.Road.{Road}
 use Rattle.method.specs.declared.case.Case.{Case}
 use Rattle.method.specs.Adjustments.{totalClearance}
 use Rattle.method.specs.RampTerm.{rampAtMost, rampTerm}
-use Rattle.method.specs.Flow.{truckEquivalent, flowRate}
 use Rattle.method.specs.Curves.{curveOf}
 use Rattle.method.specs.Service.{performance}
 use Rattle.method.specs.Assess.{measures}
@@ -16,7 +15,7 @@ use Rattle.method.proofs.RampLaws.{rampTerm-rule}
 use Rattle.method.proofs.RefusalLaws.{roadFits, accepted-parts}
 use Rattle.method.proofs.FreeFlowSpeedLaws.{freewayTerms-le, multilaneTerms-le, freeFlowSpeed-mono}
 use Rattle.method.proofs.CurveLaws.{capacity-within, curveOf-wellFormed, curveOf-sized}
-use Rattle.method.proofs.FlowLaws.{flow-mono, flow-zero, flowRate-parts}
+use Rattle.method.proofs.FlowLaws.{flowRate-mono, flowRate-zero, flowRate-parts}
 use Rattle.method.proofs.SpeedLaws.{speed-numerator-pos, speed-denominator-pos, speed-antitone, capacitySpeed-le}
 use Rattle.method.proofs.ServiceLaws.{density-le-iff, shownDensity-eq, density-mono, density-le, letterAt-mono, letterAt-zero, speed-mono}
 use Rattle.method.proofs.AssessLaws.{assessment-refusal}
@@ -65,16 +64,12 @@ pub letter-never-better : LetterNeverBetter
 letter-never-better = letterAt-mono
 
 pub flow-rate-never-falls-with-load : FlowRateNeverFallsWithLoad
-unfolding flowRate
-flow-rate-never-falls-with-load c d z hd hs he hh hn =
-    flow-mono (c .demand) (c .«heavy_share») (truckEquivalent (c .terrain)) (c .«peak_hour_factor») (c .lanes)
-    (d .demand) (d .«heavy_share») (truckEquivalent (d .terrain)) (d .«peak_hour_factor») (d .lanes)
-    (flowRate-parts d z .divisor-pos) hd hs he hh hn
+flow-rate-never-falls-with-load c d z = flowRate-mono c d (flowRate-parts d z .divisor-pos)
 
 pub no-demand-gets-a : NoDemandGetsA
-unfolding flowRate measures performance
+unfolding measures performance
 no-demand-gets-a case a e =
-    rw (e, flow-zero (case .«heavy_share») (truckEquivalent (case .terrain)) (case .«peak_hour_factor») (case .lanes) (flowRate-parts case (accepted-parts case a .0) .divisor-pos))
+    rw (flowRate-zero case (flowRate-parts case (accepted-parts case a .0) .divisor-pos) e)
     (letterAt-zero (curveOf (case .road) (case .lanes)) (curveOf-wellFormed case a))
 
 pub refused-by-the-list : RefusedByTheList

@@ -7,6 +7,8 @@
 --   density-le         up to capacity the density is at most 450
 --   density-zero       without flow it is 0
 --   densityLetter-mono, densityLetter-last   a greater density gets no better letter; none is past F
+--   letterAt-le-iff    it is letter l or better exactly when the flow keeps to capacity and to the letter's density
+--   meetsLimit-zero, meetsLimit-down   no flow meets every limit; less flow meets what more meets
 --   letterAt-mono      more flow, or a lower free-flow speed: no better letter
 --   letterAt-zero      without flow the letter is A
 --   speed-mono         with a higher free-flow speed the speed never falls, of either kind
@@ -14,17 +16,18 @@
 use mathlib.Core.Path.{_≡_, refl, ap}
 use mathlib.Core.Bool.{Bool, true, false, cond}
 use mathlib.Core.Logic.{_↔_}
-use Prim.Native.Nat.{ℕ, _*_, _≤_, _<_}
+use Prim.Native.Nat.{ℕ, zero, suc, _*_, _≤_, _<_}
 use native.Mathlib.Omega.{arith}
 use native.Mathlib.Nat.{le-trans, le-refl, zero-mul, mul-pos, mul-le-mul-right}
 use native.Mathlib.Decide.{decLe}
 use borrow.Author.Tests.{le-leb, lt-leb}
-use lib.Dec.{leb}
+use lib.Dec.{T, leb, leb→le, le→leb}
 use Rattle.numbers.specs.declared.Fraction.{Fraction}
 use Rattle.numbers.specs.Division.{divUp}
 use Rattle.numbers.specs.Fraction.{over, whole, times, dividedBy, roundedUp, AtMost}
 use Rattle.numbers.proofs.DivisionLaws.{divUp-le-iff, divUp-zero}
 use Rattle.numbers.proofs.FractionLaws.{AtMost-trans, roundedUp-mono, roundedUp-eq, dividedBy-mono, quotient-le-iff}
+use Rattle.numbers.proofs.TableLaws.{and-left, and-right}
 use Rattle.numbers.proofs.ChoiceLaws.{leb-iff, cond-le, le-cond, cond-leb-mono}
 use Rattle.method.specs.declared.kind.Kind.{Kind}
 use Rattle.method.specs.declared.kind.Kind.the-variants as Kind
@@ -34,7 +37,7 @@ use Rattle.method.specs.declared.service.Letter.the-variants as Letter
 use Rattle.method.specs.Kinds.{lowestSpeed, highestSpeed}
 use Rattle.method.specs.Curves.{capacity, curveAt, WellFormed}
 use Rattle.method.specs.Speed.{speed, ExactSpeed}
-use Rattle.method.specs.Service.{density, shownDensity, densityLetter, letterAt, meetsLimit, letterNumber}
+use Rattle.method.specs.Service.{density, shownDensity, densityLetter, letterAt, meetsLimit, densityLimit, letterNumber}
 use Rattle.method.proofs.CurveLaws.{capacity-mono, curveAt-wellFormed}
 use Rattle.method.proofs.SpeedLaws.{speed-numerator-pos, speed-denominator-pos, speed-antitone, capacitySpeed-le}
 use Rattle.method.proofs.FreewayLaws.{freewaySpeed-mono}
@@ -125,6 +128,47 @@ letterNumber-le Letter.F = omega arith
 pub letterAt-zero : (curve : Curve) → WellFormed curve → letterAt curve 0 ≡ Letter.A
 unfolding letterAt densityLetter
 letterAt-zero curve ok = simp (le-leb (100 * 0) (curve .capacity) (omega arith), density-zero curve ok)
+
+grade-iff : (d l limit : ℕ) → gradeNumber limit ≡ l → gradeNumber (suc limit) ≡ suc l → (gradeNumber d ≤ l) ↔ (d ≤ limit)
+grade-iff d l limit at next = (back (decLe d limit), λ h. omega (arith, gradeNumber-mono d limit h))
+  where
+    back : Dec (d ≤ limit) → gradeNumber d ≤ l → d ≤ limit
+    back (yes h) k = h
+    back (no h) k = absurd (omega (arith, gradeNumber-mono (suc limit) d (omega arith)))
+
+-- the limits of A to E
+limit-iff : (d l : ℕ) → 1 ≤ l → l ≤ 5 → (gradeNumber d ≤ l) ↔ (d ≤ densityLimit l)
+unfolding gradeNumber densityLimit
+limit-iff d zero h k = absurd (omega arith)
+limit-iff d (suc zero) h k = grade-iff d 1 110 refl refl
+limit-iff d (suc (suc zero)) h k = grade-iff d 2 180 refl refl
+limit-iff d (suc (suc (suc zero))) h k = grade-iff d 3 260 refl refl
+limit-iff d (suc (suc (suc (suc zero)))) h k = grade-iff d 4 350 refl refl
+limit-iff d (suc (suc (suc (suc (suc zero))))) h k = grade-iff d 5 450 refl refl
+limit-iff d (suc (suc (suc (suc (suc (suc l)))))) h k = absurd (omega arith)
+
+pub letterAt-le-iff : (curve : Curve) (v l : ℕ) → 1 ≤ l → l ≤ 5 → (letterNumber (letterAt curve v) ≤ l) ↔ T (meetsLimit curve v (densityLimit l))
+unfolding letterAt meetsLimit
+letterAt-le-iff curve v l h k = go (decLe (100 * v) (curve .capacity))
+  where
+    go : Dec (100 * v ≤ curve .capacity) → (letterNumber (letterAt curve v) ≤ l) ↔ T (meetsLimit curve v (densityLimit l))
+    go (yes c) =
+        let iff = limit-iff (density curve v) l h k in
+        simp (le-leb (100 * v) (curve .capacity) c, densityLetter-number (density curve v))
+        (λ e. le→leb (density curve v) (densityLimit l) (iff .0 e), λ e. iff .1 (leb→le (density curve v) (densityLimit l) e))
+    go (no c) = simp (lt-leb (100 * v) (curve .capacity) (omega arith)) (λ e. absurd (omega arith), λ e. absurd e)
+
+pub meetsLimit-zero : (curve : Curve) (limit : ℕ) → WellFormed curve → T (meetsLimit curve 0 limit)
+unfolding meetsLimit
+meetsLimit-zero curve limit ok = simp (le-leb (100 * 0) (curve .capacity) (omega arith), density-zero curve ok, le-leb 0 limit (omega arith)) tt
+
+pub meetsLimit-down : (curve : Curve) (v w limit : ℕ) → WellFormed curve → v ≤ w → T (meetsLimit curve w limit) → T (meetsLimit curve v limit)
+unfolding meetsLimit
+meetsLimit-down curve v w limit ok l t =
+    let cw : 100 * w ≤ curve .capacity = leb→le (100 * w) (curve .capacity) (and-left (leb (100 * w) (curve .capacity)) (leb (density curve w) limit) t) in
+    let dw : density curve w ≤ limit = leb→le (density curve w) limit (and-right (leb (100 * w) (curve .capacity)) (leb (density curve w) limit) t) in
+    let dv : density curve v ≤ density curve w = density-mono curve curve v w ok ok (omega arith) cw l (speed-antitone curve v w ok l cw) in
+    simp (le-leb (100 * v) (curve .capacity) (omega arith)) (le→leb (density curve v) limit (omega arith))
 
 -- ---- either kind, at two free-flow speeds
 pub speed-mono : (kind : Kind) (f g v : ℕ) → lowestSpeed kind ≤ f → f ≤ g → g ≤ highestSpeed kind → 100 * v ≤ capacity kind f

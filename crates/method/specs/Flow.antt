@@ -1,7 +1,7 @@
 -- The flow rate v, in whole passenger cars per hour per lane (document 01, "Flow, letter, service volume, lanes").
 --   truckEquivalent t    E
---   flow V p e h n       v of demand V, share p, equivalent e, factor h and n lanes
---   flowRate case        v of a case
+--   heavyFactor case     1,000 + P × (E − 1)
+--   flowRate case        v
 -- Assumes nothing.
 use Prim.Native.Nat.{ℕ, _+_, _*_, _-_}
 use Rattle.numbers.specs.Division.{divUp}
@@ -14,10 +14,10 @@ abbrev pub truckEquivalent : Terrain → ℕ
 truckEquivalent Terrain.Level = 2
 truckEquivalent Terrain.Rolling = 3
 
--- "v = V × (1,000 + P × (E − 1)) / (H × N), rounded up"
-unfoldable pub flow : (demand share equivalent factor lanes : ℕ) → ℕ
-flow demand share equivalent factor lanes = divUp (demand * (1000 + share * (equivalent - 1))) (factor * lanes)
+-- "1,000 + P × (E − 1)": what a vehicle counts for, in thousandths of a passenger car
+unfoldable pub heavyFactor : Case → ℕ
+heavyFactor case = 1000 + case .«heavy_share» * (truckEquivalent (case .terrain) - 1)
 
+-- "v = V × (1,000 + P × (E − 1)) / (H × N), rounded up"
 unfoldable pub flowRate : Case → ℕ
-flowRate case =
-    flow (case .demand) (case .«heavy_share») (truckEquivalent (case .terrain)) (case .«peak_hour_factor») (case .lanes)
+flowRate case = divUp (case .demand * heavyFactor case) (case .«peak_hour_factor» * case .lanes)

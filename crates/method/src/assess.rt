@@ -48,9 +48,7 @@ pub fn assess(case: Case) -> Assessment
 {
     let checked = curve::check(case);
     match checked {
-        Checked::Accepted(curve) => {
-            Assessment::Measured(measured(case, speed::terms_of(curve)))
-        }
+        Checked::Accepted(curve) => { Assessment::Measured(measured(case, speed::terms_of(curve))) }
         Checked::Refused(number) => Assessment::Refused(number),
     }
 }

@@ -4,7 +4,8 @@
 //   performance_at   the three at a flow rate
 //   meets_limit      whether a flow rate keeps to capacity and to a density
 //   density_limit    the greatest density of a letter
-use crate::speed::{CurveTerms, exact_speed};
+use crate::speed::CurveTerms;
+use crate::speed::exact_speed;
 ghost use mathlib.Core.Path.{_≡_};
 ghost use Prim.Native.Nat.{_≤_};
 ghost use Rattle.method.specs.Terms.{Prepared};

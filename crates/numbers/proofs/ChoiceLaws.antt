@@ -1,5 +1,6 @@
 -- A choice by a test, `cond`, and the order of what it gives.
 --   leb-iff             tests of facts that hold together are equal
+--   leb-test            a test of a fact is equal to a test that passes exactly when it holds
 --   cond-le             both outcomes are at most z: so is the choice
 --   le-cond             both outcomes are at least z: so is the choice
 --   cond-leb-mono       x ≤ limit, else worse: with a larger x no less
@@ -13,7 +14,7 @@ use native.Mathlib.Omega.{arith}
 use native.Mathlib.Nat.{le-refl, le-trans}
 use native.Mathlib.Decide.{decLe}
 use borrow.Author.Tests.{le-leb, lt-leb}
-use lib.Dec.{leb}
+use lib.Dec.{T, leb}
 
 pub leb-iff : (a b c d : ℕ) → (a ≤ b) ↔ (c ≤ d) → leb a b ≡ leb c d
 leb-iff a b c d e = go (decLe a b)
@@ -21,6 +22,10 @@ leb-iff a b c d e = go (decLe a b)
     go : Dec (a ≤ b) → leb a b ≡ leb c d
     go (yes h) = simp (le-leb a b h, le-leb c d (e .0 h))
     go (no h) = let not : c ≤ d → ⊥ = λ k. h (e .1 k) in simp (lt-leb a b (omega arith), lt-leb c d (omega arith))
+
+pub leb-test : (a b : ℕ) (c : Bool) → (a ≤ b) ↔ T c → leb a b ≡ c
+leb-test a b true e = le-leb a b (e .1 tt)
+leb-test a b false e = let not : a ≤ b → ⊥ = e .0 in lt-leb a b (omega arith)
 
 pub cond-le : (b : Bool) {x y z : ℕ} → x ≤ z → y ≤ z → cond b x y ≤ z
 cond-le true h k = h

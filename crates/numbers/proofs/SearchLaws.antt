@@ -7,6 +7,8 @@
 --   endsAt-passes     a test that ends at s passes there
 --   endsAt-most       of a test that is downward closed: where it ends at s, what passes is at most s
 --   greatest-last     of a test that is downward closed: it is s where the test ends at s
+--   greatest-between  of a test that is downward closed: it is s where s passes and the next number, if the bound has it, fails
+--   greatest-cong     tests that agree up to the bound find the same
 --   least-le          it is at most the bound
 --   least-passes      it passes, where it is below the bound
 --   least-le-of       it is at most what passes
@@ -103,6 +105,15 @@ endsAt-most p s x falls t e = go (decLe x s)
 pub greatest-last : (p : ℕ → Bool) (n s : ℕ) → DownwardClosed p → s ≤ n → T (endsAt p s) → greatest p n ≡ s
 greatest-last p n s falls h t =
     greatest-eq p n s h (endsAt-passes p s t) (λ k l u e. omega (arith, endsAt-most p s k falls t e))
+
+pub greatest-between : (p : ℕ → Bool) (n s : ℕ) → DownwardClosed p → s ≤ n → T (p s) → (suc s ≤ n → T (p (suc s)) → ⊥) → greatest p n ≡ s
+greatest-between p n s down h t fails = greatest-eq p n s h t (λ k l u e. fails (le-trans l u) (down (suc s) k l e))
+
+pub greatest-cong : (p q : ℕ → Bool) (n : ℕ) → ((k : ℕ) → k ≤ n → p k ≡ q k) → greatest p n ≡ greatest q n
+unfolding greatest
+greatest-cong p q zero same = refl
+greatest-cong p q (suc n) same =
+    rw (same (suc n) (le-refl (suc n)), greatest-cong p q n (λ k h. same k (omega arith)))
 
 -- what leastFrom p a n says of the n numbers from a on
 record First (p : ℕ → Bool) (a n r : ℕ) : Type 0 where
