@@ -3,16 +3,13 @@
 --   assessment-refusal    its number is the case's refusal
 --   assessment-refused    a case that is checked and refused gets that number
 -- Assumes nothing.
-use mathlib.Core.Path.{_≡_}
-use mathlib.Core.Bool.{cond}
+use mathlib.Core.Path.{_≡_, sym, ap, _∙_}
 use Prim.Native.Nat.{ℕ, _≤_, _<_}
 use native.Mathlib.Omega.{arith}
 use native.Mathlib.Decide.{decLe}
-use borrow.Author.Tests.{ne-eqb}
-use lib.Dec.{eqb}
+use Rattle.numbers.proofs.ChoiceLaws.{cond-zero, cond-pos}
 use Rattle.method.specs.declared.case.Case.{Case}
 use Rattle.method.specs.declared.curve.Checked.the-variants as Checked
-use Rattle.method.specs.declared.assess.Measures.{Measures}
 use Rattle.method.specs.declared.assess.Assessment.the-variants as Assessment
 use Rattle.method.specs.Refusals.{refusal, Accepted}
 use Rattle.method.specs.Curves.{checked}
@@ -20,20 +17,19 @@ use Rattle.method.specs.Assess.{measures, assessment, refusalNumber}
 use Rattle.method.proofs.CurveLaws.{checked-refused}
 
 pub assessment-accepted : (case : Case) → Accepted case → assessment case ≡ Assessment.Measured (measures case)
-assessment-accepted case a = simp a
+assessment-accepted case a = cond-zero (refusal case) (Assessment.Measured (measures case)) (Assessment.Refused (refusal case)) a
 
--- by the number
-number-eq : (n : ℕ) (m : Measures) → refusalNumber (cond (eqb n 0) (Assessment.Measured m) (Assessment.Refused n)) ≡ n
-number-eq n m = go (decLe n 0)
-  where
-    go : Dec (n ≤ 0) → refusalNumber (cond (eqb n 0) (Assessment.Measured m) (Assessment.Refused n)) ≡ n
-    go (yes h) = let e : n ≡ 0 = omega arith in rw e
-    go (no h) = simp (ne-eqb n 0 (λ e. omega arith))
+refused : (case : Case) → 0 < refusal case → assessment case ≡ Assessment.Refused (refusal case)
+refused case p = cond-pos (refusal case) (Assessment.Measured (measures case)) (Assessment.Refused (refusal case)) p
 
 pub assessment-refusal : (case : Case) → refusalNumber (assessment case) ≡ refusal case
-assessment-refusal case = number-eq (refusal case) (measures case)
+assessment-refusal case = go (decLe (refusal case) 0)
+  where
+    go : Dec (refusal case ≤ 0) → refusalNumber (assessment case) ≡ refusal case
+    go (yes h) = let z : refusal case ≡ 0 = omega arith in ap refusalNumber (assessment-accepted case z) ∙ sym z
+    go (no h) = ap refusalNumber (refused case (omega arith))
 
 pub assessment-refused : (case : Case) (n : ℕ) → checked case ≡ Checked.Refused n → assessment case ≡ Assessment.Refused n
 assessment-refused case n e =
     let r : (0 < n) × (n ≡ refusal case) = checked-refused case n e in
-    rw (← r .1) (simp (ne-eqb n 0 (λ z. omega (arith, r .0))))
+    refused case (omega arith) ∙ ap Assessment.Refused (sym (r .1))

@@ -2,19 +2,18 @@
 --   capacity-mono        capacity never falls with a higher free-flow speed
 --   capacity-le          it is at most 240,000
 --   capacity-within      it lies between the kind's ends, for F between its ends
---   unlessRefused-some   a number above 0 refuses
+--   unlessRefused-some, -accepted, -refused   what a number refuses, and what is known of a curve or a number that was found
 --   checked-accepted     a case that is checked and found with a curve is accepted, and the curve is its own
 --   checked-refused      a case that is checked and refused: the number is its refusal's, above 0
 --   curveAt-wellFormed   the curve at an F between the kind's ends is well formed
 --   curveAt-sized        and within the ends that 64 bits want
 --   curveOf-wellFormed, curveOf-sized   the same of the curve of a case that is accepted
 -- Assumes nothing.
-use mathlib.Core.Path.{_≡_, refl}
-use mathlib.Core.Logic.{_⊎_, inl, inr, ⊎-elim}
+use mathlib.Core.Path.{_≡_}
 use Prim.Native.Nat.{ℕ, _+_, _*_, _-_, _≤_, _<_, min}
 use native.Mathlib.Omega.{arith}
 use native.Mathlib.Decide.{decLe}
-use borrow.Author.Tests.{ne-eqb}
+use Rattle.numbers.proofs.ChoiceLaws.{cond-zero, cond-pos}
 use Rattle.method.specs.declared.kind.Kind.{Kind}
 use Rattle.method.specs.declared.kind.Kind.the-variants as Kind
 use Rattle.method.specs.declared.case.Road.{Road}
@@ -44,34 +43,30 @@ unfolding capacity
 capacity-within Kind.Freeway f h k = (omega arith, omega arith)
 capacity-within Kind.Multilane f h k = (omega arith, omega arith)
 
-pub unlessRefused-some : (n : ℕ) (curve : Curve) → 0 < n → unlessRefused n curve ≡ Checked.Refused n
-unlessRefused-some n curve p = simp (ne-eqb n 0 (λ e. omega arith))
+pub unlessRefused-some : (n : ℕ) (own : Curve) → 0 < n → unlessRefused n own ≡ Checked.Refused n
+unlessRefused-some n own p = cond-pos n (Checked.Accepted own) (Checked.Refused n) p
 
--- the two cases of a check, by the number
-checked-cases : (n : ℕ) (curve : Curve) → ((n ≡ 0) × (unlessRefused n curve ≡ Checked.Accepted curve)) ⊎ ((0 < n) × (unlessRefused n curve ≡ Checked.Refused n))
-checked-cases n curve = go (decLe n 0)
+-- a curve is found: nothing refuses, and it is the curve itself
+pub unlessRefused-accepted : (n : ℕ) (own curve : Curve) → unlessRefused n own ≡ Checked.Accepted curve → (n ≡ 0) × (curve ≡ own)
+unlessRefused-accepted n own curve e = go (decLe n 0)
   where
-    go : Dec (n ≤ 0) → ((n ≡ 0) × (unlessRefused n curve ≡ Checked.Accepted curve)) ⊎ ((0 < n) × (unlessRefused n curve ≡ Checked.Refused n))
-    go (yes h) = let e : n ≡ 0 = omega arith in inl (e, rw e)
-    go (no h) = inr (omega arith, unlessRefused-some n curve (omega arith))
+    go : Dec (n ≤ 0) → (n ≡ 0) × (curve ≡ own)
+    go (yes h) = let z : n ≡ 0 = omega arith in (z, cc (cond-zero n (Checked.Accepted own) (Checked.Refused n) z, e))
+    go (no h) = absurd (let z : _≡_ {A = ℕ} 0 1 = cc (unlessRefused-some n own (omega arith), e) in omega arith)
+
+-- a refusal is found: its number
+pub unlessRefused-refused : (n m : ℕ) (own : Curve) → unlessRefused n own ≡ Checked.Refused m → (0 < m) × (m ≡ n)
+unlessRefused-refused n m own e = go (decLe n 0)
+  where
+    go : Dec (n ≤ 0) → (0 < m) × (m ≡ n)
+    go (yes h) = absurd (let z : _≡_ {A = ℕ} 0 1 = cc (cond-zero n (Checked.Accepted own) (Checked.Refused n) (omega arith), e) in omega arith)
+    go (no h) = let same : m ≡ n = cc (unlessRefused-some n own (omega arith), e) in (omega arith, same)
 
 pub checked-accepted : (case : Case) (curve : Curve) → checked case ≡ Checked.Accepted curve → Accepted case × (curve ≡ curveOf (case .road) (case .lanes))
-checked-accepted case curve e = ⊎-elim accepted refused (checked-cases (refusal case) (curveOf (case .road) (case .lanes)))
-  where
-    accepted : (refusal case ≡ 0) × (checked case ≡ Checked.Accepted (curveOf (case .road) (case .lanes))) → Accepted case × (curve ≡ curveOf (case .road) (case .lanes))
-    accepted a = (a .0, cc (a .1, e))
-
-    refused : (0 < refusal case) × (checked case ≡ Checked.Refused (refusal case)) → Accepted case × (curve ≡ curveOf (case .road) (case .lanes))
-    refused a = absurd (let z : _≡_ {A = ℕ} 0 1 = cc (a .1, e) in omega arith)
+checked-accepted case curve e = unlessRefused-accepted (refusal case) (curveOf (case .road) (case .lanes)) curve e
 
 pub checked-refused : (case : Case) (n : ℕ) → checked case ≡ Checked.Refused n → (0 < n) × (n ≡ refusal case)
-checked-refused case n e = ⊎-elim accepted refused (checked-cases (refusal case) (curveOf (case .road) (case .lanes)))
-  where
-    accepted : (refusal case ≡ 0) × (checked case ≡ Checked.Accepted (curveOf (case .road) (case .lanes))) → (0 < n) × (n ≡ refusal case)
-    accepted a = absurd (let z : _≡_ {A = ℕ} 0 1 = cc (a .1, e) in omega arith)
-
-    refused : (0 < refusal case) × (checked case ≡ Checked.Refused (refusal case)) → (0 < n) × (n ≡ refusal case)
-    refused a = let same : n ≡ refusal case = cc (a .1, e) in (omega (arith, a .0), same)
+checked-refused case n e = unlessRefused-refused (refusal case) n (curveOf (case .road) (case .lanes)) e
 
 pub curveAt-wellFormed : (kind : Kind) (f : ℕ) → lowestSpeed kind ≤ f → f ≤ highestSpeed kind → WellFormed (curveAt kind f)
 unfolding curveAt capacity breakpoint

@@ -7,6 +7,8 @@
 --   refusals-some          a case that they refuse: its number
 --   fields-parts           what 1 to 9 do not refuse: neither 1 to 5 nor 6 to 9 do
 --   accepted-parts         what is accepted: neither 1 to 9 nor 10 refuse it
+--   LoadUnmet, load-unmet, load-none   the tests of 6 to 9 one by one
+--   fields-of, accepted-of   the parts together
 --   speed-accepted         what 10 does not refuse has F at its lower end or above
 -- Assumes nothing.
 use mathlib.Core.Path.{_≡_, refl, sym, _∙_}
@@ -27,7 +29,7 @@ use Rattle.method.specs.FreeFlowSpeed.{freeFlowSpeed}
 use Rattle.method.specs.Refusals.{Refusal, refuses, firstRefusal, outside, medianUnfit, mostAccess, greatestDemand, roadRefusals, loadRefusals, fieldRefusals, speedRefusals, refusals, refusal, Accepted}
 
 -- every refusal of the list has a number above 0
-abbrev numbered : List Refusal → Bool
+abbrev pub numbered : List Refusal → Bool
 numbered [] = true
 numbered (r ∷ rs) = ltb 0 (r .number) && numbered rs
 
@@ -137,7 +139,7 @@ road-numbered : (road : Road) → T (numbered (roadRefusals road))
 unfolding roadRefusals
 road-numbered road = tt
 
-field-numbered : (case : Case) → T (numbered (fieldRefusals case))
+pub field-numbered : (case : Case) → T (numbered (fieldRefusals case))
 unfolding fieldRefusals roadRefusals loadRefusals
 field-numbered case = tt
 
@@ -177,3 +179,27 @@ unfolding speedRefusals
 speed-accepted road n z =
     let none : NoneMet (speedRefusals road n) = none-met (speedRefusals road n) tt z in
     ltb-false (freeFlowSpeed road n) (lowestSpeed (road .kind)) (none .0)
+
+-- the tests of 6 to 9, none of them met
+pub record LoadUnmet (case : Case) : Type 0 where
+  pub lanes-fit : outside (fewestLanes (case .road .kind)) (mostLanes (case .road .kind)) (case .lanes) ≡ false
+  pub demand-fits : ltb greatestDemand (case .demand) ≡ false
+  pub factor-fits : outside 250 1000 (case .«peak_hour_factor») ≡ false
+  pub share-fits : ltb 1000 (case .«heavy_share») ≡ false
+
+pub load-unmet : (case : Case) → firstRefusal (loadRefusals case) ≡ 0 → LoadUnmet case
+unfolding loadRefusals
+load-unmet case z =
+    let none : NoneMet (loadRefusals case) = none-met (loadRefusals case) tt z in
+    record { lanes-fit = none .0; demand-fits = none .1 .0; factor-fits = none .1 .1 .0; share-fits = none .1 .1 .1 .0 }
+
+pub load-none : (case : Case) → LoadUnmet case → firstRefusal (loadRefusals case) ≡ 0
+unfolding loadRefusals
+load-none case u = simp (u .lanes-fit, u .demand-fits, u .factor-fits, u .share-fits)
+
+pub fields-of : (case : Case) → firstRefusal (roadRefusals (case .road)) ≡ 0 → firstRefusal (loadRefusals case) ≡ 0
+    → firstRefusal (fieldRefusals case) ≡ 0
+fields-of case r l = fieldRefusals-road case r ∙ l
+
+pub accepted-of : (case : Case) → firstRefusal (fieldRefusals case) ≡ 0 → firstRefusal (speedRefusals (case .road) (case .lanes)) ≡ 0 → Accepted case
+accepted-of case f s = refusals-fields case f ∙ s

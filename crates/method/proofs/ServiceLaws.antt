@@ -7,6 +7,7 @@
 --   density-le         up to capacity the density is at most 450
 --   density-zero       without flow it is 0
 --   densityLetter-mono, densityLetter-last   a greater density gets no better letter; none is past F
+--   densityLimit-le    no letter's density is above 450
 --   letterAt-le-iff    it is letter l or better exactly when the flow keeps to capacity and to the letter's density
 --   meetsLimit-zero, meetsLimit-down   no flow meets every limit; less flow meets what more meets
 --   letterAt-mono      more flow, or a lower free-flow speed: no better letter
@@ -21,7 +22,7 @@ use native.Mathlib.Omega.{arith}
 use native.Mathlib.Nat.{le-trans, le-refl, zero-mul, mul-pos, mul-le-mul-right}
 use native.Mathlib.Decide.{decLe}
 use borrow.Author.Tests.{le-leb, lt-leb}
-use lib.Dec.{T, leb, leb→le, le→leb}
+use lib.Dec.{T, leb, eqb, leb→le, le→leb}
 use Rattle.numbers.specs.declared.Fraction.{Fraction}
 use Rattle.numbers.specs.Division.{divUp}
 use Rattle.numbers.specs.Fraction.{over, whole, times, dividedBy, roundedUp, AtMost}
@@ -146,6 +147,11 @@ limit-iff d (suc (suc (suc zero))) h k = grade-iff d 3 260 refl refl
 limit-iff d (suc (suc (suc (suc zero)))) h k = grade-iff d 4 350 refl refl
 limit-iff d (suc (suc (suc (suc (suc zero))))) h k = grade-iff d 5 450 refl refl
 limit-iff d (suc (suc (suc (suc (suc (suc l)))))) h k = absurd (omega arith)
+
+pub densityLimit-le : (l : ℕ) → densityLimit l ≤ 450
+unfolding densityLimit
+densityLimit-le l =
+    cond-le (eqb l 1) (omega arith) (cond-le (eqb l 2) (omega arith) (cond-le (eqb l 3) (omega arith) (cond-le (eqb l 4) (omega arith) (omega arith))))
 
 pub letterAt-le-iff : (curve : Curve) (v l : ℕ) → 1 ≤ l → l ≤ 5 → (letterNumber (letterAt curve v) ≤ l) ↔ T (meetsLimit curve v (densityLimit l))
 unfolding letterAt meetsLimit

@@ -1,4 +1,6 @@
 -- A choice by a test, `cond`, and the order of what it gives.
+--   T-true, T-false     a test that is true passes; one that is false does not
+--   cond-zero, cond-pos  a choice by whether a number is 0
 --   leb-iff             tests of facts that hold together are equal
 --   leb-test            a test of a fact is equal to a test that passes exactly when it holds
 --   cond-le             both outcomes are at most z: so is the choice
@@ -7,14 +9,26 @@
 --   cond-leb-antitone   x ≤ limit, else smaller: with a larger x no more
 -- Assumes nothing.
 use mathlib.Core.Bool.{Bool, true, false, cond}
-use mathlib.Core.Path.{_≡_}
+use mathlib.Core.Path.{_≡_, sym, subst}
 use mathlib.Core.Logic.{_↔_}
-use Prim.Native.Nat.{ℕ, _≤_}
+use Prim.Native.Nat.{ℕ, _≤_, _<_}
 use native.Mathlib.Omega.{arith}
 use native.Mathlib.Nat.{le-refl, le-trans}
 use native.Mathlib.Decide.{decLe}
-use borrow.Author.Tests.{le-leb, lt-leb}
-use lib.Dec.{T, leb}
+use borrow.Author.Tests.{le-leb, lt-leb, ne-eqb}
+use lib.Dec.{T, leb, eqb}
+
+pub T-true : (b : Bool) → b ≡ true → T b
+T-true b e = subst T (sym e) tt
+
+pub T-false : (b : Bool) → b ≡ false → T b → ⊥
+T-false b e t = subst T e t
+
+pub cond-zero {ℓ} : {A : Type ℓ} (n : ℕ) (x y : A) → n ≡ 0 → cond (eqb n 0) x y ≡ x
+cond-zero n x y e = rw e
+
+pub cond-pos {ℓ} : {A : Type ℓ} (n : ℕ) (x y : A) → 0 < n → cond (eqb n 0) x y ≡ y
+cond-pos n x y p = simp (ne-eqb n 0 (λ e. omega arith))
 
 pub leb-iff : (a b c d : ℕ) → (a ≤ b) ↔ (c ≤ d) → leb a b ≡ leb c d
 leb-iff a b c d e = go (decLe a b)

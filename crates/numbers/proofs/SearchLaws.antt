@@ -13,6 +13,7 @@
 --   least-passes      it passes, where it is below the bound
 --   least-le-of       it is at most what passes
 --   least-eq          it is s where s passes and nothing below s does
+--   least-none        it is the bound where nothing below it passes
 --   least-iff         of a test that is upward closed: a number passes exactly when the least is at most it
 --   least-first       of a test that is upward closed: it is s where the test starts at s
 -- Assumes nothing.
@@ -175,6 +176,13 @@ least-eq p n s h t below = go (decLe s (least p n))
     go : Dec (s ≤ least p n) → least p n ≡ s
     go (yes l) = le-antisymm low l
     go (no l) = absurd (below (least p n) (omega arith) (least-passes p n (omega (arith, low))))
+
+pub least-none : (p : ℕ → Bool) (n : ℕ) → ((k : ℕ) → k < n → T (p k) → ⊥) → least p n ≡ n
+least-none p n none = go (decLe n (least p n))
+  where
+    go : Dec (n ≤ least p n) → least p n ≡ n
+    go (yes l) = le-antisymm (least-le p n) l
+    go (no l) = absurd (none (least p n) (omega arith) (least-passes p n (omega arith)))
 
 pub least-iff : (p : ℕ → Bool) (n x : ℕ) → UpwardClosed p → x < n → T (p x) ↔ (least p n ≤ x)
 least-iff p n x rises h = (

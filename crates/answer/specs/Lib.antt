@@ -1,0 +1,13 @@
+-- The answer to a case, the lanes question, and demand 3.
+--   Cases      a case with another demand or another lane count
+--   Volumes    meeting a letter, and service volumes
+--   Answers    the answer to a case
+--   Lanes      the lanes question
+--   Search     what the search tries
+--   Promises   demand 3, stated
+--   Boundary   the boundary sections that this layer adds
+pub mod Cases
+pub mod Volumes
+pub mod Answers
+pub mod Lanes
+pub mod Search
