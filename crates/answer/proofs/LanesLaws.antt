@@ -1,6 +1,7 @@
 -- The lanes question (specs/Lanes).
 --   laneEnds             the kind's fewest and most lanes, at most 8
 --   lanesFound-eq        it is n where n is a count of the kind that meets the letter and no smaller count does
+--   lanesFound-meets, lanesFound-le   a count that is found meets the letter, and is at most every count that does
 --   lanesFound-none      it is one more than the most where no count meets the letter
 --   meets-of-kind        a case that meets a letter has a lane count of the kind
 --   lanesAnswer-fields   a case that 1 to 9 refuse: that number
@@ -14,7 +15,7 @@ use Prim.Native.Nat.{ℕ, suc, _≤_, _<_}
 use native.Mathlib.Omega.{arith}
 use borrow.Author.Tests.{lt-ltb, le-ltb}
 use lib.Dec.{T, ltb}
-use Rattle.numbers.proofs.SearchLaws.{least-eq, least-none}
+use Rattle.numbers.proofs.SearchLaws.{least-passes, least-le-of, least-eq, least-none}
 use Rattle.numbers.proofs.ChoiceLaws.{cond-zero, cond-pos}
 use Rattle.method.specs.declared.kind.Kind.{Kind}
 use Rattle.method.specs.declared.kind.Kind.the-variants as Kind
@@ -40,6 +41,16 @@ pub lanesFound-eq : (case : Case) (l n : ℕ) → n ≤ mostLanes (case .road .k
     → ((k : ℕ) → k < n → T (meets (withLanes case k) l) → ⊥) → lanesFound case l ≡ n
 unfolding lanesFound
 lanesFound-eq case l n h t below = least-eq (λ lanes. meets (withLanes case lanes) l) (suc (mostLanes (case .road .kind))) n (omega arith) t below
+
+pub lanesFound-meets : (case : Case) (l : ℕ) → lanesFound case l ≤ mostLanes (case .road .kind) → T (meets (withLanes case (lanesFound case l)) l)
+unfolding lanesFound
+lanesFound-meets case l h = least-passes (λ lanes. meets (withLanes case lanes) l) (suc (mostLanes (case .road .kind))) (omega arith)
+
+pub lanesFound-le : (case : Case) (l n : ℕ) → T (meets (withLanes case n) l) → lanesFound case l ≤ n
+unfolding lanesFound
+lanesFound-le case l n t =
+    least-le-of (λ lanes. meets (withLanes case lanes) l) (suc (mostLanes (case .road .kind))) n t
+    (omega (arith, meets-of-kind (withLanes case n) l t))
 
 pub lanesFound-none : (case : Case) (l : ℕ) → ((k : ℕ) → k ≤ mostLanes (case .road .kind) → T (meets (withLanes case k) l) → ⊥)
     → lanesFound case l ≡ suc (mostLanes (case .road .kind))

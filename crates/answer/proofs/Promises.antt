@@ -1,1 +1,144 @@
--- todo
+-- Demand 3, proved.
+--   no-better-under-more-load        part 1
+--   meets-up-to-the-service-volume   part 2
+--   least-accepted-count             part 3
+--   demand-three                     the three together
+-- Assumes nothing.
+use mathlib.Core.Path.{_≡_, refl, sym, ap, _∙_}
+use mathlib.Core.Logic.{_↔_}
+use Prim.Native.Nat.{ℕ, zero, suc, _+_, _≤_, _<_}
+use native.Mathlib.Omega.{arith}
+use native.Mathlib.Nat.{le-trans}
+use native.Mathlib.Decide.{decLe}
+use lib.Dec.{T}
+use lib.ListN.{getD}
+use Rattle.method.specs.declared.case.Terrain.{Terrain}
+use Rattle.method.specs.declared.case.Terrain.the-variants as Terrain
+use Rattle.method.specs.declared.case.Case.{Case}
+use Rattle.method.specs.Kinds.{lowestSpeed, fewestLanes, mostLanes}
+use Rattle.method.specs.FreeFlowSpeed.{freeFlowSpeed}
+use Rattle.method.specs.Refusals.{firstRefusal, fieldRefusals, greatestDemand, Accepted}
+use Rattle.method.specs.Curves.{curveOf}
+use Rattle.method.specs.Flow.{truckEquivalent, flowRate}
+use Rattle.method.specs.Service.{letterAt, letterNumber, performance}
+use Rattle.method.specs.Assess.{measures}
+use Rattle.method.proofs.RefusalLaws.{accepted-parts, speed-accepted}
+use Rattle.method.proofs.FreeFlowSpeedLaws.{freeFlowSpeed-mono, freeFlowSpeed-le}
+use Rattle.method.proofs.FlowLaws.{flowRate-mono, flowRate-parts}
+use Rattle.method.proofs.ServiceLaws.{letterAt-mono}
+use Rattle.answer.specs.declared.evaluate.Answer.the-variants as Answer
+use Rattle.answer.specs.declared.lanes.LanesAnswer.the-variants as LanesAnswer
+use Rattle.answer.specs.Cases.{withDemand, withLanes, SameRoad}
+use Rattle.answer.specs.Volumes.{meets, serviceVolume}
+use Rattle.answer.specs.Answers.{graded, answerTo}
+use Rattle.answer.specs.Lanes.{lanesFound, lanesAnswer}
+use Rattle.answer.specs.Promises.{letterIn, volumeIn, Meets, AcceptedCount, hardness, NoBetterUnderMoreLoad, MeetsUpToTheServiceVolume, LeastAcceptedCount, DemandThree}
+use Rattle.answer.proofs.VolumeLaws.{meets-only-accepted, serviceVolume-iff}
+use Rattle.answer.proofs.AnswerLaws.{answerTo-accepted, Meets-iff}
+use Rattle.answer.proofs.LanesLaws.{meets-of-kind, lanesFound-eq, lanesFound-meets, lanesFound-le, lanesFound-none, lanesAnswer-none, lanesAnswer-found}
+
+-- ---- part 1
+-- the letter in the answer to an accepted case
+letterIn-accepted : (case : Case) → Accepted case → letterIn (answerTo case) ≡ letterNumber (letterAt (curveOf (case .road) (case .lanes)) (flowRate case))
+unfolding graded measures performance
+letterIn-accepted case a = ap letterIn (answerTo-accepted case a)
+
+harder-equivalent : (s t : Terrain) → hardness s ≤ hardness t → truckEquivalent s ≤ truckEquivalent t
+harder-equivalent Terrain.Level Terrain.Level h = omega arith
+harder-equivalent Terrain.Level Terrain.Rolling h = omega arith
+harder-equivalent Terrain.Rolling Terrain.Level h = absurd (omega arith)
+harder-equivalent Terrain.Rolling Terrain.Rolling h = omega arith
+
+pub no-better-under-more-load : NoBetterUnderMoreLoad
+unfolding curveOf
+no-better-under-more-load c d ac ad same hd hs ht hf hn =
+    let flow : flowRate c ≤ flowRate d =
+    flowRate-mono c d (flowRate-parts d (accepted-parts d ad .0) .divisor-pos) hd hs (harder-equivalent (c .terrain) (d .terrain) ht) hf hn in
+    let mine : letterIn (answerTo c) ≡ letterNumber (letterAt (curveOf (d .road) (c .lanes)) (flowRate c)) =
+    letterIn-accepted c ac ∙ ap (λ road. letterNumber (letterAt (curveOf road (c .lanes)) (flowRate c))) same in
+    rw (mine, letterIn-accepted d ad)
+    (letterAt-mono (d .road .kind) (freeFlowSpeed (d .road) (d .lanes)) (freeFlowSpeed (d .road) (c .lanes)) (flowRate c) (flowRate d)
+    (speed-accepted (d .road) (d .lanes) (accepted-parts d ad .1)) (freeFlowSpeed-mono (d .road) (d .lanes) (c .lanes) hn) (freeFlowSpeed-le (d .road) (c .lanes))
+    flow)
+
+-- ---- part 2
+-- the service volumes in the answer to an accepted case, by the letter's number
+volumeIn-accepted : (case : Case) (n : ℕ) → Accepted case → 1 ≤ n → n ≤ 5 → volumeIn (answerTo case) n ≡ serviceVolume case n
+unfolding graded
+volumeIn-accepted case n a h k = ap (λ answer. volumeIn answer n) (answerTo-accepted case a) ∙ by n h k
+  where
+    by : (n : ℕ) → 1 ≤ n → n ≤ 5 → volumeIn (Answer.Graded (graded case)) n ≡ serviceVolume case n
+    by zero h k = absurd (omega arith)
+    by (suc zero) h k = refl
+    by (suc (suc zero)) h k = refl
+    by (suc (suc (suc zero))) h k = refl
+    by (suc (suc (suc (suc zero)))) h k = refl
+    by (suc (suc (suc (suc (suc zero))))) h k = refl
+    by (suc (suc (suc (suc (suc (suc n)))))) h k = absurd (omega arith)
+
+pub meets-up-to-the-service-volume : MeetsUpToTheServiceVolume
+meets-up-to-the-service-volume c a n h k demand d =
+    let met = Meets-iff (withDemand c demand) n in
+    let volume = serviceVolume-iff c n demand a h k d in
+    let same : volumeIn (answerTo c) n ≡ serviceVolume c n = volumeIn-accepted c n a h k in
+    (λ m. rw same (volume .0 (met .0 m)), λ l. met .1 (volume .1 (rw same at l)))
+
+-- ---- part 3
+-- a count that meets a letter is accepted
+counted : (case : Case) (n lanes : ℕ) → T (meets (withLanes case lanes) n) → AcceptedCount case lanes
+counted case n lanes t =
+    let kind = meets-of-kind (withLanes case lanes) n t in
+    (kind .0, kind .1, meets-only-accepted (withLanes case lanes) n t)
+
+module _ (case : Case) (n : ℕ) (h : 1 ≤ n) (k : n ≤ 5) (z : firstRefusal (fieldRefusals case) ≡ 0) where
+  abbrev Least : ℕ → Type 0
+  Least lanes =
+      AcceptedCount case lanes
+      × Meets (withLanes case lanes) n
+      × ((fewer : ℕ) → AcceptedCount case fewer → fewer < lanes → Meets (withLanes case fewer) n → ⊥)
+
+  -- the count that is found is the least
+  found-least : lanesFound case n ≤ mostLanes (case .road .kind) → Least (lanesFound case n)
+  found-least l =
+      let t = lanesFound-meets case n l in (
+        counted case n (lanesFound case n) t,
+        Meets-iff (withLanes case (lanesFound case n)) n .1 t,
+        λ fewer a f m. omega (arith, lanesFound-le case n fewer (Meets-iff (withLanes case fewer) n .0 m)),
+      )
+
+  -- the least is found
+  least-found : (lanes : ℕ) → Least lanes → lanesFound case n ≡ lanes
+  least-found lanes least =
+      lanesFound-eq case n lanes (least .0 .1) (Meets-iff (withLanes case lanes) n .0 (least .1))
+      (λ fewer f t. least .2 fewer (counted case n fewer t) f (Meets-iff (withLanes case fewer) n .1 t))
+
+  answers : (lanes : ℕ) → (lanesAnswer case n ≡ LanesAnswer.Lanes lanes) ↔ Least lanes
+  answers lanes = (to (decLe (lanesFound case n) (mostLanes (case .road .kind))), from)
+    where
+      to : Dec (lanesFound case n ≤ mostLanes (case .road .kind)) → lanesAnswer case n ≡ LanesAnswer.Lanes lanes → Least lanes
+      to (yes l) e = let same : lanesFound case n ≡ lanes = cc (lanesAnswer-found case n h k z l, e) in rw same at (found-least l)
+      to (no l) e = absurd (let o : _≡_ {A = ℕ} 0 1 = cc (lanesAnswer-none case n h k z (omega arith), e) in omega arith)
+
+      from : Least lanes → lanesAnswer case n ≡ LanesAnswer.Lanes lanes
+      from least =
+          let same : lanesFound case n ≡ lanes = least-found lanes least in
+          lanesAnswer-found case n h k z (rw same (least .0 .1)) ∙ ap LanesAnswer.Lanes same
+
+  refuses-14 : (lanesAnswer case n ≡ LanesAnswer.Refused 14) ↔ ((lanes : ℕ) → AcceptedCount case lanes → Meets (withLanes case lanes) n → ⊥)
+  refuses-14 = (to (decLe (lanesFound case n) (mostLanes (case .road .kind))), from)
+    where
+      to : Dec (lanesFound case n ≤ mostLanes (case .road .kind)) → lanesAnswer case n ≡ LanesAnswer.Refused 14
+          → (lanes : ℕ) → AcceptedCount case lanes → Meets (withLanes case lanes) n → ⊥
+      to (yes l) e lanes a m = let o : _≡_ {A = ℕ} 0 1 = cc (lanesAnswer-found case n h k z l, e) in omega arith
+      to (no l) e lanes a m = omega (arith, a .1, lanesFound-le case n lanes (Meets-iff (withLanes case lanes) n .0 m))
+
+      from : ((lanes : ℕ) → AcceptedCount case lanes → Meets (withLanes case lanes) n → ⊥) → lanesAnswer case n ≡ LanesAnswer.Refused 14
+      from none =
+          lanesAnswer-none case n h k z
+          (omega (arith, lanesFound-none case n (λ lanes l t. none lanes (counted case n lanes t) (Meets-iff (withLanes case lanes) n .1 t))))
+
+pub least-accepted-count : LeastAcceptedCount
+least-accepted-count case n h k z = (answers case n h k z, refuses-14 case n h k z)
+
+pub demand-three : DemandThree
+demand-three = (no-better-under-more-load, meets-up-to-the-service-volume, least-accepted-count)

@@ -2,11 +2,13 @@
 --   keepsTo-zero, keepsTo-down   no demand keeps to every density; less demand keeps to what more keeps to
 --   meets-accepted       an accepted case meets a letter exactly when its flow rate keeps to the letter's density
 --   meets-refused, meets-only-accepted   a refused case meets no letter
+--   serviceVolume-iff    a demand meets a letter exactly when it is at most the service volume
 --   volume-eq            the same from a curve's terms and a load
 --   serviceVolume-eq     the service volume of an accepted case is the greatest demand that the search's test passes
 -- Assumes nothing.
 use mathlib.Core.Path.{_≡_, sym, ap, _∙_}
 use mathlib.Core.Bool.{Bool, false}
+use mathlib.Core.Logic.{_↔_}
 use Prim.Native.Nat.{ℕ, _*_, _≤_, _<_}
 use native.Mathlib.Omega.{arith}
 use native.Mathlib.Nat.{mul-le-mul-right, zero-mul, le-refl}
@@ -15,7 +17,7 @@ use lib.Dec.{T, leb}
 use Rattle.numbers.specs.Division.{divUp}
 use Rattle.numbers.specs.Search.{greatest, DownwardClosed}
 use Rattle.numbers.proofs.DivisionLaws.{divUp-mono, divUp-zero}
-use Rattle.numbers.proofs.SearchLaws.{greatest-cong}
+use Rattle.numbers.proofs.SearchLaws.{greatest-iff, greatest-cong}
 use Rattle.numbers.proofs.ChoiceLaws.{T-false, cond-pos, leb-test}
 use Rattle.method.specs.declared.case.Case.{Case}
 use Rattle.method.specs.declared.curve.Curve.{Curve}
@@ -27,6 +29,9 @@ use Rattle.method.specs.Flow.{heavyFactor, flowRate}
 use Rattle.method.specs.Terms.{curveTerms}
 use Rattle.method.specs.Service.{letterAt, letterNumber, performance, meetsLimit, densityLimit}
 use Rattle.method.specs.Assess.{measures, assessment}
+use Rattle.method.proofs.RefusalLaws.{accepted-parts}
+use Rattle.method.proofs.CurveLaws.{curveOf-wellFormed}
+use Rattle.method.proofs.FlowLaws.{flowRate-parts}
 use Rattle.method.proofs.ServiceLaws.{letterAt-le-iff, meetsLimit-zero, meetsLimit-down}
 use Rattle.method.proofs.AssessLaws.{assessment-accepted}
 use Rattle.answer.specs.declared.evaluate.Load.{Load}
@@ -69,12 +74,29 @@ meets-only-accepted case l t = go (decLe (refusal case) 0)
     go (yes h) = omega arith
     go (no h) = absurd (T-false (meets case l) (meets-refused case l (omega arith)) t)
 
+-- what the search tries at a demand is meeting the letter with that demand
+pub meets-keepsTo : (case : Case) (l demand : ℕ) → Accepted case → 1 ≤ l → l ≤ 5 → demand ≤ greatestDemand
+    → meets (withDemand case demand) l ≡ keepsTo (curveOf (case .road) (case .lanes)) (loadOf case) (densityLimit l) demand
+unfolding keepsTo heavyFactor flowRate
+meets-keepsTo case l demand a h k d = meets-accepted (withDemand case demand) l (accepted-withDemand case demand a d) h k
+
 pub serviceVolume-eq : (case : Case) (l : ℕ) → Accepted case → 1 ≤ l → l ≤ 5
     → serviceVolume case l ≡ greatest (keepsTo (curveOf (case .road) (case .lanes)) (loadOf case) (densityLimit l)) greatestDemand
-unfolding serviceVolume keepsTo heavyFactor flowRate
+unfolding serviceVolume
 serviceVolume-eq case l a h k =
     greatest-cong (λ demand. meets (withDemand case demand) l) (keepsTo (curveOf (case .road) (case .lanes)) (loadOf case) (densityLimit l)) greatestDemand
-    (λ demand d. meets-accepted (withDemand case demand) l (accepted-withDemand case demand a d) h k)
+    (λ demand d. meets-keepsTo case l demand a h k d)
+
+-- a demand meets a letter exactly when it is at most the service volume
+pub serviceVolume-iff : (case : Case) (l demand : ℕ) → Accepted case → 1 ≤ l → l ≤ 5 → demand ≤ greatestDemand
+    → T (meets (withDemand case demand) l) ↔ (demand ≤ serviceVolume case l)
+serviceVolume-iff case l demand a h k d =
+    let ok = curveOf-wellFormed case a in
+    let pos = flowRate-parts case (accepted-parts case a .0) .divisor-pos in
+    rw (meets-keepsTo case l demand a h k d, serviceVolume-eq case l a h k)
+    (greatest-iff (keepsTo (curveOf (case .road) (case .lanes)) (loadOf case) (densityLimit l)) greatestDemand demand
+    (keepsTo-zero (curveOf (case .road) (case .lanes)) (loadOf case) (densityLimit l) ok pos)
+    (keepsTo-down (curveOf (case .road) (case .lanes)) (loadOf case) (densityLimit l) ok pos) d)
 
 pub volume-eq : (case : Case) (terms : CurveTerms) (load : Load) (l : ℕ) → Accepted case → terms ≡ curveTerms (curveOf (case .road) (case .lanes))
     → load ≡ loadOf case → 1 ≤ l → l ≤ 5 → greatest (keepsTo (terms .curve) load (densityLimit l)) greatestDemand ≡ serviceVolume case l

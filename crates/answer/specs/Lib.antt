@@ -11,3 +11,4 @@ pub mod Volumes
 pub mod Answers
 pub mod Lanes
 pub mod Search
+pub mod Promises

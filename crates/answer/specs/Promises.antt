@@ -1,0 +1,86 @@
+-- Demand 3, stated over whole cases and over the definitions that the contracts of `evaluate` and `lanes_needed` cite; proofs/Promises
+-- proves it.
+--   letterIn a, volumeIn a n       the letter's number, and the service volume of letter number n, in an answer
+--   Meets case n                   the answer to the case is graded, with letter number n or a better one; a refused case meets nothing
+--   AcceptedCount case n           n is an accepted lane count
+--   hardness t                     how hard a terrain is: level is easier than rolling
+--   NoBetterUnderMoreLoad          part 1
+--   MeetsUpToTheServiceVolume      part 2
+--   LeastAcceptedCount             part 3
+--   DemandThree                    the three together
+-- Assumes nothing.
+use mathlib.Core.Path.{_≡_}
+use mathlib.Core.Logic.{_↔_}
+use Prim.Native.Nat.{ℕ, _+_, _≤_, _<_}
+use lib.ListN.{getD}
+use Rattle.method.specs.declared.case.Terrain.{Terrain}
+use Rattle.method.specs.declared.case.Terrain.the-variants as Terrain
+use Rattle.method.specs.declared.case.Case.{Case}
+use Rattle.method.specs.Kinds.{fewestLanes, mostLanes}
+use Rattle.method.specs.Refusals.{firstRefusal, fieldRefusals, greatestDemand, Accepted}
+use Rattle.method.specs.Service.{letterNumber}
+use Rattle.answer.specs.declared.evaluate.Answer.{Answer}
+use Rattle.answer.specs.declared.evaluate.Answer.the-variants as Answer
+use Rattle.answer.specs.declared.lanes.LanesAnswer.the-variants as LanesAnswer
+use Rattle.answer.specs.Cases.{withDemand, withLanes, SameRoad}
+use Rattle.answer.specs.Answers.{answerTo, values}
+use Rattle.answer.specs.Lanes.{lanesAnswer}
+
+-- of the eleven figures of an answer the first is the letter, and the last five are the service volumes A to E
+abbrev pub letterIn : Answer → ℕ
+letterIn answer = getD (values answer) 0 0
+
+abbrev pub volumeIn : Answer → ℕ → ℕ
+volumeIn answer n = getD (values answer) (5 + n) 0
+
+-- "meets it, that is, gets it or a better one"
+abbrev pub MetBy : Answer → ℕ → Type 0
+MetBy (Answer.Graded g) n = letterNumber (g .letter) ≤ n
+MetBy (Answer.Refused r) n = ⊥
+
+abbrev pub Meets : Case → ℕ → Type 0
+Meets case n = MetBy (answerTo case) n
+
+-- "A lane count is accepted when it is one of the kind's and the case with that count, all other fields kept, is accepted"
+abbrev pub AcceptedCount : Case → ℕ → Type 0
+AcceptedCount case n =
+    (fewestLanes (case .road .kind) ≤ n) × (n ≤ mostLanes (case .road .kind)) × Accepted (withLanes case n)
+
+-- "level terrain is easier than rolling"
+abbrev pub hardness : Terrain → ℕ
+hardness Terrain.Level = 0
+hardness Terrain.Rolling = 1
+
+-- Part 1. Of two accepted cases of the same road, the one with no less demand, no smaller share, no easier terrain, no higher peak-hour factor
+-- and no more lanes never gets the better letter.
+abbrev pub NoBetterUnderMoreLoad : Type 0
+NoBetterUnderMoreLoad =
+    (c d : Case) → Accepted c → Accepted d → SameRoad c d
+    → c .demand ≤ d .demand
+    → c .«heavy_share» ≤ d .«heavy_share»
+    → hardness (c .terrain) ≤ hardness (d .terrain)
+    → d .«peak_hour_factor» ≤ c .«peak_hour_factor»
+    → d .lanes ≤ c .lanes
+    → letterIn (answerTo c) ≤ letterIn (answerTo d)
+
+-- Part 2. A demand meets a letter, A to E, exactly when it is at most the service volume that the answer to the case gives.
+abbrev pub MeetsUpToTheServiceVolume : Type 0
+MeetsUpToTheServiceVolume =
+    (c : Case) → Accepted c → (n : ℕ) → 1 ≤ n → n ≤ 5 → (demand : ℕ) → demand ≤ greatestDemand
+    → Meets (withDemand c demand) n ↔ (demand ≤ volumeIn (answerTo c) n)
+
+-- Part 3. For a letter number from 1 to 5 and a case that none of 1 to 9 refuses: the lanes question answers a count exactly when the count is
+-- accepted, meets the letter, and no smaller accepted count does; and it answers 14 exactly when no accepted count does.
+abbrev pub LeastAcceptedCount : Type 0
+LeastAcceptedCount =
+    (case : Case) (n : ℕ) → 1 ≤ n → n ≤ 5 → firstRefusal (fieldRefusals case) ≡ 0
+    → ((lanes : ℕ)
+    → (lanesAnswer case n ≡ LanesAnswer.Lanes lanes)
+    ↔ (AcceptedCount case lanes
+    × Meets (withLanes case lanes) n
+    × ((fewer : ℕ) → AcceptedCount case fewer → fewer < lanes → Meets (withLanes case fewer) n → ⊥)))
+    × ((lanesAnswer case n ≡ LanesAnswer.Refused 14)
+    ↔ ((lanes : ℕ) → AcceptedCount case lanes → Meets (withLanes case lanes) n → ⊥))
+
+abbrev pub DemandThree : Type 0
+DemandThree = NoBetterUnderMoreLoad × MeetsUpToTheServiceVolume × LeastAcceptedCount
