@@ -4,3 +4,5 @@ pub mod VolumeLaws
 pub mod AnswerLaws
 pub mod LanesLaws
 pub mod Promises
+pub mod Boundary
+pub mod Instances

@@ -63,7 +63,7 @@ no-better-under-more-load c d ac ad same hd hs ht hf hn =
 
 -- ---- part 2
 -- the service volumes in the answer to an accepted case, by the letter's number
-volumeIn-accepted : (case : Case) (n : ℕ) → Accepted case → 1 ≤ n → n ≤ 5 → volumeIn (answerTo case) n ≡ serviceVolume case n
+pub volumeIn-accepted : (case : Case) (n : ℕ) → Accepted case → 1 ≤ n → n ≤ 5 → volumeIn (answerTo case) n ≡ serviceVolume case n
 unfolding graded
 volumeIn-accepted case n a h k = ap (λ answer. volumeIn answer n) (answerTo-accepted case a) ∙ by n h k
   where

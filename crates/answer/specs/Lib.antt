@@ -6,9 +6,12 @@
 --   Search     what the search tries
 --   Promises   demand 3, stated
 --   Boundary   the boundary sections that this layer adds
+--   Instances  an instance of each part of demand 3
 pub mod Cases
 pub mod Volumes
 pub mod Answers
 pub mod Lanes
 pub mod Search
 pub mod Promises
+pub mod Boundary
+pub mod Instances

@@ -26,11 +26,11 @@ pub Shown-append : (fs gs : List Figure) → Shown fs → Shown gs → Shown (fs
 Shown-append [] gs s t = t
 Shown-append (f ∷ fs) gs s t = (s .0, Shown-append fs gs (s .1) t)
 
-ramp-6 : rampTerm 6 ≡ 3220
+pub ramp-6 : rampTerm 6 ≡ 3220
 unfolding endsAt rampAtMost
 ramp-6 = rampTerm-eq 6 3220 (omega arith) tt
 
-ramp-24 : rampTerm 24 ≡ 10317
+pub ramp-24 : rampTerm 24 ≡ 10317
 unfolding endsAt rampAtMost
 ramp-24 = rampTerm-eq 24 10317 (omega arith) tt
 

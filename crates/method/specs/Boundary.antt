@@ -38,7 +38,7 @@ abbrev densityAndLetter : Kind → ℕ → ℕ → List ℕ
 densityAndLetter kind f v = shownDensity (curveAt kind f) v ∷ letterNumber (letterAt (curveAt kind f) v) ∷ []
 
 -- a road of given speed f and lane width w
-abbrev given : Kind → ℕ → ℕ → Road
+abbrev pub given : Kind → ℕ → ℕ → Road
 given kind f w =
     record {
       kind = kind;
@@ -52,12 +52,12 @@ given kind f w =
     }
 
 -- N = 2, H = 1,000, P = 0, level
-abbrev twoLanes : Road → ℕ → Case
+abbrev pub twoLanes : Road → ℕ → Case
 twoLanes road demand =
     record { road = road; lanes = 2; demand = demand; «peak_hour_factor» = 1000; «heavy_share» = 0; terrain = Terrain.Level }
 
 -- the line F E 75400 110 20 0 D 24 2 2000 920 50 R
-abbrev example : Case
+abbrev pub example : Case
 example =
     record {
       road =

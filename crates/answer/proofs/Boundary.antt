@@ -1,0 +1,67 @@
+-- The boundary sections (specs/Boundary), shown, with those of the layer below.
+--   boundary-shown   each figure of the list is what is to be shown
+-- Assumes nothing.
+use mathlib.Core.Path.{_≡_, refl, sym, ap, _∙_}
+use mathlib.Core.List.{List, [], _∷_, _++_}
+use Prim.Native.Nat.{ℕ, _≤_}
+use native.Mathlib.Omega.{arith}
+use lib.Dec.{T}
+use Rattle.numbers.specs.Division.{divUp}
+use Rattle.numbers.specs.Search.{leastFrom, least, endsAt}
+use Rattle.numbers.proofs.SearchLaws.{greatest-last}
+use Rattle.method.specs.declared.kind.Kind.the-variants as Kind
+use Rattle.method.specs.Adjustments.{laneWidthAdjustment, perMissingFoot, rightClearanceAdjustment}
+use Rattle.method.specs.FreeFlowSpeed.{estimatedBy, uncappedBy, freeFlowSpeed}
+use Rattle.method.specs.Refusals.{greatestDemand, roadRefusals, loadRefusals, fieldRefusals, speedRefusals, refusals, Accepted}
+use Rattle.method.specs.Curves.{capacity, breakpoint, curveAt, curveOf}
+use Rattle.method.specs.Flow.{heavyFactor, flowRate}
+use Rattle.method.specs.Speed.{fallShareBy, speed, shownSpeed}
+use Rattle.method.specs.Service.{density, shownDensity, densityLetter, letterAt, meetsLimit, densityLimit, performance}
+use Rattle.method.specs.Assess.{measures}
+use Rattle.method.specs.Boundary.{Shown, example}
+use Rattle.method.proofs.RefusalLaws.{accepted-parts}
+use Rattle.method.proofs.CurveLaws.{curveOf-wellFormed}
+use Rattle.method.proofs.FlowLaws.{flowRate-parts}
+use Rattle.method.proofs.Boundary as method
+use Rattle.method.proofs.Boundary.{Shown-append, ramp-6, ramp-24}
+use Rattle.answer.specs.Volumes.{meets, serviceVolume}
+use Rattle.answer.specs.Answers.{graded}
+use Rattle.answer.specs.Lanes.{lanesFound, lanesRefusals}
+use Rattle.answer.specs.Search.{loadOf, keepsTo}
+use Rattle.answer.specs.Boundary.{addedFigures, boundaryFigures}
+use Rattle.answer.proofs.VolumeLaws.{keepsTo-down, serviceVolume-eq}
+
+pub example-accepted : Accepted example
+unfolding laneWidthAdjustment perMissingFoot rightClearanceAdjustment estimatedBy uncappedBy freeFlowSpeed roadRefusals loadRefusals fieldRefusals speedRefusals refusals
+example-accepted = simp ramp-24
+
+example-curve : curveOf (example .road) 2 ≡ curveAt Kind.Freeway 60783
+unfolding laneWidthAdjustment perMissingFoot rightClearanceAdjustment estimatedBy uncappedBy freeFlowSpeed curveOf
+example-curve = simp ramp-24
+
+-- a service volume of the printed case, by where the search's test ends
+volume : (l s : ℕ) → 1 ≤ l → l ≤ 5 → s ≤ greatestDemand → T (endsAt (keepsTo (curveAt Kind.Freeway 60783) (loadOf example) (densityLimit l)) s) → serviceVolume example l ≡ s
+volume l s h k d t =
+    serviceVolume-eq example l example-accepted h k
+    ∙ greatest-last (keepsTo (curveOf (example .road) 2) (loadOf example) (densityLimit l)) greatestDemand s
+    (keepsTo-down (curveOf (example .road) 2) (loadOf example) (densityLimit l) (curveOf-wellFormed example example-accepted)
+    (flowRate-parts example (accepted-parts example example-accepted .0) .divisor-pos))
+    d (rw example-curve t)
+
+pub volumes : (serviceVolume example 1 ≡ 1117) × (serviceVolume example 2 ≡ 1829) × (serviceVolume example 3 ≡ 2642) × (serviceVolume example 4 ≡ 3360) × (serviceVolume example 5 ≡ 3858)
+unfolding divUp endsAt heavyFactor capacity breakpoint curveAt fallShareBy speed density meetsLimit densityLimit keepsTo
+volumes = (
+  volume 1 1117 (omega arith) (omega arith) (omega arith) tt,
+  volume 2 1829 (omega arith) (omega arith) (omega arith) tt,
+  volume 3 2642 (omega arith) (omega arith) (omega arith) tt,
+  volume 4 3360 (omega arith) (omega arith) (omega arith) tt,
+  volume 5 3858 (omega arith) (omega arith) (omega arith) tt,
+)
+
+added-shown : Shown addedFigures
+unfolding divUp leastFrom least laneWidthAdjustment perMissingFoot rightClearanceAdjustment estimatedBy uncappedBy freeFlowSpeed roadRefusals loadRefusals fieldRefusals speedRefusals refusals capacity breakpoint curveAt curveOf heavyFactor flowRate fallShareBy speed shownSpeed density shownDensity densityLetter letterAt performance measures meets graded lanesFound lanesRefusals addedFigures
+added-shown =
+    (simp (ramp-24, volumes .0, volumes .1, volumes .2, volumes .3, volumes .4), (simp ramp-24, (simp ramp-24, (simp ramp-24, (refl, (simp ramp-6, tt))))))
+
+pub boundary-shown : Shown boundaryFigures
+boundary-shown = Shown-append Rattle.method.specs.Boundary.boundaryFigures addedFigures method.boundary-shown added-shown
