@@ -52,7 +52,7 @@ addedFigures =
     ∷ figure (lanes.values (lanesAnswer (exampleWith 2643) 3)) (3 ∷ [])
     ∷ figure (lanes.refusalNumber (lanesAnswer (exampleWith 99999) 3) ∷ []) (14 ∷ [])
     ∷ figure (lanes.refusalNumber (lanesAnswer example 6) ∷ []) (16 ∷ [])
-    ∷ figure (answers.refusalNumber (answerTo estimated) ∷ []) (10 ∷ [])
+    ∷ figure (answers.refusalNumber (answerTo estimated) ∷ lanes.values (lanesAnswer estimated 1)) (10 ∷ 4 ∷ [])
     ∷ []
 
 abbrev pub boundaryFigures : List Figure

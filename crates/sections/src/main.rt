@@ -1,9 +1,12 @@
-// Sections: prints a line for each of some cases, with letter, F, c, v, speed and density parted by tabs, or X and the refusal's number.
-// The first lines are boundary sections of document 01; the others stand at the ends of the fields and past them.
+// Sections: prints a line for each of some cases: letter, F, c, v, speed, density and the service volumes A to E parted by tabs, and a line
+// for each of some lanes questions: the count. A refusal prints X and its number. The first lines are boundary sections of document 01; the
+// others stand at the ends of the fields and past them.
+use answer::evaluate;
+use answer::evaluate::Answer;
+use answer::evaluate::Grade;
+use answer::lanes;
+use answer::lanes::LanesAnswer;
 use libc::STDOUT_FILENO;
-use method::assess;
-use method::assess::Assessment;
-use method::assess::Measures;
 use method::case::Case;
 use method::case::Median;
 use method::case::Road;
@@ -31,26 +34,42 @@ fn print_field(n: u64) {
     io::print_decimal(STDOUT_FILENO, n);
 }
 
-fn print_measures(m: Measures) {
-    let curve = m.curve;
-    let performance = m.performance;
-    let letter = performance.letter;
+fn print_refusal(number: u64) {
+    io::write_all(STDOUT_FILENO, b"X");
+    print_field(number);
+}
+
+fn print_grade(g: Grade) {
+    let letter = g.letter;
     print_letter(letter);
-    print_field(curve.free_flow_speed);
-    print_field(curve.capacity);
-    print_field(m.flow_rate);
-    print_field(performance.speed);
-    print_field(performance.density);
+    print_field(g.free_flow_speed);
+    print_field(g.capacity);
+    print_field(g.flow_rate);
+    print_field(g.speed);
+    print_field(g.density);
+    print_field(g.volume_a);
+    print_field(g.volume_b);
+    print_field(g.volume_c);
+    print_field(g.volume_d);
+    print_field(g.volume_e);
 }
 
 fn show(case: Case) {
-    let assessment = assess::assess(case);
-    match assessment {
-        Assessment::Measured(m) => print_measures(m),
-        Assessment::Refused(number) => {
-            io::write_all(STDOUT_FILENO, b"X");
-            print_field(number);
+    let answer = evaluate::evaluate(case);
+    match answer {
+        Answer::Graded(g) => print_grade(g),
+        Answer::Refused(number) => print_refusal(number),
+    }
+    io::write_all(STDOUT_FILENO, b"\n");
+}
+
+fn show_lanes(case: Case, letter: u64) {
+    let answer = lanes::lanes_needed(case, letter);
+    match answer {
+        LanesAnswer::Lanes(count) => {
+            io::print_decimal(STDOUT_FILENO, count);
         }
+        LanesAnswer::Refused(number) => print_refusal(number),
     }
     io::write_all(STDOUT_FILENO, b"\n");
 }
@@ -105,6 +124,20 @@ fn example() -> Case {
     }
 }
 
+// F E 60000 120 0 0 D 6: refused with 10 below 4 lanes.
+fn narrow_road() -> Road {
+    Road {
+        kind: Kind::Freeway,
+        way: Way::Estimated,
+        speed: 60_000,
+        lane_width: 120,
+        right_clearance: 0,
+        left_clearance: 0,
+        median: Median::Divided,
+        access: 6,
+    }
+}
+
 fn multilane_road(median: Median) -> Road {
     Road {
         kind: Kind::Multilane,
@@ -137,6 +170,9 @@ fn ends() {
     show(two_lanes(given(Kind::Freeway, 55_052), 3_830));
     show(two_lanes(given(Kind::Multilane, 45_000), 3_800));
     show(two_lanes(given(Kind::Freeway, 90_000), 0));
+    show(two_lanes(given(Kind::Freeway, 90_000), 99_999));
+    show(two_lanes(given(Kind::Freeway, 90_000), 100_000));
+    show(two_lanes(given(Kind::Freeway, 90_000), LARGEST));
     show(two_lanes(given(Kind::Multilane, 90_000), 0));
     show(Case {
         road: multilane_road(Median::TwoWayLeftTurnLane),
@@ -208,8 +244,36 @@ fn refusals() {
     show(case);
 }
 
+// The printed section with another demand.
+fn example_with(demand: u64) -> Case {
+    let mut case = example();
+    case.demand = demand;
+    case
+}
+
+// The lanes question: letter C of the printed section at three demands; a case that 10 refuses; letters and demands at their ends and past them.
+fn lanes_questions() {
+    show_lanes(example(), 3);
+    show_lanes(example_with(2_643), 3);
+    show_lanes(example_with(99_999), 3);
+    show(two_lanes(narrow_road(), 2_000));
+    show_lanes(two_lanes(narrow_road(), 2_000), 1);
+    show_lanes(two_lanes(narrow_road(), 2_000), 5);
+    show_lanes(example(), 0);
+    show_lanes(example(), 6);
+    show_lanes(example_with(LARGEST), LARGEST);
+    show_lanes(example_with(100_000), 1);
+    show_lanes(example_with(0), 1);
+    show_lanes(two_lanes(given(Kind::Multilane, 70_000), 6_900), 5);
+    show_lanes(two_lanes(given(Kind::Multilane, 70_000), 6_901), 5);
+    show_lanes(two_lanes(given(Kind::Freeway, 75_000), 19_200), 5);
+    show_lanes(two_lanes(given(Kind::Freeway, 75_000), 19_201), 5);
+    show_lanes(two_lanes(given(Kind::Freeway, 54_999), 0), 1);
+}
+
 fn main() {
     boundary_sections();
     ends();
     refusals();
+    lanes_questions();
 }
