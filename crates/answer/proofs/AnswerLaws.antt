@@ -3,7 +3,7 @@
 --   answerTo-refused    a refused case gets its number
 --   Meets-iff           an answer meets a letter exactly when the case does
 -- Assumes nothing.
-use mathlib.Core.Path.{_≡_}
+use mathlib.Core.Path.{_≡_, refl, ap}
 use mathlib.Core.Logic.{_↔_}
 use Prim.Native.Nat.{ℕ, _≤_, _<_}
 use native.Mathlib.Omega.{arith}
@@ -17,8 +17,8 @@ use Rattle.method.specs.Assess.{measures, assessment}
 use Rattle.method.proofs.AssessLaws.{assessment-accepted}
 use Rattle.answer.specs.declared.evaluate.Answer.the-variants as Answer
 use Rattle.answer.specs.Volumes.{meets}
-use Rattle.answer.specs.Promises.{MetBy, Meets}
-use Rattle.answer.specs.Answers.{graded, answerTo}
+use Rattle.answer.specs.Promises.{Meets}
+use Rattle.answer.specs.Answers.{graded, answerTo, refusalNumber}
 use Rattle.answer.proofs.VolumeLaws.{meets-refused}
 
 pub answerTo-accepted : (case : Case) → Accepted case → answerTo case ≡ Answer.Graded (graded case)
@@ -35,7 +35,8 @@ Meets-iff case n = go (decLe (refusal case) 0)
     go (yes h) =
         let a : Accepted case = omega arith in
         rw (answerTo-accepted case a, assessment-accepted case a)
-        (le→leb (letterNumber (measures case .performance .letter)) n, leb→le (letterNumber (measures case .performance .letter)) n)
+        (λ m. le→leb (letterNumber (measures case .performance .letter)) n (m .1), λ t. (refl, leb→le (letterNumber (measures case .performance .letter)) n t))
     go (no h) =
         let p : 0 < refusal case = omega arith in
-        (λ m. absurd (rw (answerTo-refused case p) at m), λ t. absurd (T-false (meets case n) (meets-refused case n p) t))
+        let number : refusalNumber (answerTo case) ≡ refusal case = ap refusalNumber (answerTo-refused case p) in
+        (λ m. absurd (omega (arith, m .0)), λ t. absurd (T-false (meets case n) (meets-refused case n p) t))

@@ -26,9 +26,9 @@ use Rattle.method.proofs.Boundary as method
 use Rattle.method.proofs.Boundary.{Shown-append, ramp-6, ramp-24}
 use Rattle.answer.specs.Volumes.{meets, serviceVolume}
 use Rattle.answer.specs.Answers.{graded}
-use Rattle.answer.specs.Lanes.{lanesFound, lanesRefusals}
+use Rattle.answer.specs.Lanes.{lanesFound, lanesRefusals, lanesAnswer, refusalNumber}
 use Rattle.answer.specs.Search.{loadOf, keepsTo}
-use Rattle.answer.specs.Boundary.{addedFigures, boundaryFigures}
+use Rattle.answer.specs.Boundary.{exampleWith, addedFigures, boundaryFigures}
 use Rattle.answer.proofs.VolumeLaws.{keepsTo-down, serviceVolume-eq}
 
 pub example-accepted : Accepted example
@@ -58,10 +58,15 @@ volumes = (
   volume 5 3858 (omega arith) (omega arith) (omega arith) tt,
 )
 
+-- with V = 99,999 no count of the printed case meets C
+pub none-at-99999 : refusalNumber (lanesAnswer (exampleWith 99999) 3) ≡ 14
+unfolding divUp leastFrom least laneWidthAdjustment perMissingFoot rightClearanceAdjustment estimatedBy uncappedBy freeFlowSpeed roadRefusals loadRefusals fieldRefusals speedRefusals refusals capacity breakpoint curveAt curveOf heavyFactor flowRate fallShareBy speed shownSpeed density shownDensity densityLetter letterAt performance measures meets graded lanesFound lanesRefusals
+none-at-99999 = simp ramp-24
+
 added-shown : Shown addedFigures
 unfolding divUp leastFrom least laneWidthAdjustment perMissingFoot rightClearanceAdjustment estimatedBy uncappedBy freeFlowSpeed roadRefusals loadRefusals fieldRefusals speedRefusals refusals capacity breakpoint curveAt curveOf heavyFactor flowRate fallShareBy speed shownSpeed density shownDensity densityLetter letterAt performance measures meets graded lanesFound lanesRefusals addedFigures
 added-shown =
-    (simp (ramp-24, volumes .0, volumes .1, volumes .2, volumes .3, volumes .4), (simp ramp-24, (simp ramp-24, (simp ramp-24, (refl, (simp ramp-6, tt))))))
+    (simp (ramp-24, volumes .0, volumes .1, volumes .2, volumes .3, volumes .4), (simp ramp-24, (simp ramp-24, (ap (λ number. number ∷ []) none-at-99999, (refl, (simp ramp-6, tt))))))
 
 pub boundary-shown : Shown boundaryFigures
 boundary-shown = Shown-append Rattle.method.specs.Boundary.boundaryFigures addedFigures method.boundary-shown added-shown

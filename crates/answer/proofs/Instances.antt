@@ -1,6 +1,7 @@
 -- An instance of each part of demand 3 (specs/Instances), proved by the part.
 -- Assumes nothing.
 use mathlib.Core.Path.{_≡_, refl, sym, _∙_}
+use mathlib.Core.List.{[], _∷_}
 use Prim.Native.Nat.{ℕ, zero, suc, _≤_, _<_}
 use native.Mathlib.Omega.{arith}
 use lib.Dec.{T, leb, le→leb}
@@ -14,24 +15,34 @@ use Rattle.method.specs.Speed.{fallShareBy, speed, shownSpeed}
 use Rattle.method.specs.Service.{density, shownDensity, densityLetter, letterAt, performance}
 use Rattle.method.specs.Assess.{measures}
 use Rattle.method.specs.Boundary.{example}
-use Rattle.method.proofs.Boundary.{ramp-6}
+use Rattle.method.proofs.Boundary.{ramp-6, ramp-24}
 use Rattle.answer.specs.Cases.{withDemand, withLanes}
 use Rattle.answer.specs.Volumes.{meets, serviceVolume}
-use Rattle.answer.specs.Answers.{answerTo, refusalNumber}
-use Rattle.answer.specs.Lanes.{lanesAnswer}
-use Rattle.answer.specs.declared.lanes.LanesAnswer.the-variants as LanesAnswer
-use Rattle.answer.specs.Promises.{Meets, AcceptedCount, volumeIn}
+use Rattle.answer.specs.Answers.{graded, answerTo, refusalNumber}
+use Rattle.answer.specs.Lanes.{lanesAnswer, values}
+use Rattle.answer.specs.Promises.{letterIn, Meets, AcceptedCount, volumeIn}
 use Rattle.answer.specs.Boundary.{exampleWith, estimated}
-use Rattle.answer.specs.Instances.{NoBetterLetterUnderMoreDemand, ServiceVolumeOfTheExample, FourLanesForEveryLetter}
+use Rattle.answer.specs.Instances.{lighter, NoBetterLetterUnderMoreLoad, ServiceVolumeOfTheExample, FourLanesForEveryLetter, NoLanesForTheGreatestDemand}
 use Rattle.answer.proofs.CaseLaws.{accepted-withDemand}
 use Rattle.answer.proofs.AnswerLaws.{Meets-iff}
 use Rattle.answer.proofs.Promises.{volumeIn-accepted, no-better-under-more-load, meets-up-to-the-service-volume, least-accepted-count}
-use Rattle.answer.proofs.Boundary.{example-accepted, volumes}
+use Rattle.answer.proofs.Boundary.{example-accepted, volumes, none-at-99999}
 
-pub no-better-letter-under-more-demand : NoBetterLetterUnderMoreDemand
-no-better-letter-under-more-demand =
-    no-better-under-more-load example (exampleWith 2643) example-accepted (accepted-withDemand example 2643 example-accepted (omega arith)) refl
-    (omega arith) (omega arith) (omega arith) (omega arith) (omega arith)
+lighter-accepted : Accepted lighter
+unfolding laneWidthAdjustment perMissingFoot rightClearanceAdjustment estimatedBy uncappedBy freeFlowSpeed roadRefusals loadRefusals fieldRefusals speedRefusals refusals
+lighter-accepted = simp ramp-24
+
+letters : (letterIn (answerTo lighter) ≡ 1) × (letterIn (answerTo (exampleWith 2643)) ≡ 4)
+unfolding divUp laneWidthAdjustment perMissingFoot rightClearanceAdjustment estimatedBy uncappedBy freeFlowSpeed roadRefusals loadRefusals fieldRefusals speedRefusals refusals capacity breakpoint curveAt curveOf heavyFactor flowRate fallShareBy speed shownSpeed density shownDensity densityLetter letterAt performance measures graded
+letters = (simp ramp-24, simp ramp-24)
+
+pub no-better-letter-under-more-load : NoBetterLetterUnderMoreLoad
+no-better-letter-under-more-load = (
+  letters .0,
+  letters .1,
+  no-better-under-more-load lighter (exampleWith 2643) lighter-accepted (accepted-withDemand example 2643 example-accepted (omega arith)) refl
+      (omega arith) (omega arith) (omega arith) (omega arith) (omega arith),
+)
 
 pub service-volume-of-the-example : ServiceVolumeOfTheExample
 service-volume-of-the-example =
@@ -67,10 +78,18 @@ four-lanes-for-every-letter = (refused, needed)
     refused : refusalNumber (answerTo estimated) ≡ 10
     refused = simp (counts .0)
 
-    needed : (n : ℕ) → 1 ≤ n → n ≤ 5 → lanesAnswer estimated n ≡ LanesAnswer.Lanes 4
+    needed : (n : ℕ) → 1 ≤ n → n ≤ 5 → values (lanesAnswer estimated n) ≡ 4 ∷ []
     needed n h k =
         least-accepted-count estimated n h k fields-fit .0 4 .1 (
           (omega arith, omega arith, counts .2),
           Meets-iff (withLanes estimated 4) n .1 (rw (four-meet n) (le→leb 1 n h)),
           fewer-refused n,
         )
+
+example-fits : firstRefusal (fieldRefusals (exampleWith 99999)) ≡ 0
+unfolding roadRefusals loadRefusals fieldRefusals
+example-fits = refl
+
+pub no-lanes-for-the-greatest-demand : NoLanesForTheGreatestDemand
+no-lanes-for-the-greatest-demand =
+    least-accepted-count (exampleWith 99999) 3 (omega arith) (omega arith) example-fits .1 .0 none-at-99999

@@ -6,18 +6,18 @@
 -- Assumes nothing.
 use mathlib.Core.Path.{_≡_, refl, sym, ap, _∙_}
 use mathlib.Core.Logic.{_↔_}
-use Prim.Native.Nat.{ℕ, zero, suc, _+_, _≤_, _<_}
+use mathlib.Core.List.{[], _∷_}
+use Prim.Native.Nat.{ℕ, zero, suc, _≤_, _<_}
 use native.Mathlib.Omega.{arith}
-use native.Mathlib.Nat.{le-trans}
 use native.Mathlib.Decide.{decLe}
 use lib.Dec.{T}
-use lib.ListN.{getD}
+use lib.ListN.{length, getD}
 use Rattle.method.specs.declared.case.Terrain.{Terrain}
 use Rattle.method.specs.declared.case.Terrain.the-variants as Terrain
 use Rattle.method.specs.declared.case.Case.{Case}
-use Rattle.method.specs.Kinds.{lowestSpeed, fewestLanes, mostLanes}
+use Rattle.method.specs.Kinds.{mostLanes}
 use Rattle.method.specs.FreeFlowSpeed.{freeFlowSpeed}
-use Rattle.method.specs.Refusals.{firstRefusal, fieldRefusals, greatestDemand, Accepted}
+use Rattle.method.specs.Refusals.{firstRefusal, fieldRefusals, Accepted}
 use Rattle.method.specs.Curves.{curveOf}
 use Rattle.method.specs.Flow.{truckEquivalent, flowRate}
 use Rattle.method.specs.Service.{letterAt, letterNumber, performance}
@@ -28,10 +28,10 @@ use Rattle.method.proofs.FlowLaws.{flowRate-mono, flowRate-parts}
 use Rattle.method.proofs.ServiceLaws.{letterAt-mono}
 use Rattle.answer.specs.declared.evaluate.Answer.the-variants as Answer
 use Rattle.answer.specs.declared.lanes.LanesAnswer.the-variants as LanesAnswer
-use Rattle.answer.specs.Cases.{withDemand, withLanes, SameRoad}
+use Rattle.answer.specs.Cases.{withDemand, withLanes}
 use Rattle.answer.specs.Volumes.{meets, serviceVolume}
 use Rattle.answer.specs.Answers.{graded, answerTo}
-use Rattle.answer.specs.Lanes.{lanesFound, lanesAnswer}
+use Rattle.answer.specs.Lanes.{lanesFound, lanesAnswer, refusalNumber, values}
 use Rattle.answer.specs.Promises.{letterIn, volumeIn, Meets, AcceptedCount, hardness, NoBetterUnderMoreLoad, MeetsUpToTheServiceVolume, LeastAcceptedCount, DemandThree}
 use Rattle.answer.proofs.VolumeLaws.{meets-only-accepted, serviceVolume-iff}
 use Rattle.answer.proofs.AnswerLaws.{answerTo-accepted, Meets-iff}
@@ -112,30 +112,40 @@ module _ (case : Case) (n : ℕ) (h : 1 ≤ n) (k : n ≤ 5) (z : firstRefusal (
       lanesFound-eq case n lanes (least .0 .1) (Meets-iff (withLanes case lanes) n .0 (least .1))
       (λ fewer f t. least .2 fewer (counted case n fewer t) f (Meets-iff (withLanes case fewer) n .1 t))
 
-  answers : (lanes : ℕ) → (lanesAnswer case n ≡ LanesAnswer.Lanes lanes) ↔ Least lanes
-  answers lanes = (to (decLe (lanesFound case n) (mostLanes (case .road .kind))), from)
+  -- what is answered: a count, or 14
+  found : lanesFound case n ≤ mostLanes (case .road .kind) → lanesAnswer case n ≡ LanesAnswer.Lanes (lanesFound case n)
+  found l = lanesAnswer-found case n h k z l
+
+  none : (lanesFound case n ≤ mostLanes (case .road .kind) → ⊥) → lanesAnswer case n ≡ LanesAnswer.Refused 14
+  none l = lanesAnswer-none case n h k z (omega arith)
+
+  answers : (count : ℕ) → (values (lanesAnswer case n) ≡ count ∷ []) ↔ Least count
+  answers count = (to (decLe (lanesFound case n) (mostLanes (case .road .kind))), from)
     where
-      to : Dec (lanesFound case n ≤ mostLanes (case .road .kind)) → lanesAnswer case n ≡ LanesAnswer.Lanes lanes → Least lanes
-      to (yes l) e = let same : lanesFound case n ≡ lanes = cc (lanesAnswer-found case n h k z l, e) in rw same at (found-least l)
-      to (no l) e = absurd (let o : _≡_ {A = ℕ} 0 1 = cc (lanesAnswer-none case n h k z (omega arith), e) in omega arith)
+      to : Dec (lanesFound case n ≤ mostLanes (case .road .kind)) → values (lanesAnswer case n) ≡ count ∷ [] → Least count
+      to (yes l) e =
+          let same : lanesFound case n ≡ count = ap (λ xs. getD xs 0 0) (sym (ap values (found l)) ∙ e) in
+          rw same at (found-least l)
+      to (no l) e = absurd (let o : _≡_ {A = ℕ} 0 1 = ap length (sym (ap values (none l)) ∙ e) in omega arith)
 
-      from : Least lanes → lanesAnswer case n ≡ LanesAnswer.Lanes lanes
+      from : Least count → values (lanesAnswer case n) ≡ count ∷ []
       from least =
-          let same : lanesFound case n ≡ lanes = least-found lanes least in
-          lanesAnswer-found case n h k z (rw same (least .0 .1)) ∙ ap LanesAnswer.Lanes same
+          let same : lanesFound case n ≡ count = least-found count least in
+          ap values (found (rw same (least .0 .1))) ∙ ap (λ c. c ∷ []) same
 
-  refuses-14 : (lanesAnswer case n ≡ LanesAnswer.Refused 14) ↔ ((lanes : ℕ) → AcceptedCount case lanes → Meets (withLanes case lanes) n → ⊥)
+  refuses-14 : (refusalNumber (lanesAnswer case n) ≡ 14) ↔ ((count : ℕ) → AcceptedCount case count → Meets (withLanes case count) n → ⊥)
   refuses-14 = (to (decLe (lanesFound case n) (mostLanes (case .road .kind))), from)
     where
-      to : Dec (lanesFound case n ≤ mostLanes (case .road .kind)) → lanesAnswer case n ≡ LanesAnswer.Refused 14
-          → (lanes : ℕ) → AcceptedCount case lanes → Meets (withLanes case lanes) n → ⊥
-      to (yes l) e lanes a m = let o : _≡_ {A = ℕ} 0 1 = cc (lanesAnswer-found case n h k z l, e) in omega arith
-      to (no l) e lanes a m = omega (arith, a .1, lanesFound-le case n lanes (Meets-iff (withLanes case lanes) n .0 m))
+      to : Dec (lanesFound case n ≤ mostLanes (case .road .kind)) → refusalNumber (lanesAnswer case n) ≡ 14
+          → (count : ℕ) → AcceptedCount case count → Meets (withLanes case count) n → ⊥
+      to (yes l) e count a m = let o : _≡_ {A = ℕ} 0 14 = sym (ap refusalNumber (found l)) ∙ e in omega arith
+      to (no l) e count a m = omega (arith, a .1, lanesFound-le case n count (Meets-iff (withLanes case count) n .0 m))
 
-      from : ((lanes : ℕ) → AcceptedCount case lanes → Meets (withLanes case lanes) n → ⊥) → lanesAnswer case n ≡ LanesAnswer.Refused 14
-      from none =
-          lanesAnswer-none case n h k z
-          (omega (arith, lanesFound-none case n (λ lanes l t. none lanes (counted case n lanes t) (Meets-iff (withLanes case lanes) n .1 t))))
+      from : ((count : ℕ) → AcceptedCount case count → Meets (withLanes case count) n → ⊥) → refusalNumber (lanesAnswer case n) ≡ 14
+      from nothing =
+          let past : lanesFound case n ≡ suc (mostLanes (case .road .kind)) =
+          lanesFound-none case n (λ count l t. nothing count (counted case n count t) (Meets-iff (withLanes case count) n .1 t)) in
+          ap refusalNumber (none (λ l. omega arith))
 
 pub least-accepted-count : LeastAcceptedCount
 least-accepted-count case n h k z = (answers case n h k z, refuses-14 case n h k z)

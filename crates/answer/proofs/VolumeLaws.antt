@@ -2,9 +2,10 @@
 --   keepsTo-zero, keepsTo-down   no demand keeps to every density; less demand keeps to what more keeps to
 --   meets-accepted       an accepted case meets a letter exactly when its flow rate keeps to the letter's density
 --   meets-refused, meets-only-accepted   a refused case meets no letter
---   serviceVolume-iff    a demand meets a letter exactly when it is at most the service volume
---   volume-eq            the same from a curve's terms and a load
+--   meets-keepsTo        what the search tries at a demand is meeting the letter with that demand
 --   serviceVolume-eq     the service volume of an accepted case is the greatest demand that the search's test passes
+--   serviceVolume-iff    a demand meets a letter exactly when it is at most the service volume
+--   volume-eq            the service volume from a curve's terms and a load
 -- Assumes nothing.
 use mathlib.Core.Path.{_≡_, sym, ap, _∙_}
 use mathlib.Core.Bool.{Bool, false}

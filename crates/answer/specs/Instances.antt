@@ -1,24 +1,39 @@
 -- An instance of each part of demand 3 with all its hypotheses met, so that none is true for an empty reason; proofs/Instances proves them
 -- by the parts themselves.
---   NoBetterLetterUnderMoreDemand   part 1: the printed case, and the same with V = 2,643
---   ServiceVolumeOfTheExample       part 2: with V = 2,642 it meets C, with 2,643 it does not
---   FourLanesForEveryLetter         part 3: a case that 10 refuses needs 4 lanes, for every letter
+--   lighter                          F E 75400 110 20 0 D 24 3 2000 1000 0 L: the printed case with less of every load
+--   NoBetterLetterUnderMoreLoad      part 1: it gets A, and the printed case with V = 2,643, with more of every load, gets D
+--   ServiceVolumeOfTheExample        part 2: with V = 2,642 the printed case meets C, with 2,643 it does not
+--   FourLanesForEveryLetter          part 3: a case that 10 refuses needs 4 lanes, for every letter
+--   NoLanesForTheGreatestDemand      part 3: with V = 99,999 no accepted count of the printed case meets C
 -- Assumes nothing.
 use mathlib.Core.Path.{_≡_}
+use mathlib.Core.List.{[], _∷_}
 use Prim.Native.Nat.{ℕ, _≤_}
+use Rattle.method.specs.declared.case.Terrain.the-variants as Terrain
+use Rattle.method.specs.declared.case.Case.{Case}
 use Rattle.method.specs.Boundary.{example}
-use Rattle.answer.specs.declared.lanes.LanesAnswer.the-variants as LanesAnswer
+use Rattle.answer.specs.Cases.{withLanes}
 use Rattle.answer.specs.Answers.{answerTo, refusalNumber}
-use Rattle.answer.specs.Lanes.{lanesAnswer}
-use Rattle.answer.specs.Promises.{letterIn, Meets}
+use Rattle.answer.specs.Lanes.{lanesAnswer, values}
+use Rattle.answer.specs.Promises.{letterIn, Meets, AcceptedCount}
 use Rattle.answer.specs.Boundary.{exampleWith, estimated}
 
-abbrev pub NoBetterLetterUnderMoreDemand : Type 0
-NoBetterLetterUnderMoreDemand = letterIn (answerTo example) ≤ letterIn (answerTo (exampleWith 2643))
+abbrev pub lighter : Case
+lighter =
+    record { road = example .road; lanes = 3; demand = 2000; «peak_hour_factor» = 1000; «heavy_share» = 0; terrain = Terrain.Level }
+
+abbrev pub NoBetterLetterUnderMoreLoad : Type 0
+NoBetterLetterUnderMoreLoad =
+    (letterIn (answerTo lighter) ≡ 1) × (letterIn (answerTo (exampleWith 2643)) ≡ 4)
+    × (letterIn (answerTo lighter) ≤ letterIn (answerTo (exampleWith 2643)))
 
 abbrev pub ServiceVolumeOfTheExample : Type 0
 ServiceVolumeOfTheExample = Meets (exampleWith 2642) 3 × (Meets (exampleWith 2643) 3 → ⊥)
 
 abbrev pub FourLanesForEveryLetter : Type 0
 FourLanesForEveryLetter =
-    (refusalNumber (answerTo estimated) ≡ 10) × ((n : ℕ) → 1 ≤ n → n ≤ 5 → lanesAnswer estimated n ≡ LanesAnswer.Lanes 4)
+    (refusalNumber (answerTo estimated) ≡ 10) × ((n : ℕ) → 1 ≤ n → n ≤ 5 → values (lanesAnswer estimated n) ≡ 4 ∷ [])
+
+abbrev pub NoLanesForTheGreatestDemand : Type 0
+NoLanesForTheGreatestDemand =
+    (count : ℕ) → AcceptedCount (exampleWith 99999) count → Meets (withLanes (exampleWith 99999) count) 3 → ⊥

@@ -1,6 +1,6 @@
 -- Demand 3, stated over whole cases and over the definitions that the contracts of `evaluate` and `lanes_needed` cite; proofs/Promises
 -- proves it.
---   letterIn a, volumeIn a n       the letter's number, and the service volume of letter number n, in an answer
+--   letterIn a, volumeIn a n       the letter's number, and the service volume of letter number n from 1 to 5, in a graded answer
 --   Meets case n                   the answer to the case is graded, with letter number n or a better one; a refused case meets nothing
 --   AcceptedCount case n           n is an accepted lane count
 --   hardness t                     how hard a terrain is: level is easier than rolling
@@ -11,6 +11,7 @@
 -- Assumes nothing.
 use mathlib.Core.Path.{_≡_}
 use mathlib.Core.Logic.{_↔_}
+use mathlib.Core.List.{[], _∷_}
 use Prim.Native.Nat.{ℕ, _+_, _≤_, _<_}
 use lib.ListN.{getD}
 use Rattle.method.specs.declared.case.Terrain.{Terrain}
@@ -18,28 +19,23 @@ use Rattle.method.specs.declared.case.Terrain.the-variants as Terrain
 use Rattle.method.specs.declared.case.Case.{Case}
 use Rattle.method.specs.Kinds.{fewestLanes, mostLanes}
 use Rattle.method.specs.Refusals.{firstRefusal, fieldRefusals, greatestDemand, Accepted}
-use Rattle.method.specs.Service.{letterNumber}
 use Rattle.answer.specs.declared.evaluate.Answer.{Answer}
-use Rattle.answer.specs.declared.evaluate.Answer.the-variants as Answer
-use Rattle.answer.specs.declared.lanes.LanesAnswer.the-variants as LanesAnswer
 use Rattle.answer.specs.Cases.{withDemand, withLanes, SameRoad}
-use Rattle.answer.specs.Answers.{answerTo, values}
+use Rattle.answer.specs.Answers as answers
+use Rattle.answer.specs.Answers.{answerTo}
+use Rattle.answer.specs.Lanes as lanes
 use Rattle.answer.specs.Lanes.{lanesAnswer}
 
 -- of the eleven figures of an answer the first is the letter, and the last five are the service volumes A to E
 abbrev pub letterIn : Answer → ℕ
-letterIn answer = getD (values answer) 0 0
+letterIn answer = getD (answers.values answer) 0 0
 
 abbrev pub volumeIn : Answer → ℕ → ℕ
-volumeIn answer n = getD (values answer) (5 + n) 0
+volumeIn answer n = getD (answers.values answer) (5 + n) 0
 
 -- "meets it, that is, gets it or a better one"
-abbrev pub MetBy : Answer → ℕ → Type 0
-MetBy (Answer.Graded g) n = letterNumber (g .letter) ≤ n
-MetBy (Answer.Refused r) n = ⊥
-
 abbrev pub Meets : Case → ℕ → Type 0
-Meets case n = MetBy (answerTo case) n
+Meets case n = (answers.refusalNumber (answerTo case) ≡ 0) × (letterIn (answerTo case) ≤ n)
 
 -- "A lane count is accepted when it is one of the kind's and the case with that count, all other fields kept, is accepted"
 abbrev pub AcceptedCount : Case → ℕ → Type 0
@@ -74,13 +70,13 @@ MeetsUpToTheServiceVolume =
 abbrev pub LeastAcceptedCount : Type 0
 LeastAcceptedCount =
     (case : Case) (n : ℕ) → 1 ≤ n → n ≤ 5 → firstRefusal (fieldRefusals case) ≡ 0
-    → ((lanes : ℕ)
-    → (lanesAnswer case n ≡ LanesAnswer.Lanes lanes)
-    ↔ (AcceptedCount case lanes
-    × Meets (withLanes case lanes) n
-    × ((fewer : ℕ) → AcceptedCount case fewer → fewer < lanes → Meets (withLanes case fewer) n → ⊥)))
-    × ((lanesAnswer case n ≡ LanesAnswer.Refused 14)
-    ↔ ((lanes : ℕ) → AcceptedCount case lanes → Meets (withLanes case lanes) n → ⊥))
+    → ((count : ℕ)
+    → (lanes.values (lanesAnswer case n) ≡ count ∷ [])
+    ↔ (AcceptedCount case count
+    × Meets (withLanes case count) n
+    × ((fewer : ℕ) → AcceptedCount case fewer → fewer < count → Meets (withLanes case fewer) n → ⊥)))
+    × ((lanes.refusalNumber (lanesAnswer case n) ≡ 14)
+    ↔ ((count : ℕ) → AcceptedCount case count → Meets (withLanes case count) n → ⊥))
 
 abbrev pub DemandThree : Type 0
 DemandThree = NoBetterUnderMoreLoad × MeetsUpToTheServiceVolume × LeastAcceptedCount

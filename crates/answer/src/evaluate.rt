@@ -1,6 +1,7 @@
 // The answer to a case.
 //   Grade      letter, F, c, v, speed, density and the service volumes A to E
 //   Answer     a grade or a refusal
+//   Load       what a demand is worked with
 //   evaluate   for any case at all
 use method::assess;
 use method::case::Case;
@@ -49,7 +50,7 @@ pub struct Load {
 
 // Whether a demand keeps to capacity and to a density.
 fn keeps_to(terms: CurveTerms, load: Load, limit: u64, demand: u64) -> bool
-    requires { ⌜ Prepared terms × ((limit ≤ 450) × ((0 < load .divisor) × ((load .«heavy_factor» ≤ 3000) × (demand ≤ 99999)))) ⌝ }
+    requires { ⌜ Prepared terms × ((limit ≤ 450) × ((0 < load .divisor) × ((load .«heavy_factor» ≤ 3000) × (demand ≤ greatestDemand)))) ⌝ }
     ensures { λ r. ⌜ r ≡ keepsTo (terms .curve) load limit demand ⌝ }
 {
     service::meets_limit(
@@ -61,7 +62,7 @@ fn keeps_to(terms: CurveTerms, load: Load, limit: u64, demand: u64) -> bool
 
 // The greatest demand up to the end that keeps to a density, by halving.
 fn service_volume(terms: CurveTerms, load: Load, limit: u64, end: u64) -> u64
-    requires { ⌜ Prepared terms × ((limit ≤ 450) × ((0 < load .divisor) × ((load .«heavy_factor» ≤ 3000) × (end ≤ 99999)))) ⌝ }
+    requires { ⌜ Prepared terms × ((limit ≤ 450) × ((0 < load .divisor) × ((load .«heavy_factor» ≤ 3000) × (end ≤ greatestDemand)))) ⌝ }
     ensures { λ r. ⌜ r ≡ greatest (keepsTo (terms .curve) load limit) end ⌝ }
 {
     let mut low = 0;

@@ -16,7 +16,7 @@ use Rattle.method.specs.declared.case.Terrain.{Terrain}
 use Rattle.method.specs.declared.case.Terrain.the-variants as Terrain
 use Rattle.method.specs.declared.case.Case.{Case}
 use Rattle.method.specs.Kinds.{fewestLanes, mostLanes}
-use Rattle.method.specs.Refusals.{firstRefusal, fieldRefusals}
+use Rattle.method.specs.Refusals.{firstRefusal, fieldRefusals, greatestDemand}
 use Rattle.method.specs.Flow.{truckEquivalent, heavyFactor, flowRate}
 use Rattle.method.proofs.RefusalLaws.{LoadFits, loadFits, fields-parts}
 
@@ -66,7 +66,7 @@ pub record FlowParts (case : Case) : Type 0 where
   pub divisor-pos : 0 < case .«peak_hour_factor» * case .lanes
   pub divisor-le : case .«peak_hour_factor» * case .lanes ≤ 8000
   pub share-le : case .«heavy_share» ≤ 1000
-  pub cars-le : case .demand * heavyFactor case ≤ 299997000
+  pub cars-le : case .demand * heavyFactor case ≤ greatestDemand * 3000
 
 pub flowRate-parts : (case : Case) → firstRefusal (fieldRefusals case) ≡ 0 → FlowParts case
 flowRate-parts case z =
@@ -75,5 +75,5 @@ flowRate-parts case z =
       divisor-pos = mul-pos (omega (arith, fits .factor-low)) (lanes-pos (case .road .kind) (case .lanes) (fits .lanes-low));
       divisor-le = mul-le-mul {n₂ = 1000} {m₂ = 8} (fits .factor-high) (lanes-le (case .road .kind) (case .lanes) (fits .lanes-high));
       share-le = fits .share-high;
-      cars-le = mul-le-mul {n₂ = 99999} {m₂ = 3000} (fits .demand-high) (heavyFactor-le case (fits .share-high));
+      cars-le = mul-le-mul {n₂ = greatestDemand} {m₂ = 3000} (fits .demand-high) (heavyFactor-le case (fits .share-high));
     }

@@ -5,7 +5,7 @@
 --   densityLetter d        the letter of a density up to capacity
 --   letterAt curve v       the letter; F above capacity
 --   meetsLimit curve v l   up to capacity, with a density of at most l
---   densityLimit n         the greatest density of letter number n, A to E
+--   densityLimit n         the greatest density of letter number n from 1 to 5 (any other number has E's)
 --   letterNumber l         A is 1, the best, F is 6, the worst
 --   performance curve v    speed and density as they are shown, and the letter
 -- Assumes nothing.

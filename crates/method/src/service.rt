@@ -74,7 +74,7 @@ pub fn meets_limit(terms: CurveTerms, v: u64, limit: u64) -> bool
     10_000 * v * exact.denominator <= limit * exact.numerator
 }
 
-// The greatest density that gets a letter or a better one, A to D by their numbers 1 to 4, and E.
+// The greatest density that gets a letter or a better one, A to D by their numbers 1 to 4; any other number has E's.
 pub fn density_limit(letter: u64) -> u64
     ensures { λ r. ⌜ r ≡ densityLimit letter ⌝ }
 {

@@ -184,7 +184,14 @@ fn ends() {
     });
 }
 
-// A case that breaks 1 to 9 at once, mended one condition at a time: each line has the next number.
+// The answer and the lanes question side by side.
+fn show_both(case: Case) {
+    show(case);
+    show_lanes(case, 1);
+}
+
+// A case that breaks 1 to 9 at once, mended one condition at a time: both questions get the next number each time, but for 10, which the
+// lanes question does not check.
 fn refusals() {
     let mut road = Road {
         kind: Kind::Freeway,
@@ -204,19 +211,19 @@ fn refusals() {
         heavy_share: LARGEST,
         terrain: Terrain::Level,
     };
-    show(case);
+    show_both(case);
     road.speed = 60_000;
     case.road = road;
-    show(case);
+    show_both(case);
     road.lane_width = 120;
     case.road = road;
-    show(case);
+    show_both(case);
     road.right_clearance = 0;
     case.road = road;
-    show(case);
+    show_both(case);
     road.left_clearance = 0;
     case.road = road;
-    show(case);
+    show_both(case);
     road = Road {
         kind: Kind::Freeway,
         way: Way::Estimated,
@@ -228,20 +235,49 @@ fn refusals() {
         access: LARGEST,
     };
     case.road = road;
-    show(case);
+    show_both(case);
     road.access = 6;
     case.road = road;
-    show(case);
+    show_both(case);
     case.lanes = 2;
-    show(case);
+    show_both(case);
     case.demand = 2_000;
-    show(case);
+    show_both(case);
     case.peak_hour_factor = 1_000;
-    show(case);
+    show_both(case);
     case.heavy_share = 0;
-    show(case);
+    show_both(case);
     case.lanes = 4;
-    show(case);
+    show_both(case);
+}
+
+// One field of a freeway past its end.
+fn past_one_end() {
+    let mut case = two_lanes(given(Kind::Freeway, 90_001), 0);
+    show_both(case);
+    case = two_lanes(given(Kind::Freeway, 29_999), 0);
+    show_both(case);
+    case = two_lanes(given(Kind::Freeway, 60_000), 0);
+    case.lanes = 1;
+    show_both(case);
+    case.lanes = 9;
+    show_both(case);
+    case.lanes = 8;
+    show_both(case);
+    case.peak_hour_factor = 249;
+    show_both(case);
+    case.peak_hour_factor = 1_001;
+    show_both(case);
+    case.peak_hour_factor = 250;
+    case.heavy_share = 1_001;
+    show_both(case);
+    case.heavy_share = 1_000;
+    show_both(case);
+    case = two_lanes(given(Kind::Multilane, 60_000), 0);
+    case.lanes = 4;
+    show_both(case);
+    case.lanes = 3;
+    show_both(case);
 }
 
 // The printed section with another demand.
@@ -263,6 +299,7 @@ fn lanes_questions() {
     show_lanes(example(), 6);
     show_lanes(example_with(LARGEST), LARGEST);
     show_lanes(example_with(100_000), 1);
+    show_lanes(example_with(LARGEST), 1);
     show_lanes(example_with(0), 1);
     show_lanes(two_lanes(given(Kind::Multilane, 70_000), 6_900), 5);
     show_lanes(two_lanes(given(Kind::Multilane, 70_000), 6_901), 5);
@@ -275,5 +312,6 @@ fn main() {
     boundary_sections();
     ends();
     refusals();
+    past_one_end();
     lanes_questions();
 }

@@ -1,5 +1,6 @@
 -- `answer::evaluate::keeps_to` meets its contract: the flow rate of the demand, tried at the limit.
 -- Assumes nothing.
+use Rattle.method.specs.Refusals.{greatestDemand}
 use Rattle.numbers.proofs.ProductLaws.{product-fits}
 use Rattle.answer.specs.Search.{keepsTo}
 use borrow.Author.Needs.{needs}
@@ -7,7 +8,7 @@ use Rattle.answer.proofs.evaluate.keeps_to.Statement.{statement}
 use Rattle.answer.proofs.evaluate.keeps_to.Tie as tie
 
 mul-div-up : tie.Need-mul-div-up
-mul-div-up c = record { fits = product-fits 99999 3000 (c .before .pre .1 .1 .1 .1) (c .before .pre .1 .1 .1 .0) tt }
+mul-div-up c = record { fits = product-fits greatestDemand 3000 (c .before .pre .1 .1 .1 .1) (c .before .pre .1 .1 .1 .0) tt }
 
 div-up-requires : tie.Need-div-up-requires
 div-up-requires c κs = search needs
