@@ -13,7 +13,7 @@ use Rattle.numbers.proofs.ChoiceLaws.{T-false, cond-zero, cond-pos}
 use Rattle.method.specs.declared.case.Case.{Case}
 use Rattle.method.specs.Refusals.{refusal, Accepted}
 use Rattle.method.specs.Service.{letterNumber}
-use Rattle.method.specs.Assess.{measures, assessment}
+use Rattle.method.specs.Assess.{measures}
 use Rattle.method.proofs.AssessLaws.{assessment-accepted}
 use Rattle.answer.specs.declared.evaluate.Answer.the-variants as Answer
 use Rattle.answer.specs.Volumes.{meets}

@@ -4,13 +4,12 @@
 --   lanes-of-kind         a case that 1 to 9 do not refuse has a lane count of the kind
 -- Assumes nothing.
 use mathlib.Core.Path.{_≡_}
-use mathlib.Core.Bool.{false, _||_}
+use mathlib.Core.Bool.{false}
 use Prim.Native.Nat.{ℕ, _≤_}
 use borrow.Author.Tests.{le-ltb}
-use lib.Dec.{ltb}
 use Rattle.method.specs.declared.case.Case.{Case}
 use Rattle.method.specs.Kinds.{fewestLanes, mostLanes}
-use Rattle.method.specs.Refusals.{firstRefusal, outside, greatestDemand, roadRefusals, loadRefusals, fieldRefusals, Accepted}
+use Rattle.method.specs.Refusals.{firstRefusal, outside, greatestDemand, fieldRefusals, Accepted}
 use Rattle.method.proofs.RefusalLaws.{LoadUnmet, load-unmet, load-none, LoadFits, loadFits, fields-of, fields-parts, accepted-of, accepted-parts}
 use Rattle.answer.specs.Cases.{withDemand, withLanes}
 

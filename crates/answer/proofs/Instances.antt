@@ -1,14 +1,14 @@
 -- An instance of each part of demand 3 (specs/Instances), proved by the part.
 -- Assumes nothing.
-use mathlib.Core.Path.{_≡_, refl, sym, _∙_}
+use mathlib.Core.Path.{_≡_, refl, _∙_}
 use mathlib.Core.List.{[], _∷_}
 use Prim.Native.Nat.{ℕ, zero, suc, _≤_, _<_}
 use native.Mathlib.Omega.{arith}
-use lib.Dec.{T, leb, le→leb}
+use lib.Dec.{leb, le→leb}
 use Rattle.numbers.specs.Division.{divUp}
 use Rattle.method.specs.Adjustments.{laneWidthAdjustment, perMissingFoot, rightClearanceAdjustment}
 use Rattle.method.specs.FreeFlowSpeed.{estimatedBy, uncappedBy, freeFlowSpeed}
-use Rattle.method.specs.Refusals.{greatestDemand, firstRefusal, roadRefusals, loadRefusals, fieldRefusals, speedRefusals, refusals, refusal, Accepted}
+use Rattle.method.specs.Refusals.{firstRefusal, roadRefusals, loadRefusals, fieldRefusals, speedRefusals, refusals, refusal, Accepted}
 use Rattle.method.specs.Curves.{capacity, breakpoint, curveAt, curveOf}
 use Rattle.method.specs.Flow.{heavyFactor, flowRate}
 use Rattle.method.specs.Speed.{fallShareBy, speed, shownSpeed}
@@ -16,8 +16,8 @@ use Rattle.method.specs.Service.{density, shownDensity, densityLetter, letterAt
 use Rattle.method.specs.Assess.{measures}
 use Rattle.method.specs.Boundary.{example}
 use Rattle.method.proofs.Boundary.{ramp-6, ramp-24}
-use Rattle.answer.specs.Cases.{withDemand, withLanes}
-use Rattle.answer.specs.Volumes.{meets, serviceVolume}
+use Rattle.answer.specs.Cases.{withLanes}
+use Rattle.answer.specs.Volumes.{meets}
 use Rattle.answer.specs.Answers.{graded, answerTo, refusalNumber}
 use Rattle.answer.specs.Lanes.{lanesAnswer, values}
 use Rattle.answer.specs.Promises.{letterIn, Meets, AcceptedCount, volumeIn}

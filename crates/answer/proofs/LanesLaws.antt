@@ -8,8 +8,8 @@
 --   lanesAnswer-none     no count: 14
 --   lanesAnswer-found    a count: that count
 -- Assumes nothing.
-use mathlib.Core.Path.{_≡_, sym, ap, _∙_}
-use mathlib.Core.Bool.{Bool, false, cond, _||_}
+use mathlib.Core.Path.{_≡_, ap, _∙_}
+use mathlib.Core.Bool.{false, cond}
 use mathlib.Core.List.{List, [], _∷_, _++_}
 use Prim.Native.Nat.{ℕ, suc, _≤_, _<_}
 use native.Mathlib.Omega.{arith}
@@ -21,7 +21,7 @@ use Rattle.method.specs.declared.kind.Kind.{Kind}
 use Rattle.method.specs.declared.kind.Kind.the-variants as Kind
 use Rattle.method.specs.declared.case.Case.{Case}
 use Rattle.method.specs.Kinds.{fewestLanes, mostLanes}
-use Rattle.method.specs.Refusals.{Refusal, refuses, firstRefusal, outside, fieldRefusals, Accepted}
+use Rattle.method.specs.Refusals.{Refusal, refuses, firstRefusal, outside, fieldRefusals}
 use Rattle.method.proofs.RefusalLaws.{firstRefusal-none, firstRefusal-some, field-numbered, accepted-parts}
 use Rattle.answer.specs.declared.lanes.LanesAnswer.the-variants as LanesAnswer
 use Rattle.answer.specs.Cases.{withLanes}

@@ -8,7 +8,7 @@
 --   volume-eq            the service volume from a curve's terms and a load
 -- Assumes nothing.
 use mathlib.Core.Path.{_≡_, sym, ap, _∙_}
-use mathlib.Core.Bool.{Bool, false}
+use mathlib.Core.Bool.{false}
 use mathlib.Core.Logic.{_↔_}
 use Prim.Native.Nat.{ℕ, _*_, _≤_, _<_}
 use native.Mathlib.Omega.{arith}
@@ -29,7 +29,7 @@ use Rattle.method.specs.Curves.{WellFormed, curveOf}
 use Rattle.method.specs.Flow.{heavyFactor, flowRate}
 use Rattle.method.specs.Terms.{curveTerms}
 use Rattle.method.specs.Service.{letterAt, letterNumber, performance, meetsLimit, densityLimit}
-use Rattle.method.specs.Assess.{measures, assessment}
+use Rattle.method.specs.Assess.{measures}
 use Rattle.method.proofs.RefusalLaws.{accepted-parts}
 use Rattle.method.proofs.CurveLaws.{curveOf-wellFormed}
 use Rattle.method.proofs.FlowLaws.{flowRate-parts}

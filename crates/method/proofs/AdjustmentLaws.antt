@@ -2,14 +2,11 @@
 --   NAME-le         the most that it is
 --   NAME-antitone   with more lanes it is no more
 -- Assumes nothing.
-use mathlib.Core.Bool.{cond}
-use mathlib.Core.List.{List, [], _∷_}
-use Prim.Native.Nat.{ℕ, _+_, _*_, _-_, _/_, _≤_, _<_, min}
+use Prim.Native.Nat.{ℕ, _-_, _/_, _≤_, _<_, min}
 use native.Mathlib.Omega.{arith}
 use native.Mathlib.Nat.{mul-le-mul, mul-le-mul-left, le-refl, le-trans}
-use lib.Dec.{T, leb, leb→le}
+use lib.Dec.{leb, leb→le}
 use lib.ListN.{getD}
-use Rattle.numbers.specs.Table.{everyEntry}
 use Rattle.numbers.proofs.TableLaws.{everyEntry-at}
 use Rattle.numbers.proofs.ChoiceLaws.{cond-le, cond-leb-antitone}
 use Rattle.method.specs.declared.case.Median.{Median}

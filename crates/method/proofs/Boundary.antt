@@ -2,9 +2,8 @@
 --   boundary-shown   each figure of the list is what is to be shown
 --   Shown-append     a longer list: what the layers above add
 -- Assumes nothing.
-use mathlib.Core.Path.{_≡_, refl, ap, _∙_}
+use mathlib.Core.Path.{_≡_, refl}
 use mathlib.Core.List.{List, [], _∷_, _++_}
-use Prim.Native.Nat.{ℕ}
 use native.Mathlib.Omega.{arith}
 use Rattle.numbers.specs.Division.{divUp}
 use Rattle.numbers.specs.Search.{startsAt, endsAt}

@@ -10,13 +10,12 @@
 --   curveOf-wellFormed, curveOf-sized   the same of the curve of a case that is accepted
 -- Assumes nothing.
 use mathlib.Core.Path.{_≡_}
-use Prim.Native.Nat.{ℕ, _+_, _*_, _-_, _≤_, _<_, min}
+use Prim.Native.Nat.{ℕ, _≤_, _<_}
 use native.Mathlib.Omega.{arith}
 use native.Mathlib.Decide.{decLe}
 use Rattle.numbers.proofs.ChoiceLaws.{cond-zero, cond-pos}
 use Rattle.method.specs.declared.kind.Kind.{Kind}
 use Rattle.method.specs.declared.kind.Kind.the-variants as Kind
-use Rattle.method.specs.declared.case.Road.{Road}
 use Rattle.method.specs.declared.case.Case.{Case}
 use Rattle.method.specs.declared.curve.Curve.{Curve}
 use Rattle.method.specs.declared.curve.Checked.the-variants as Checked

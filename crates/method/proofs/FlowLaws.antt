@@ -5,7 +5,7 @@
 --   flowRate-parts   what 64 bits want of its two products, of a case that 1 to 9 do not refuse
 -- Assumes nothing.
 use mathlib.Core.Path.{_≡_, ap, _∙_}
-use Prim.Native.Nat.{ℕ, _+_, _*_, _-_, _≤_, _<_}
+use Prim.Native.Nat.{ℕ, _*_, _-_, _≤_, _<_}
 use native.Mathlib.Omega.{arith}
 use native.Mathlib.Nat.{mul-le-mul, mul-pos, zero-mul}
 use Rattle.numbers.specs.Division.{divUp}

@@ -5,7 +5,7 @@
 --   freeFlowSpeed-mono   F never falls with more lanes
 --   freeFlowSpeed-le     F is at most its upper end
 -- Assumes nothing.
-use Prim.Native.Nat.{ℕ, _+_, _-_, _≤_, min}
+use Prim.Native.Nat.{ℕ, _+_, _-_, _≤_}
 use native.Mathlib.Omega.{arith}
 use native.Mathlib.Nat.{le-refl}
 use Rattle.method.specs.declared.kind.Kind.{Kind}
@@ -16,7 +16,7 @@ use Rattle.method.specs.declared.case.Road.{Road}
 use Rattle.method.specs.Kinds.{highestSpeed}
 use Rattle.method.specs.Adjustments.{laneWidthAdjustment, rightClearanceAdjustment, totalClearance, totalClearanceAdjustment, medianAdjustment, accessAdjustment}
 use Rattle.method.specs.RampTerm.{rampTerm}
-use Rattle.method.specs.FreeFlowSpeed.{estimatedBy, estimatedSpeed, uncappedBy, uncappedSpeed, freeFlowSpeed}
+use Rattle.method.specs.FreeFlowSpeed.{estimatedBy, uncappedBy, uncappedSpeed, freeFlowSpeed}
 use Rattle.method.proofs.AdjustmentLaws.{laneWidthAdjustment-le, rightClearanceAdjustment-le, rightClearanceAdjustment-antitone, totalClearanceAdjustment-le, totalClearanceAdjustment-antitone, medianAdjustment-le, accessAdjustment-le}
 use Rattle.method.proofs.RampLaws.{rampTerm-le}
 

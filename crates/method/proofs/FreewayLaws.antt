@@ -5,7 +5,7 @@
 --   freewaySpeed-mono   AtMost (speed at f) (speed at g) for f ≤ g
 -- Assumes nothing.
 use mathlib.Core.Path.{_≡_}
-use Prim.Native.Nat.{ℕ, _+_, _*_, _-_, _≤_, _<_, min}
+use Prim.Native.Nat.{ℕ, _+_, _*_, _-_, _≤_}
 use native.Mathlib.Omega.{arith}
 use native.Mathlib.Nat.{mul-le-mul, mul-le-mul-left, mul-le-mul-right, mul-sub, mul-comm, le-trans, add-sub-of-le}
 use native.Mathlib.Decide.{decLe}

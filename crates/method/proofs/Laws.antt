@@ -1,12 +1,8 @@
 -- The laws that specs/Laws states, proved: each by the law of the file beside its definition.
 -- Assumes nothing.
-use mathlib.Core.Path.{_≡_}
-use Prim.Native.Nat.{ℕ, _*_, _^_, _≤_}
+use Prim.Native.Nat.{_≤_}
 use native.Mathlib.Omega.{arith}
-use Rattle.method.specs.declared.case.Road.{Road}
-use Rattle.method.specs.declared.case.Case.{Case}
 use Rattle.method.specs.Adjustments.{totalClearance}
-use Rattle.method.specs.RampTerm.{rampAtMost, rampTerm}
 use Rattle.method.specs.Curves.{curveOf}
 use Rattle.method.specs.Service.{performance}
 use Rattle.method.specs.Assess.{measures}

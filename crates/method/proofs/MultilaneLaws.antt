@@ -2,7 +2,7 @@
 -- the speed at capacity grows by no more than F does.
 --   multilaneSpeed-mono   AtMost (speed at f) (speed at g) for f ≤ g
 -- Assumes nothing.
-use Prim.Native.Nat.{ℕ, _+_, _*_, _-_, _≤_, _<_, min}
+use Prim.Native.Nat.{ℕ, _+_, _*_, _-_, _≤_}
 use native.Mathlib.Omega.{arith}
 use native.Mathlib.Nat.{mul-le-mul-left, mul-le-mul-right, add-sub-of-le}
 use Rattle.numbers.specs.Fraction.{AtMost}

@@ -6,7 +6,7 @@
 -- Assumes nothing.
 use mathlib.Core.Path.{_≡_, refl}
 use mathlib.Core.Bool.{Bool, _&&_}
-use mathlib.Core.List.{[], _∷_}
+use mathlib.Core.List.{_∷_}
 use Prim.Native.Nat.{ℕ, _*_, _^_, _≤_}
 use native.Mathlib.Omega.{arith}
 use native.Mathlib.Nat.{le-trans, pow-le-pow-left, mul-le-mul-right}

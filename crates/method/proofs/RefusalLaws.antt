@@ -11,22 +11,19 @@
 --   fields-of, accepted-of   the parts together
 --   speed-accepted         what 10 does not refuse has F at its lower end or above
 -- Assumes nothing.
-use mathlib.Core.Path.{_≡_, refl, sym, _∙_}
+use mathlib.Core.Path.{_≡_, refl, _∙_}
 use mathlib.Core.Bool.{Bool, true, false, cond, _||_, _&&_, true≢false}
 use mathlib.Core.List.{List, [], _∷_, _++_}
-use Prim.Native.Nat.{ℕ, suc, _≤_, _<_}
+use Prim.Native.Nat.{ℕ, _≤_, _<_}
 use native.Mathlib.Omega.{arith}
-use native.Mathlib.Nat.{lt-irrefl}
 use borrow.Author.Tests.{ltb-false}
 use lib.Dec.{T, ltb, ltb→lt}
 use Rattle.numbers.proofs.TableLaws.{and-left, and-right}
-use Rattle.method.specs.declared.kind.Kind.{Kind}
-use Rattle.method.specs.declared.kind.Kind.the-variants as Kind
 use Rattle.method.specs.declared.case.Road.{Road}
 use Rattle.method.specs.declared.case.Case.{Case}
 use Rattle.method.specs.Kinds.{lowestSpeed, fewestLanes, mostLanes}
 use Rattle.method.specs.FreeFlowSpeed.{freeFlowSpeed}
-use Rattle.method.specs.Refusals.{Refusal, refuses, firstRefusal, outside, medianUnfit, mostAccess, greatestDemand, roadRefusals, loadRefusals, fieldRefusals, speedRefusals, refusals, refusal, Accepted}
+use Rattle.method.specs.Refusals.{Refusal, firstRefusal, outside, mostAccess, greatestDemand, roadRefusals, loadRefusals, fieldRefusals, speedRefusals, refusals, refusal, Accepted}
 
 -- every refusal of the list has a number above 0
 abbrev pub numbered : List Refusal → Bool

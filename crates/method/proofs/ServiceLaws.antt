@@ -17,15 +17,15 @@
 use mathlib.Core.Path.{_≡_, refl, ap}
 use mathlib.Core.Bool.{Bool, true, false, cond}
 use mathlib.Core.Logic.{_↔_}
-use Prim.Native.Nat.{ℕ, zero, suc, _*_, _≤_, _<_}
+use Prim.Native.Nat.{ℕ, zero, suc, _*_, _≤_}
 use native.Mathlib.Omega.{arith}
-use native.Mathlib.Nat.{le-trans, le-refl, zero-mul, mul-pos, mul-le-mul-right}
+use native.Mathlib.Nat.{le-trans, zero-mul, mul-le-mul-right}
 use native.Mathlib.Decide.{decLe}
 use borrow.Author.Tests.{le-leb, lt-leb}
 use lib.Dec.{T, leb, eqb, leb→le, le→leb}
 use Rattle.numbers.specs.declared.Fraction.{Fraction}
 use Rattle.numbers.specs.Division.{divUp}
-use Rattle.numbers.specs.Fraction.{over, whole, times, dividedBy, roundedUp, AtMost}
+use Rattle.numbers.specs.Fraction.{over, whole, times, dividedBy, AtMost}
 use Rattle.numbers.proofs.DivisionLaws.{divUp-le-iff, divUp-zero}
 use Rattle.numbers.proofs.FractionLaws.{AtMost-trans, roundedUp-mono, roundedUp-eq, dividedBy-mono, quotient-le-iff}
 use Rattle.numbers.proofs.TableLaws.{and-left, and-right}

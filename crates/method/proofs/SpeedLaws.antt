@@ -9,10 +9,10 @@
 --   speed-antitone        with more flow S never rises
 --   capacitySpeed-le      S is at least the speed at capacity, 10c/45
 -- Assumes nothing.
-use mathlib.Core.Path.{_≡_, refl, sym, ap}
-use Prim.Native.Nat.{ℕ, _+_, _*_, _-_, _≤_, _<_}
+use mathlib.Core.Path.{_≡_, refl, sym}
+use Prim.Native.Nat.{ℕ, _*_, _-_, _≤_, _<_}
 use native.Mathlib.Omega.{arith}
-use native.Mathlib.Nat.{mul-le-mul, mul-le-mul-left, mul-le-mul-right, mul-pos, mul-sub, mul-comm, zero-mul, mul-zero, le-refl, le-of-eq, le-trans, sub-le, lt-of-lt-of-le}
+use native.Mathlib.Nat.{mul-le-mul, mul-le-mul-left, mul-le-mul-right, mul-pos, mul-sub, mul-comm, mul-zero, le-refl, le-of-eq, le-trans, sub-le, lt-of-lt-of-le}
 use native.Mathlib.Decide.{decLe}
 use borrow.Author.Tests.{le-leb, lt-leb}
 use Rattle.numbers.specs.declared.Fraction.{Fraction}
@@ -20,7 +20,6 @@ use Rattle.numbers.specs.Division.{divUp}
 use Rattle.numbers.specs.Fraction.{over, whole, AtMost, SameValue}
 use Rattle.numbers.proofs.DivisionLaws.{divUp-le-iff, divUp-mono, divUp-zero}
 use Rattle.numbers.proofs.FractionLaws.{AtMost-trans, SameValue-pos}
-use Rattle.powers.specs.Power.{power}
 use Rattle.powers.proofs.PowerLaws.{power-zero, power-le, power-mono}
 use Rattle.method.specs.declared.kind.Kind.{Kind}
 use Rattle.method.specs.declared.kind.Kind.the-variants as Kind

@@ -3,7 +3,7 @@
 --                        before it, x before the first, and the entry
 --   everyEntry f xs      the same from place 0, with 0 before the first
 -- Assumes nothing.
-use mathlib.Core.Bool.{Bool, true, false, _&&_}
+use mathlib.Core.Bool.{Bool, true, _&&_}
 use mathlib.Core.List.{List, [], _∷_}
 use Prim.Native.Nat.{ℕ, suc}
 

@@ -4,7 +4,7 @@
 use Prim.Native.Nat.{ℕ, _*_, _^_, _≤_}
 use native.Mathlib.Omega.{arith}
 use native.Mathlib.Decide.{decLe}
-use lib.Dec.{T, leb→le, le→leb}
+use lib.Dec.{leb→le, le→leb}
 use Rattle.numbers.proofs.SearchLaws.{least-passes, least-le-of}
 use Rattle.powers.specs.Power.{reachesPower, power}
 use Rattle.powers.specs.Laws.{PowerIsLeast, PowerNeverFalls}

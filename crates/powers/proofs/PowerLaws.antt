@@ -5,16 +5,16 @@
 --   power-mono       T rises
 --   power-le         no T is above 1,000,000
 -- Assumes nothing.
-use mathlib.Core.Path.{_≡_, refl, sym, ap, subst₂}
+use mathlib.Core.Path.{_≡_, refl}
 use mathlib.Core.Bool.{Bool, _&&_}
-use mathlib.Core.List.{List, [], _∷_}
-use Prim.Native.Nat.{ℕ, zero, suc, _*_, _^_, _≤_, _<_}
+use mathlib.Core.List.{_∷_}
+use Prim.Native.Nat.{ℕ, zero, suc, _*_, _^_, _≤_}
 use native.Mathlib.Omega.{arith}
 use native.Mathlib.Decide.{decLe}
 use native.Mathlib.Nat.{le-trans, le-refl, pow-le-pow-left}
 use lib.Dec.{T, leb, leb→le, le→leb}
 use lib.ListN.{getD, length}
-use Rattle.numbers.specs.Search.{least, UpwardClosed, startsAt}
+use Rattle.numbers.specs.Search.{UpwardClosed, startsAt}
 use Rattle.numbers.specs.Table.{everyEntry}
 use Rattle.numbers.proofs.SearchLaws.{least-first}
 use Rattle.numbers.proofs.TableLaws.{and-left, and-right, everyEntry-at}

@@ -1,10 +1,10 @@
 -- `numbers::div_up` meets its contract: 0 is its own case, and above 0 the sum with b - 1 is one b more than a - 1.
 -- Assumes nothing.
-use mathlib.Core.Path.{_≡_, sym}
+use mathlib.Core.Path.{sym}
 use native.Mathlib.Omega.{arith}
 use native.Mathlib.Nat.{div-le-self}
 use borrow.Author.Needs.{needs}
-use Prim.Native.Nat.{ℕ, _-_}
+use Prim.Native.Nat.{_-_}
 use Rattle.numbers.proofs.DivisionLaws.{divUp-zero, divUp-suc}
 use Rattle.numbers.proofs.div_up.Statement.{statement}
 use Rattle.numbers.proofs.div_up.Tie as tie

@@ -1,7 +1,6 @@
 -- `powers::power` meets its contract: the constant is the list of proofs/PowerTable, whose rule is one test over all entries.
 -- Assumes nothing.
 use mathlib.Core.Path.{sym}
-use Prim.Native.Nat.{ℕ}
 use native.Mathlib.Nat.{lt-of-le-of-lt}
 use borrow.Author.Needs.{needs}
 use lib.Dec.{lit<}

@@ -1,9 +1,8 @@
 -- `answer::evaluate::service_volume` meets its contract: the halving keeps a demand that passes below one that fails, or that is past the end, until they are neighbours.
 -- Assumes nothing.
-use mathlib.Core.Path.{_≡_, sym, _∙_, subst}
+use mathlib.Core.Path.{_≡_, sym, _∙_}
 use Prim.Native.Nat.{suc, _+_, _-_, _≤_, _<_}
 use lib.Dec.{T}
-use Rattle.numbers.specs.Search.{greatest}
 use Rattle.numbers.proofs.ChoiceLaws.{T-true, T-false}
 use Rattle.numbers.proofs.SearchLaws.{greatest-between}
 use Rattle.answer.specs.Search.{keepsTo}

@@ -1,7 +1,7 @@
 -- `answer::lanes::lanes_found` meets its contract: the loop keeps that no smaller count meets the letter; those below the kind's fewest are refused with 6.
 -- Assumes nothing.
 use mathlib.Core.Path.{_≡_, sym, _∙_}
-use Prim.Native.Nat.{ℕ, suc, _+_, _-_, _≤_, _<_}
+use Prim.Native.Nat.{ℕ, suc, _-_, _≤_, _<_}
 use borrow.Author.Count.{below-more}
 use lib.Dec.{T}
 use Rattle.numbers.proofs.ChoiceLaws.{T-true, T-false}

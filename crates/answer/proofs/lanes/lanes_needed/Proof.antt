@@ -1,7 +1,6 @@
 -- `answer::lanes::lanes_needed` meets its contract: 16 first, then 1 to 9, then the count or 14.
 -- Assumes nothing.
 use mathlib.Core.Path.{sym, ap, _∙_}
-use mathlib.Core.Bool.{_||_}
 use borrow.Author.Tests.{lt-ltb, le-ltb}
 use Rattle.answer.specs.declared.lanes.LanesAnswer.the-variants as LanesAnswer
 use Rattle.answer.specs.Lanes.{lanesRefusals}

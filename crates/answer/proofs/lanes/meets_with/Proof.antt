@@ -1,12 +1,11 @@
 -- `answer::lanes::meets_with` meets its contract: F is worked anew for the count; a count that 10 refuses meets nothing.
 -- Assumes nothing.
-use mathlib.Core.Path.{_≡_, sym, ap, _∙_}
+use mathlib.Core.Path.{sym, ap, _∙_}
 use native.Mathlib.Nat.{lt-of-le-of-lt}
 use lib.Dec.{lit<}
-use Rattle.method.specs.Refusals.{firstRefusal, speedRefusals, refusal}
-use Rattle.method.specs.Curves.{curveOf, checkedCurve}
+use Rattle.method.specs.Refusals.{firstRefusal, speedRefusals}
+use Rattle.method.specs.Curves.{curveOf}
 use Rattle.method.specs.Flow.{heavyFactor, flowRate}
-use Rattle.method.specs.Service.{meetsLimit, densityLimit}
 use Rattle.method.specs.Terms.{curveTerms}
 use Rattle.method.proofs.RefusalLaws.{fields-parts, accepted-of, refusals-fields}
 use Rattle.method.proofs.CurveLaws.{unlessRefused-accepted, unlessRefused-refused, curveOf-wellFormed, curveOf-sized}
@@ -14,7 +13,6 @@ use Rattle.method.proofs.FlowLaws.{flowRate-parts}
 use Rattle.method.proofs.TermsLaws.{curveTerms-prepared}
 use Rattle.method.proofs.ServiceLaws.{densityLimit-le}
 use Rattle.answer.specs.Cases.{withLanes}
-use Rattle.answer.specs.Volumes.{meets}
 use Rattle.answer.proofs.VolumeLaws.{meets-accepted, meets-refused}
 use borrow.Author.Needs.{needs}
 use native.Mathlib.Omega.{arith}

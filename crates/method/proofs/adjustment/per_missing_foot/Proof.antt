@@ -1,7 +1,7 @@
 -- `method::adjustment::per_missing_foot` meets its contract: the arms are the definition's tests.
 -- Assumes nothing.
 use borrow.Author.Tests.{le-leb, lt-leb}
-use Prim.Native.Nat.{ℕ, _<_}
+use Prim.Native.Nat.{_<_}
 use Rattle.method.specs.Adjustments.{perMissingFoot}
 use native.Mathlib.Omega.{arith}
 use Rattle.method.proofs.adjustment.per_missing_foot.Statement.{statement}

@@ -1,8 +1,7 @@
 -- `method::assess::assess` meets its contract: a check that finds a curve has accepted the case; one that refuses has its number.
 -- Assumes nothing.
-use mathlib.Core.Path.{_≡_, sym, ap, _∙_}
+use mathlib.Core.Path.{sym, ap, _∙_}
 use Rattle.method.specs.declared.assess.Assessment.the-variants as Assessment
-use Rattle.method.specs.Curves.{curveOf, WellFormed, Sized}
 use Rattle.method.specs.Terms.{curveTerms}
 use Rattle.method.proofs.CurveLaws.{checked-accepted, curveOf-wellFormed, curveOf-sized}
 use Rattle.method.proofs.AssessLaws.{assessment-accepted, assessment-refused}

@@ -1,9 +1,7 @@
 -- `method::assess::measured` meets its contract: an accepted case has a curve that is well formed and within the sizes.
 -- Assumes nothing.
-use mathlib.Core.Path.{_≡_, ap, _∙_}
+use mathlib.Core.Path.{ap}
 use Rattle.method.specs.Curves.{curveOf}
-use Rattle.method.specs.Flow.{flowRate}
-use Rattle.method.specs.Service.{performance}
 use Rattle.method.specs.Terms.{curveTerms}
 use Rattle.method.specs.Assess.{measures}
 use Rattle.method.proofs.RefusalLaws.{accepted-parts}

@@ -1,8 +1,7 @@
 -- `method::curve::check` meets its contract: 1 to 9 first, and where none of them refuses the curve or 10.
 -- Assumes nothing.
-use mathlib.Core.Path.{_≡_, sym, ap, _∙_}
+use mathlib.Core.Path.{sym, ap, _∙_}
 use Prim.Native.Nat.{_<_}
-use Rattle.method.specs.Refusals.{firstRefusal, fieldRefusals}
 use Rattle.method.specs.Curves.{curveOf, unlessRefused}
 use Rattle.method.proofs.RefusalLaws.{fields-parts, refusals-fields, refusals-some}
 use Rattle.method.proofs.CurveLaws.{unlessRefused-some}

@@ -1,7 +1,6 @@
 -- `method::refusal::field_refusal` meets its contract: the road decides where it is refused, the load where it is not.
 -- Assumes nothing.
 use mathlib.Core.Path.{sym, _∙_}
-use Prim.Native.Nat.{ℕ}
 use Rattle.method.proofs.RefusalLaws.{fieldRefusals-road, fieldRefusals-some}
 use borrow.Author.Needs.{needs}
 use native.Mathlib.Omega.{arith}

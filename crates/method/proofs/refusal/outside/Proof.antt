@@ -1,7 +1,6 @@
 -- `method::refusal::outside` meets its contract: the two tests are the definition's.
 -- Assumes nothing.
 use borrow.Author.Tests.{lt-ltb, le-ltb}
-use Rattle.method.specs.Refusals.{outside}
 use Rattle.method.proofs.refusal.outside.Statement.{statement}
 use Rattle.method.proofs.refusal.outside.Tie as tie
 

@@ -1,8 +1,7 @@
 -- `method::service::meets_limit` meets its contract: the limit is tested on a fraction of the value of S.
 -- Assumes nothing.
-use mathlib.Core.Path.{_≡_}
 use Prim.Native.Nat.{_*_, _≤_}
-use borrow.Author.Tests.{le-leb, lt-leb}
+use borrow.Author.Tests.{lt-leb}
 use Rattle.numbers.proofs.ProductLaws.{product-fits}
 use Rattle.method.specs.Service.{meetsLimit}
 use Rattle.method.proofs.TermsLaws.{terms-facts}
