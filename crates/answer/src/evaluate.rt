@@ -4,9 +4,9 @@
 //   Load       what a demand is worked with
 //   evaluate   for any case at all
 use method::assess;
+use method::assess::Assessment;
+use method::assess::Measures;
 use method::case::Case;
-use method::curve;
-use method::curve::Checked;
 use method::flow;
 use method::refusal;
 use method::service;
@@ -18,8 +18,8 @@ ghost use Prim.Native.Nat.{_*_, _≤_, _<_};
 ghost use Rattle.numbers.specs.Search.{greatest};
 ghost use Rattle.method.specs.Refusals.{firstRefusal, fieldRefusals, greatestDemand, Accepted};
 ghost use Rattle.method.specs.Service.{densityLimit};
-ghost use Rattle.method.specs.Curves.{curveOf};
-ghost use Rattle.method.specs.Terms.{curveTerms, Prepared};
+ghost use Rattle.method.specs.Assess as assess;
+ghost use Rattle.method.specs.Terms.{Prepared};
 ghost use Rattle.answer.specs.Search.{loadOf, keepsTo};
 ghost use Rattle.answer.specs.Answers.{graded, answerTo};
 
@@ -101,15 +101,15 @@ fn volume_of(terms: CurveTerms, load: Load, letter: u64) -> u64
     )
 }
 
-fn graded(case: Case, terms: CurveTerms) -> Grade
-    requires { ⌜ Accepted case × (terms ≡ curveTerms (curveOf (case .road) (case .lanes))) ⌝ }
+fn graded(case: Case, measures: Measures) -> Grade
+    requires { ⌜ Accepted case × (measures ≡ assess.measures case) ⌝ }
     ensures { λ r. ⌜ r ≡ graded case ⌝ }
 {
-    let load = load_of(case);
-    let measures = assess::measured(case, terms);
     let curve = measures.curve;
     let performance = measures.performance;
     let letter = performance.letter;
+    let terms = speed::terms_of(curve);
+    let load = load_of(case);
     Grade {
         letter,
         free_flow_speed: curve.free_flow_speed,
@@ -128,9 +128,9 @@ fn graded(case: Case, terms: CurveTerms) -> Grade
 pub fn evaluate(case: Case) -> Answer
     ensures { λ r. ⌜ r ≡ answerTo case ⌝ }
 {
-    let checked = curve::check(case);
-    match checked {
-        Checked::Accepted(curve) => Answer::Graded(graded(case, speed::terms_of(curve))),
-        Checked::Refused(number) => Answer::Refused(number),
+    let assessment = assess::assess(case);
+    match assessment {
+        Assessment::Measured(measures) => Answer::Graded(graded(case, measures)),
+        Assessment::Refused(number) => Answer::Refused(number),
     }
 }

@@ -1,6 +1,8 @@
 -- What a case gets, or its refusal (specs/Assess).
 --   assessment-accepted   an accepted case gets its measures
 --   assessment-refusal    its number is the case's refusal
+--   assessment-measured   a case that is found with measures is accepted, and they are its own
+--   assessment-number     a case that is found with a number has that refusal
 --   assessment-refused    a case that is checked and refused gets that number
 -- Assumes nothing.
 use mathlib.Core.Path.{_≡_, sym, ap, _∙_}
@@ -10,6 +12,7 @@ use native.Mathlib.Decide.{decLe}
 use Rattle.numbers.proofs.ChoiceLaws.{cond-zero, cond-pos}
 use Rattle.method.specs.declared.case.Case.{Case}
 use Rattle.method.specs.declared.curve.Checked.the-variants as Checked
+use Rattle.method.specs.declared.assess.Measures.{Measures}
 use Rattle.method.specs.declared.assess.Assessment.the-variants as Assessment
 use Rattle.method.specs.Refusals.{refusal, Accepted}
 use Rattle.method.specs.Curves.{checked}
@@ -33,3 +36,17 @@ pub assessment-refused : (case : Case) (n : ℕ) → checked case ≡ Checked.Re
 assessment-refused case n e =
     let r : (0 < n) × (n ≡ refusal case) = checked-refused case n e in
     refused case (omega arith) ∙ ap Assessment.Refused (sym (r .1))
+
+pub assessment-measured : (case : Case) (m : Measures) → assessment case ≡ Assessment.Measured m → Accepted case × (m ≡ measures case)
+assessment-measured case m e = go (decLe (refusal case) 0)
+  where
+    go : Dec (refusal case ≤ 0) → Accepted case × (m ≡ measures case)
+    go (yes h) = let z : refusal case ≡ 0 = omega arith in (z, cc (assessment-accepted case z, e))
+    go (no h) = absurd (let o : _≡_ {A = ℕ} 0 1 = cc (refused case (omega arith), e) in omega arith)
+
+pub assessment-number : (case : Case) (n : ℕ) → assessment case ≡ Assessment.Refused n → (0 < n) × (n ≡ refusal case)
+assessment-number case n e = go (decLe (refusal case) 0)
+  where
+    go : Dec (refusal case ≤ 0) → (0 < n) × (n ≡ refusal case)
+    go (yes h) = absurd (let o : _≡_ {A = ℕ} 0 1 = cc (assessment-accepted case (omega arith), e) in omega arith)
+    go (no h) = let same : n ≡ refusal case = cc (refused case (omega arith), e) in (omega arith, same)

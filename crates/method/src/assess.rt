@@ -1,7 +1,6 @@
 // From a case to what it gets, or to its refusal.
 //   Measures     the curve of an accepted case, its flow rate, and what that gets on the curve
 //   Assessment   measures or a refusal
-//   measured     of an accepted case, with the terms of its curve
 //   assess       for any case at all
 use crate::case::Case;
 use crate::curve;
@@ -29,8 +28,7 @@ pub enum Assessment {
     Refused(u64),
 }
 
-// Of an accepted case, with the terms of its curve.
-pub fn measured(case: Case, terms: CurveTerms) -> Measures
+fn measured(case: Case, terms: CurveTerms) -> Measures
     requires { ⌜ Accepted case × (terms ≡ curveTerms (curveOf (case .road) (case .lanes))) ⌝ }
     ensures { λ r. ⌜ r ≡ measures case ⌝ }
 {
