@@ -5,6 +5,7 @@
 --   meets-keepsTo        what the search tries at a demand is meeting the letter with that demand
 --   serviceVolume-eq     the service volume of an accepted case is the greatest demand that the search's test passes
 --   serviceVolume-iff    a demand meets a letter exactly when it is at most the service volume
+--   volume-ready         what the search asks of an accepted case's terms and load
 --   volume-eq            the service volume from a curve's terms and a load
 -- Assumes nothing.
 use mathlib.Core.Path.{_≡_, sym, ap, _∙_}
@@ -27,12 +28,13 @@ use Rattle.method.specs.declared.assess.Assessment.the-variants as Assessment
 use Rattle.method.specs.Refusals.{greatestDemand, refusal, Accepted}
 use Rattle.method.specs.Curves.{WellFormed, curveOf}
 use Rattle.method.specs.Flow.{heavyFactor, flowRate}
-use Rattle.method.specs.Terms.{curveTerms}
+use Rattle.method.specs.Terms.{curveTerms, Prepared}
 use Rattle.method.specs.Service.{letterAt, letterNumber, performance, meetsLimit, densityLimit}
 use Rattle.method.specs.Assess.{measures}
 use Rattle.method.proofs.RefusalLaws.{accepted-parts}
-use Rattle.method.proofs.CurveLaws.{curveOf-wellFormed}
-use Rattle.method.proofs.FlowLaws.{flowRate-parts}
+use Rattle.method.proofs.CurveLaws.{curveOf-wellFormed, curveOf-sized}
+use Rattle.method.proofs.FlowLaws.{heavyFactor-le, flowRate-parts}
+use Rattle.method.proofs.TermsLaws.{curveTerms-prepared}
 use Rattle.method.proofs.ServiceLaws.{letterAt-le-iff, meetsLimit-zero, meetsLimit-down}
 use Rattle.method.proofs.AssessLaws.{assessment-accepted}
 use Rattle.answer.specs.declared.evaluate.Load.{Load}
@@ -103,3 +105,12 @@ pub volume-eq : (case : Case) (terms : CurveTerms) (load : Load) (l : ℕ) → A
     → load ≡ loadOf case → 1 ≤ l → l ≤ 5 → greatest (keepsTo (terms .curve) load (densityLimit l)) greatestDemand ≡ serviceVolume case l
 unfolding curveTerms
 volume-eq case terms load l a t d h k = rw (t, d) (sym (serviceVolume-eq case l a h k))
+
+-- what the search asks of an accepted case's terms and load
+pub volume-ready : (case : Case) (terms : CurveTerms) (load : Load) → Accepted case → terms ≡ curveTerms (curveOf (case .road) (case .lanes))
+    → load ≡ loadOf case → Prepared terms × ((0 < load .divisor) × (load .«heavy_factor» ≤ 3000))
+volume-ready case terms load a t d =
+    let parts = flowRate-parts case (accepted-parts case a .0) in (
+      rw t (curveTerms-prepared (curveOf (case .road) (case .lanes)) (curveOf-wellFormed case a) (curveOf-sized case a)),
+      rw d (parts .divisor-pos, heavyFactor-le case (parts .share-le)),
+    )

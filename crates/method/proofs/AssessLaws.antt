@@ -6,10 +6,10 @@
 --   assessment-refused    a case that is checked and refused gets that number
 -- Assumes nothing.
 use mathlib.Core.Path.{_≡_, sym, ap, _∙_}
-use Prim.Native.Nat.{ℕ, _≤_, _<_}
+use mathlib.Core.Logic.{_⊎_, ⊎-elim}
+use Prim.Native.Nat.{ℕ, _<_}
 use native.Mathlib.Omega.{arith}
-use native.Mathlib.Decide.{decLe}
-use Rattle.numbers.proofs.ChoiceLaws.{cond-zero, cond-pos}
+use Rattle.numbers.proofs.ChoiceLaws.{cond-zero, cond-pos, cond-cases}
 use Rattle.method.specs.declared.case.Case.{Case}
 use Rattle.method.specs.declared.curve.Checked.the-variants as Checked
 use Rattle.method.specs.declared.assess.Measures.{Measures}
@@ -25,12 +25,12 @@ assessment-accepted case a = cond-zero (refusal case) (Assessment.Measured (meas
 refused : (case : Case) → 0 < refusal case → assessment case ≡ Assessment.Refused (refusal case)
 refused case p = cond-pos (refusal case) (Assessment.Measured (measures case)) (Assessment.Refused (refusal case)) p
 
+cases : (case : Case)
+    → ((refusal case ≡ 0) × (assessment case ≡ Assessment.Measured (measures case))) ⊎ ((0 < refusal case) × (assessment case ≡ Assessment.Refused (refusal case)))
+cases case = cond-cases (refusal case) (Assessment.Measured (measures case)) (Assessment.Refused (refusal case))
+
 pub assessment-refusal : (case : Case) → refusalNumber (assessment case) ≡ refusal case
-assessment-refusal case = go (decLe (refusal case) 0)
-  where
-    go : Dec (refusal case ≤ 0) → refusalNumber (assessment case) ≡ refusal case
-    go (yes h) = let z : refusal case ≡ 0 = omega arith in ap refusalNumber (assessment-accepted case z) ∙ sym z
-    go (no h) = ap refusalNumber (refused case (omega arith))
+assessment-refusal case = ⊎-elim (λ a. ap refusalNumber (a .1) ∙ sym (a .0)) (λ r. ap refusalNumber (r .1)) (cases case)
 
 pub assessment-refused : (case : Case) (n : ℕ) → checked case ≡ Checked.Refused n → assessment case ≡ Assessment.Refused n
 assessment-refused case n e =
@@ -38,15 +38,11 @@ assessment-refused case n e =
     refused case (omega arith) ∙ ap Assessment.Refused (sym (r .1))
 
 pub assessment-measured : (case : Case) (m : Measures) → assessment case ≡ Assessment.Measured m → Accepted case × (m ≡ measures case)
-assessment-measured case m e = go (decLe (refusal case) 0)
-  where
-    go : Dec (refusal case ≤ 0) → Accepted case × (m ≡ measures case)
-    go (yes h) = let z : refusal case ≡ 0 = omega arith in (z, cc (assessment-accepted case z, e))
-    go (no h) = absurd (let o : _≡_ {A = ℕ} 0 1 = cc (refused case (omega arith), e) in omega arith)
+assessment-measured case m e =
+    ⊎-elim (λ a. (a .0, cc (a .1, e))) (λ r. absurd (let o : _≡_ {A = ℕ} 0 1 = cc (r .1, e) in omega arith)) (cases case)
 
 pub assessment-number : (case : Case) (n : ℕ) → assessment case ≡ Assessment.Refused n → (0 < n) × (n ≡ refusal case)
-assessment-number case n e = go (decLe (refusal case) 0)
-  where
-    go : Dec (refusal case ≤ 0) → (0 < n) × (n ≡ refusal case)
-    go (yes h) = absurd (let o : _≡_ {A = ℕ} 0 1 = cc (assessment-accepted case (omega arith), e) in omega arith)
-    go (no h) = let same : n ≡ refusal case = cc (refused case (omega arith), e) in (omega arith, same)
+assessment-number case n e =
+    ⊎-elim (λ a. absurd (let o : _≡_ {A = ℕ} 0 1 = cc (a .1, e) in omega arith))
+    (λ r. let same : n ≡ refusal case = cc (r .1, e) in (omega (arith, r .0), same))
+    (cases case)

@@ -1,6 +1,7 @@
 -- A choice by a test, `cond`, and the order of what it gives.
 --   T-true, T-false     a test that is true passes; one that is false does not
 --   cond-zero, cond-pos  a choice by whether a number is 0
+--   cond-cases          the two cases of such a choice
 --   leb-iff             tests of facts that hold together are equal
 --   leb-test            a test of a fact is equal to a test that passes exactly when it holds
 --   cond-le             both outcomes are at most z: so is the choice
@@ -10,10 +11,10 @@
 -- Assumes nothing.
 use mathlib.Core.Bool.{Bool, true, false, cond}
 use mathlib.Core.Path.{_≡_, sym, subst}
-use mathlib.Core.Logic.{_↔_}
+use mathlib.Core.Logic.{_↔_, _⊎_, inl, inr, ⊎-elim}
 use Prim.Native.Nat.{ℕ, _≤_, _<_}
 use native.Mathlib.Omega.{arith}
-use native.Mathlib.Nat.{le-refl, le-trans}
+use native.Mathlib.Nat.{le-refl, le-trans, eq-zero-or-pos}
 use native.Mathlib.Decide.{decLe}
 use borrow.Author.Tests.{le-leb, lt-leb, ne-eqb}
 use lib.Dec.{T, leb, eqb}
@@ -29,6 +30,9 @@ cond-zero n x y e = rw e
 
 pub cond-pos {ℓ} : {A : Type ℓ} (n : ℕ) (x y : A) → 0 < n → cond (eqb n 0) x y ≡ y
 cond-pos n x y p = simp (ne-eqb n 0 (λ e. omega arith))
+
+pub cond-cases {ℓ} : {A : Type ℓ} (n : ℕ) (x y : A) → ((n ≡ 0) × (cond (eqb n 0) x y ≡ x)) ⊎ ((0 < n) × (cond (eqb n 0) x y ≡ y))
+cond-cases n x y = ⊎-elim (λ z. inl (z, cond-zero n x y z)) (λ p. inr (p, cond-pos n x y p)) (eq-zero-or-pos n)
 
 pub leb-iff : (a b c d : ℕ) → (a ≤ b) ↔ (c ≤ d) → leb a b ≡ leb c d
 leb-iff a b c d e = go (decLe a b)

@@ -12,10 +12,8 @@ use Rattle.answer.specs.Volumes.{serviceVolume}
 use Rattle.answer.specs.Search.{keepsTo}
 use Rattle.method.proofs.RefusalLaws.{accepted-parts}
 use Rattle.method.proofs.CurveLaws.{curveOf-wellFormed, curveOf-sized}
-use Rattle.method.proofs.FlowLaws.{heavyFactor-le, flowRate-parts}
-use Rattle.method.proofs.TermsLaws.{curveTerms-prepared}
 use Rattle.answer.specs.Answers.{graded}
-use Rattle.answer.proofs.VolumeLaws.{volume-eq}
+use Rattle.answer.proofs.VolumeLaws.{volume-eq, volume-ready}
 use native.Mathlib.Omega.{arith}
 use Rattle.answer.proofs.evaluate.graded.Statement.{statement}
 use Rattle.answer.proofs.evaluate.graded.Tie as tie
@@ -31,53 +29,23 @@ load-of-requires c κs = accepted-parts (c .before .before .before .args .case) 
 
 volume-of-requires : tie.Need-volume-of-requires
 unfolding measures
-volume-of-requires c κs =
-    let case = c .before .before .before .before .args .case in
-    let own : c .before .terms-of .result ≡ curveTerms (curveOf (case .road) (case .lanes)) = c .before .terms-of .ensures ∙ ap (λ m. curveTerms (m .curve)) (c .before .before .before .before .pre .1) in
-    let parts = flowRate-parts case (accepted-parts case (c .before .before .before .before .pre .0) .0) in (
-      rw own (curveTerms-prepared (curveOf (case .road) (case .lanes)) (curveOf-wellFormed case (c .before .before .before .before .pre .0)) (curveOf-sized case (c .before .before .before .before .pre .0))),
-      rw (c .load-of .ensures) (parts .divisor-pos, heavyFactor-le case (parts .share-le)),
-    )
+volume-of-requires c κs = volume-ready (c .before .before .before .before .args .case) (c .before .terms-of .result) (c .load-of .result) (c .before .before .before .before .pre .0) (c .before .terms-of .ensures ∙ ap (λ m. curveTerms (m .curve)) (c .before .before .before .before .pre .1)) (c .load-of .ensures)
 
 volume-of-requires-2 : tie.Need-volume-of-requires-2
 unfolding measures
-volume-of-requires-2 c κs =
-    let case = c .before .before .before .before .before .args .case in
-    let own : c .before .before .terms-of .result ≡ curveTerms (curveOf (case .road) (case .lanes)) = c .before .before .terms-of .ensures ∙ ap (λ m. curveTerms (m .curve)) (c .before .before .before .before .before .pre .1) in
-    let parts = flowRate-parts case (accepted-parts case (c .before .before .before .before .before .pre .0) .0) in (
-      rw own (curveTerms-prepared (curveOf (case .road) (case .lanes)) (curveOf-wellFormed case (c .before .before .before .before .before .pre .0)) (curveOf-sized case (c .before .before .before .before .before .pre .0))),
-      rw (c .before .load-of .ensures) (parts .divisor-pos, heavyFactor-le case (parts .share-le)),
-    )
+volume-of-requires-2 c κs = volume-ready (c .before .before .before .before .before .args .case) (c .before .before .terms-of .result) (c .before .load-of .result) (c .before .before .before .before .before .pre .0) (c .before .before .terms-of .ensures ∙ ap (λ m. curveTerms (m .curve)) (c .before .before .before .before .before .pre .1)) (c .before .load-of .ensures)
 
 volume-of-requires-3 : tie.Need-volume-of-requires-3
 unfolding measures
-volume-of-requires-3 c κs =
-    let case = c .before .before .before .before .before .before .args .case in
-    let own : c .before .before .before .terms-of .result ≡ curveTerms (curveOf (case .road) (case .lanes)) = c .before .before .before .terms-of .ensures ∙ ap (λ m. curveTerms (m .curve)) (c .before .before .before .before .before .before .pre .1) in
-    let parts = flowRate-parts case (accepted-parts case (c .before .before .before .before .before .before .pre .0) .0) in (
-      rw own (curveTerms-prepared (curveOf (case .road) (case .lanes)) (curveOf-wellFormed case (c .before .before .before .before .before .before .pre .0)) (curveOf-sized case (c .before .before .before .before .before .before .pre .0))),
-      rw (c .before .before .load-of .ensures) (parts .divisor-pos, heavyFactor-le case (parts .share-le)),
-    )
+volume-of-requires-3 c κs = volume-ready (c .before .before .before .before .before .before .args .case) (c .before .before .before .terms-of .result) (c .before .before .load-of .result) (c .before .before .before .before .before .before .pre .0) (c .before .before .before .terms-of .ensures ∙ ap (λ m. curveTerms (m .curve)) (c .before .before .before .before .before .before .pre .1)) (c .before .before .load-of .ensures)
 
 volume-of-requires-4 : tie.Need-volume-of-requires-4
 unfolding measures
-volume-of-requires-4 c κs =
-    let case = c .before .before .before .before .before .before .before .args .case in
-    let own : c .before .before .before .before .terms-of .result ≡ curveTerms (curveOf (case .road) (case .lanes)) = c .before .before .before .before .terms-of .ensures ∙ ap (λ m. curveTerms (m .curve)) (c .before .before .before .before .before .before .before .pre .1) in
-    let parts = flowRate-parts case (accepted-parts case (c .before .before .before .before .before .before .before .pre .0) .0) in (
-      rw own (curveTerms-prepared (curveOf (case .road) (case .lanes)) (curveOf-wellFormed case (c .before .before .before .before .before .before .before .pre .0)) (curveOf-sized case (c .before .before .before .before .before .before .before .pre .0))),
-      rw (c .before .before .before .load-of .ensures) (parts .divisor-pos, heavyFactor-le case (parts .share-le)),
-    )
+volume-of-requires-4 c κs = volume-ready (c .before .before .before .before .before .before .before .args .case) (c .before .before .before .before .terms-of .result) (c .before .before .before .load-of .result) (c .before .before .before .before .before .before .before .pre .0) (c .before .before .before .before .terms-of .ensures ∙ ap (λ m. curveTerms (m .curve)) (c .before .before .before .before .before .before .before .pre .1)) (c .before .before .before .load-of .ensures)
 
 volume-of-requires-5 : tie.Need-volume-of-requires-5
 unfolding measures
-volume-of-requires-5 c κs =
-    let case = c .before .before .before .before .before .before .before .before .args .case in
-    let own : c .before .before .before .before .before .terms-of .result ≡ curveTerms (curveOf (case .road) (case .lanes)) = c .before .before .before .before .before .terms-of .ensures ∙ ap (λ m. curveTerms (m .curve)) (c .before .before .before .before .before .before .before .before .pre .1) in
-    let parts = flowRate-parts case (accepted-parts case (c .before .before .before .before .before .before .before .before .pre .0) .0) in (
-      rw own (curveTerms-prepared (curveOf (case .road) (case .lanes)) (curveOf-wellFormed case (c .before .before .before .before .before .before .before .before .pre .0)) (curveOf-sized case (c .before .before .before .before .before .before .before .before .pre .0))),
-      rw (c .before .before .before .before .load-of .ensures) (parts .divisor-pos, heavyFactor-le case (parts .share-le)),
-    )
+volume-of-requires-5 c κs = volume-ready (c .before .before .before .before .before .before .before .before .args .case) (c .before .before .before .before .before .terms-of .result) (c .before .before .before .before .load-of .result) (c .before .before .before .before .before .before .before .before .pre .0) (c .before .before .before .before .before .terms-of .ensures ∙ ap (λ m. curveTerms (m .curve)) (c .before .before .before .before .before .before .before .before .pre .1)) (c .before .before .before .before .load-of .ensures)
 
 returns : tie.Need-returns
 unfolding measures graded

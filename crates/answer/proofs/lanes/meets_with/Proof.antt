@@ -3,12 +3,11 @@
 use mathlib.Core.Path.{sym, ap, _∙_}
 use native.Mathlib.Nat.{lt-of-le-of-lt}
 use lib.Dec.{lit<}
-use Rattle.method.specs.Refusals.{firstRefusal, speedRefusals}
 use Rattle.method.specs.Curves.{curveOf}
 use Rattle.method.specs.Flow.{heavyFactor, flowRate}
 use Rattle.method.specs.Terms.{curveTerms}
-use Rattle.method.proofs.RefusalLaws.{fields-parts, accepted-of, refusals-fields}
-use Rattle.method.proofs.CurveLaws.{unlessRefused-accepted, unlessRefused-refused, curveOf-wellFormed, curveOf-sized}
+use Rattle.method.proofs.RefusalLaws.{fields-parts}
+use Rattle.method.proofs.CurveLaws.{checkedCurve-accepted, checkedCurve-refused, curveOf-wellFormed, curveOf-sized}
 use Rattle.method.proofs.FlowLaws.{flowRate-parts}
 use Rattle.method.proofs.TermsLaws.{curveTerms-prepared}
 use Rattle.method.proofs.ServiceLaws.{densityLimit-le}
@@ -51,9 +50,8 @@ div-up-requires c κs =
 terms-of-requires : tie.Need-terms-of-requires
 terms-of-requires c κs =
     let case = withLanes (c .before .before .before .before .before .before .before .before .before .args .case) (c .before .before .before .before .before .before .before .before .before .args .lanes) in
-    let found = unlessRefused-accepted (firstRefusal (speedRefusals (case .road) (case .lanes))) (curveOf (case .road) (case .lanes)) _ (sym (c .before .before .before .before .before .before .before .checked-curve .ensures) ∙ c .before .before .before .before .before .checked .given .1) in
-    let accepted = accepted-of case (c .before .before .before .before .before .before .before .before .before .pre .0) (found .0) in
-    rw (found .1) (curveOf-wellFormed case accepted, curveOf-sized case accepted)
+    let found = checkedCurve-accepted case _ (c .before .before .before .before .before .before .before .before .before .pre .0) (sym (c .before .before .before .before .before .before .before .checked-curve .ensures) ∙ c .before .before .before .before .before .checked .given .1) in
+    rw (found .1) (curveOf-wellFormed case (found .0), curveOf-sized case (found .0))
 
 density-limit-requires : tie.Need-density-limit-requires
 density-limit-requires c κs = search needs
@@ -61,9 +59,8 @@ density-limit-requires c κs = search needs
 meets-limit-requires : tie.Need-meets-limit-requires
 meets-limit-requires c κs =
     let case = withLanes (c .before .before .before .before .before .before .before .before .before .before .before .args .case) (c .before .before .before .before .before .before .before .before .before .before .before .args .lanes) in
-    let found = unlessRefused-accepted (firstRefusal (speedRefusals (case .road) (case .lanes))) (curveOf (case .road) (case .lanes)) _ (sym (c .before .before .before .before .before .before .before .before .before .checked-curve .ensures) ∙ c .before .before .before .before .before .before .before .checked .given .1) in
-    let accepted = accepted-of case (c .before .before .before .before .before .before .before .before .before .before .before .pre .0) (found .0) in (
-      rw (c .before .terms-of .ensures, found .1) (curveTerms-prepared (curveOf (case .road) (case .lanes)) (curveOf-wellFormed case accepted) (curveOf-sized case accepted)),
+    let found = checkedCurve-accepted case _ (c .before .before .before .before .before .before .before .before .before .before .before .pre .0) (sym (c .before .before .before .before .before .before .before .before .before .checked-curve .ensures) ∙ c .before .before .before .before .before .before .before .checked .given .1) in (
+      rw (c .before .terms-of .ensures, found .1) (curveTerms-prepared (curveOf (case .road) (case .lanes)) (curveOf-wellFormed case (found .0)) (curveOf-sized case (found .0))),
       omega (arith, c .density-limit .ensures, densityLimit-le (c .before .before .before .before .before .before .before .before .before .before .before .args .letter)),
     )
 
@@ -74,18 +71,15 @@ returns : tie.Need-returns
 unfolding heavyFactor flowRate curveTerms
 returns c =
     let case = withLanes (c .before .before .before .before .before .before .before .before .before .before .before .before .args .case) (c .before .before .before .before .before .before .before .before .before .before .before .before .args .lanes) in
-    let found = unlessRefused-accepted (firstRefusal (speedRefusals (case .road) (case .lanes))) (curveOf (case .road) (case .lanes)) _ (sym (c .before .before .before .before .before .before .before .before .before .before .checked-curve .ensures) ∙ c .before .before .before .before .before .before .before .before .checked .given .1) in
-    let accepted = accepted-of case (c .before .before .before .before .before .before .before .before .before .before .before .before .pre .0) (found .0) in
+    let found = checkedCurve-accepted case _ (c .before .before .before .before .before .before .before .before .before .before .before .before .pre .0) (sym (c .before .before .before .before .before .before .before .before .before .before .checked-curve .ensures) ∙ c .before .before .before .before .before .before .before .before .checked .given .1) in
     let own = ap (λ t. t .curve) (c .before .before .terms-of .ensures ∙ ap curveTerms (found .1)) in
     simp (c .meets-limit .ensures, own, c .before .before .before .div-up .ensures, c .before .before .before .before .before .before .heavy-factor .ensures, c .before .density-limit .ensures)
-    (sym (meets-accepted case (c .before .before .before .before .before .before .before .before .before .before .before .before .args .letter) accepted (c .before .before .before .before .before .before .before .before .before .before .before .before .pre .1 .0) (c .before .before .before .before .before .before .before .before .before .before .before .before .pre .1 .1)))
+    (sym (meets-accepted case (c .before .before .before .before .before .before .before .before .before .before .before .before .args .letter) (found .0) (c .before .before .before .before .before .before .before .before .before .before .before .before .pre .1 .0) (c .before .before .before .before .before .before .before .before .before .before .before .before .pre .1 .1)))
 
 returns-2 : tie.Need-returns-2
 returns-2 c =
     let case = withLanes (c .before .before .before .before .args .case) (c .before .before .before .before .args .lanes) in
-    let number = firstRefusal (speedRefusals (case .road) (case .lanes)) in
-    let found = unlessRefused-refused number _ (curveOf (case .road) (case .lanes)) (sym (c .before .before .checked-curve .ensures) ∙ c .enum-told .given .1) in
-    sym (meets-refused case (c .before .before .before .before .args .letter) (omega (arith, found .0, found .1, refusals-fields case (c .before .before .before .before .pre .0))))
+    sym (meets-refused case (c .before .before .before .before .args .letter) (checkedCurve-refused case _ (c .before .before .before .before .pre .0) (sym (c .before .before .checked-curve .ensures) ∙ c .enum-told .given .1)))
 
 pub meets-with-spec : {M : Type 1} → statement M
 meets-with-spec =
