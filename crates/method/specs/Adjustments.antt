@@ -1,9 +1,11 @@
 -- What is taken off a base speed, in thousandths of mi/h (document 01, "Free-flow speed F"). Lengths are tenths of a foot.
 --   laneWidthAdjustment w              for the lane width
 --   rightClearanceAdjustment r n       kind F: for right clearance r and n lanes
+--   perMissingFoot n                   kind F: for each foot that the right clearance is short of 6
 --   countedLeftClearance m l           the left clearance that counts, by the median
 --   totalClearance m r l               kind M: right plus left
 --   totalClearanceAdjustment n s       kind M: for n lanes and total clearance s
+--   twoLaneRow, threeLaneRow           kind M: the table for 12, 10, 8, 6, 4, 2, 0 feet
 --   medianAdjustment m                 kind M: for the median
 --   accessAdjustment p                 kind M: for p access points per mile
 -- Assumes nothing.

@@ -1,6 +1,10 @@
 -- The boundary sections of document 01, as far as this layer can state them: one list, which the layers above make longer.
 --   Figure           what the definitions give, and what is to be shown
+--   figure w p       a figure of what is worked out and what is printed
 --   Shown fs         the two are the same for each figure of the list
+--   given kind f w   a road of given speed f and lane width w
+--   twoLanes road v  its case with two lanes and demand v, no heavy vehicles, level
+--   example          the printed line's case
 --   boundaryFigures  the list
 -- Assumes nothing.
 use mathlib.Core.Path.{_≡_}

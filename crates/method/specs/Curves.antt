@@ -5,6 +5,7 @@
 --   curveOf road n       the curve of a road with n lanes
 --   WellFormed curve     b is below c, and the speed at capacity, 10c/45, is at most F
 --   Sized curve          the ends within which 64 bits hold every product
+--   unlessRefused k curve  the curve where the number k is 0, else the refusal k
 --   checkedCurve road n  the curve, or 10
 --   checked case         the curve of a case, or the number of its refusal
 -- Assumes nothing.

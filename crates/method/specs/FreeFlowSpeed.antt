@@ -1,6 +1,7 @@
 -- Free-flow speed F, in thousandths of mi/h (document 01, "Free-flow speed F").
 --   estimatedSpeed road n   the base speed less what is taken off, with n lanes
 --   uncappedSpeed road n    F before its upper end
+--   estimatedBy, uncappedBy the same, by the kind and by the way F is found
 --   freeFlowSpeed road n    F
 -- Assumes nothing.
 use Prim.Native.Nat.{ℕ, _-_, min}

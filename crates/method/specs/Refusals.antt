@@ -1,7 +1,11 @@
 -- Refusals 1 to 10 in their order (document 01, "Refused, by who can cause it").
 --   Refusal             a refusal's number, and whether it is met
+--   refuses n b         refusal n, met where b is
 --   firstRefusal rs     the number of the first of rs that is met, 0 where none is
 --   greatestDemand      the greatest demand that 7 lets pass
+--   outside low high n  n is below low or above high
+--   medianUnfit kind m  a median that 4 refuses
+--   mostAccess kind     the most ramps or access points that 5 lets pass
 --   roadRefusals road   1 to 5, of the road's fields
 --   loadRefusals case   6 to 9, of the other fields
 --   fieldRefusals case  1 to 9

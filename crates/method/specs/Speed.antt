@@ -2,6 +2,7 @@
 --   beyondBreakpoint curve v   100v − b, 0 up to the breakpoint
 --   spanToCapacity curve       c − b
 --   fallShare curve v          w, the part of the fall from F to the speed at capacity that is reached at v
+--   fallShareBy kind curve v   the same, by the kind
 --   speed curve v              S, exactly, for v up to capacity
 --   shownSpeed curve v         S rounded down; 0 above capacity
 --   ExactSpeed curve v s       s is a fraction of the same value as S, above 0 and in numbers that the code can go on with

@@ -1,4 +1,5 @@
--- What the code works out once a curve, so that a speed then costs a few products, and on kind M the division of its place in the table of powers. It is no part of the method.
+-- What the code works out once a curve, so that a speed then costs a few products, and on kind M the division of its place in the
+-- table of powers. It is no part of the method.
 --   fallWhole kind s   the denominator of w, where c − b is s
 --   curveTerms curve   a curve with its terms
 --   Prepared terms     terms of a curve that is well formed and within the sizes

@@ -1,6 +1,7 @@
 -- The greatest and the least number that pass a test.
 --   greatest p n   the greatest number up to n that passes p; 0 where none does
 --   least p n      the least number below n that passes p; n where none does
+--   leastFrom p a n   the least of the n numbers from a on that passes p; a + n where none does
 --   DownwardClosed p   with a number every smaller one passes
 --   UpwardClosed p     with a number every larger one passes
 --   endsAt p s     s passes, and the next number fails
