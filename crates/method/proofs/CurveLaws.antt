@@ -3,9 +3,9 @@
 --   capacity-le          it is at most 240,000
 --   capacity-within      it lies between the kind's ends, for F between its ends
 --   unlessRefused-some   a number above 0 refuses
---   checkedCurve-accepted, checkedCurve-refused   the same of a road with a lane count
 --   checked-accepted     a case that is checked and found with a curve is accepted, and the curve is its own
 --   checked-refused      a case that is checked and refused: the number is its refusal's, above 0
+--   checkedCurve-accepted, checkedCurve-refused   the same where only 10 is checked, of a case that 1 to 9 do not refuse
 --   curveAt-wellFormed   the curve at an F between the kind's ends is well formed
 --   curveAt-sized        and within the ends that 64 bits want
 --   curveOf-wellFormed, curveOf-sized   the same of the curve of a case that is accepted
