@@ -1,0 +1,57 @@
+-- The parts of a list, by where its first part ends.
+-- Assumes nothing.
+use mathlib.Core.Path.{_≡_, refl, sym, ap, _∙_}
+use mathlib.Core.Bool.{Bool, true, false, cond}
+use mathlib.Core.List.{List, [], _∷_, _++_}
+use Prim.Native.Nat.{ℕ, zero, suc, _+_, _≤_, _<_}
+use native.Mathlib.Nat.{add-zero, add-suc, suc-add, le-of-suc-le-suc, suc-inj}
+use native.Mathlib.Numerals.{add-one}
+use native.Mathlib.Omega.{arith}
+use lib.Dec.{eqb}
+use lib.ListN.{length, take, drop, getD}
+use lib.Seq.{drop-cons}
+use borrow.Author.Tests.{eq-eqb, ne-eqb}
+use Rattle.text.specs.Parts.{parts, countBefore, onFirst}
+
+pub countBefore-le : (t : ℕ) (bs : List ℕ) → countBefore t bs ≤ length bs
+unfolding countBefore
+countBefore-le t [] = omega arith
+countBefore-le t (b ∷ bs) = go (eqb b t) (countBefore-le t bs)
+  where
+    go : (v : Bool) → countBefore t bs ≤ length bs → cond v 0 (suc (countBefore t bs)) ≤ suc (length bs)
+    go true h = omega arith
+    go false h = omega arith
+
+-- a list with no t is one part
+pub parts-one : (t : ℕ) (bs : List ℕ) → countBefore t bs ≡ length bs → parts t bs ≡ bs ∷ []
+unfolding countBefore parts onFirst
+parts-one t [] h = refl
+parts-one t (b ∷ bs) h = go (eqb b t) h (λ e. parts-one t bs e)
+  where
+    go : (v : Bool) → cond v 0 (suc (countBefore t bs)) ≡ suc (length bs) → (countBefore t bs ≡ length bs → parts t bs ≡ bs ∷ []) → cond v ([] ∷ parts t bs) (onFirst b (parts t bs)) ≡ (b ∷ bs) ∷ []
+    go true h r = absurd (omega arith)
+    go false h r = ap (onFirst b) (r (omega arith))
+
+-- a list with a t is the part countBefore it, and the parts after it
+pub parts-more : (t : ℕ) (bs : List ℕ) → countBefore t bs < length bs → parts t bs ≡ take (countBefore t bs) bs ∷ parts t (drop (suc (countBefore t bs)) bs)
+unfolding countBefore parts onFirst
+parts-more t [] h = absurd (omega arith)
+parts-more t (b ∷ bs) h = go (eqb b t) h (λ e. parts-more t bs e)
+  where
+    go : (v : Bool) → cond v 0 (suc (countBefore t bs)) < suc (length bs) →
+        (countBefore t bs < length bs → parts t bs ≡ take (countBefore t bs) bs ∷ parts t (drop (suc (countBefore t bs)) bs)) → cond v ([] ∷ parts t bs) (onFirst b (parts t bs))
+        ≡ take (cond v 0 (suc (countBefore t bs))) (b ∷ bs) ∷ parts t (drop (suc (cond v 0 (suc (countBefore t bs)))) (b ∷ bs))
+    go true h r = refl
+    go false h r = ap (onFirst b) (r (omega arith))
+
+-- one byte on
+pub countBefore-hit : (t : ℕ) (bs : List ℕ) (i : ℕ) → i < length bs → getD bs i 0 ≡ t → i + countBefore t (drop i bs) ≡ i
+unfolding countBefore
+countBefore-hit t bs i h e = rw (drop-cons bs i 0 h, eq-eqb (getD bs i 0) t e) (add-zero i)
+
+pub countBefore-miss : (t : ℕ) (bs : List ℕ) (i : ℕ) → i < length bs → (getD bs i 0 ≡ t → ⊥) → i + countBefore t (drop i bs) ≡ i + 1 + countBefore t (drop (i + 1) bs)
+unfolding countBefore
+countBefore-miss t bs i h n = rw (drop-cons bs i 0 h, ne-eqb (getD bs i 0) t n, add-one i) (omega arith)
+
+pub countBefore-end : (t : ℕ) (bs : List ℕ) (i : ℕ) → i ≡ length bs → i + countBefore t (drop i bs) ≡ i
+countBefore-end t bs i e = omega (arith, countBefore-le t (drop i bs), lib.ListN.length-drop i bs)

@@ -1,0 +1,26 @@
+-- Numbers as text (document 01, "Figures are written in decimal"; "Lines").
+--   decimalUpTo k n   the decimal digits of a number that has at most k
+--   decimal n         the decimal digits of a number below 10 ^ 20
+--   figuresText ns    each number after a tab
+--   rowText b ns      the byte b, each number after a tab, and a newline
+-- Assumes nothing.
+use Prim.Native.Nat.{ℕ, zero, suc, _+_, _/_, _%_}
+use mathlib.Core.Bool.{cond}
+use mathlib.Core.List.{List, [], _∷_, _++_}
+use lib.Dec.{ltb}
+use Rattle.text.specs.Bytes.{tab, newline}
+
+-- the digit 0 is byte 48
+unfoldable pub decimalUpTo : ℕ → ℕ → List ℕ
+decimalUpTo zero n = []
+decimalUpTo (suc k) n = cond (ltb n 10) ((48 + n) ∷ []) (decimalUpTo k (n / 10) ++ ((48 + n % 10) ∷ []))
+
+unfoldable pub decimal : ℕ → List ℕ
+decimal n = decimalUpTo 20 n
+
+unfoldable pub figuresText : List ℕ → List ℕ
+figuresText [] = []
+figuresText (n ∷ ns) = tab ∷ (decimal n ++ figuresText ns)
+
+unfoldable pub rowText : ℕ → List ℕ → List ℕ
+rowText b ns = b ∷ (figuresText ns ++ (newline ∷ []))

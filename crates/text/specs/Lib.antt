@@ -1,0 +1,9 @@
+-- Bytes and numbers as text.
+--   Bytes     the bytes that document 01 names
+--   Parts     bytes parted at a byte
+--   Decimal   numbers in decimal
+--   Buffer    text in a lent buffer
+pub mod Bytes
+pub mod Parts
+pub mod Decimal
+pub mod Buffer
