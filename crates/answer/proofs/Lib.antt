@@ -6,3 +6,4 @@ pub mod LanesLaws
 pub mod Promises
 pub mod Boundary
 pub mod Instances
+pub mod Laws

@@ -6,6 +6,7 @@
 --   Search     what the search tries
 --   Promises   demand 3, stated
 --   Boundary   the boundary sections that this layer adds
+--   Laws       laws of the answers
 --   Instances  an instance of each part of demand 3
 pub mod Cases
 pub mod Volumes
@@ -14,4 +15,5 @@ pub mod Lanes
 pub mod Search
 pub mod Promises
 pub mod Boundary
+pub mod Laws
 pub mod Instances

@@ -1,4 +1,6 @@
 -- Refusals (specs/Refusals): what it says of a case that one list or another does not refuse.
+--   firstRefusal-le        no number is above the greatest of the list
+--   refusal-le             a case is refused with 10 at most
 --   RoadFits, roadFits     the ends that 1 to 5 leave to a road
 --   LoadFits, loadFits     the ends that 6 to 9 leave to a case
 --   fieldRefusals-road     a road that 1 to 5 do not refuse: 6 to 9 decide
@@ -17,8 +19,9 @@ use mathlib.Core.List.{List, [], _∷_, _++_}
 use Prim.Native.Nat.{ℕ, _≤_, _<_}
 use native.Mathlib.Omega.{arith}
 use borrow.Author.Tests.{ltb-false}
-use lib.Dec.{T, ltb, ltb→lt}
+use lib.Dec.{T, leb, ltb, leb→le, ltb→lt}
 use Rattle.numbers.proofs.TableLaws.{and-left, and-right}
+use Rattle.numbers.proofs.ChoiceLaws.{cond-le}
 use Rattle.method.specs.declared.case.Road.{Road}
 use Rattle.method.specs.declared.case.Case.{Case}
 use Rattle.method.specs.Kinds.{lowestSpeed, fewestLanes, mostLanes}
@@ -56,6 +59,21 @@ pub firstRefusal-some : (rs ss : List Refusal) → 0 < firstRefusal rs → first
 firstRefusal-some [] ss p = absurd (omega arith)
 firstRefusal-some (r ∷ rs) ss p =
     some-head (r .number) (firstRefusal rs) (firstRefusal (rs ++ ss)) (r .met) p (λ q. firstRefusal-some rs ss q)
+
+-- no refusal of the list has a number above m
+abbrev pub upTo : ℕ → List Refusal → Bool
+upTo m [] = true
+upTo m (r ∷ rs) = leb (r .number) m && upTo m rs
+
+pub firstRefusal-le : (m : ℕ) (rs : List Refusal) → T (upTo m rs) → firstRefusal rs ≤ m
+firstRefusal-le m [] t = omega arith
+firstRefusal-le m (r ∷ rs) t =
+    cond-le (r .met) (leb→le (r .number) m (and-left (leb (r .number) m) (upTo m rs) t))
+    (firstRefusal-le m rs (and-right (leb (r .number) m) (upTo m rs) t))
+
+pub refusal-le : (case : Case) → refusal case ≤ 10
+unfolding roadRefusals loadRefusals fieldRefusals speedRefusals refusals
+refusal-le case = firstRefusal-le 10 (refusals case) tt
 
 -- a joined list that refuses nothing: neither part does
 join-none : (rs ss : List Refusal) → T (numbered rs) → firstRefusal (rs ++ ss) ≡ 0 → (firstRefusal rs ≡ 0) × (firstRefusal ss ≡ 0)

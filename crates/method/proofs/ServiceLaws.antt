@@ -5,6 +5,7 @@
 --   limit-exact        the test of a limit may be worked from any such fraction too
 --   density-mono       more flow at no higher speed: no less density
 --   density-le         up to capacity the density is at most 450
+--   shownDensity-le, shownSpeed-le   what is shown is at most 450, and at most F
 --   density-zero       without flow it is 0
 --   densityLetter-mono, densityLetter-last   a greater density gets no better letter; none is past F
 --   densityLimit-le    no letter's density is above 450
@@ -19,15 +20,15 @@ use mathlib.Core.Bool.{Bool, true, false, cond}
 use mathlib.Core.Logic.{_↔_}
 use Prim.Native.Nat.{ℕ, zero, suc, _*_, _≤_}
 use native.Mathlib.Omega.{arith}
-use native.Mathlib.Nat.{le-trans, zero-mul, mul-le-mul-right}
+use native.Mathlib.Nat.{le-trans, le-of-eq, zero-mul, mul-le-mul-right, div-one}
 use native.Mathlib.Decide.{decLe}
 use borrow.Author.Tests.{le-leb, lt-leb}
 use lib.Dec.{T, leb, eqb, leb→le, le→leb}
 use Rattle.numbers.specs.declared.Fraction.{Fraction}
 use Rattle.numbers.specs.Division.{divUp}
-use Rattle.numbers.specs.Fraction.{over, whole, times, dividedBy, AtMost}
+use Rattle.numbers.specs.Fraction.{over, whole, times, dividedBy, roundedDown, AtMost}
 use Rattle.numbers.proofs.DivisionLaws.{divUp-le-iff, divUp-zero}
-use Rattle.numbers.proofs.FractionLaws.{AtMost-trans, roundedUp-mono, roundedUp-eq, dividedBy-mono, quotient-le-iff}
+use Rattle.numbers.proofs.FractionLaws.{AtMost-trans, roundedDown-mono, roundedUp-mono, roundedUp-eq, dividedBy-mono, quotient-le-iff}
 use Rattle.numbers.proofs.TableLaws.{and-left, and-right}
 use Rattle.numbers.proofs.ChoiceLaws.{leb-iff, cond-le, le-cond, cond-leb-mono}
 use Rattle.method.specs.declared.kind.Kind.{Kind}
@@ -37,7 +38,7 @@ use Rattle.method.specs.declared.service.Letter.{Letter}
 use Rattle.method.specs.declared.service.Letter.the-variants as Letter
 use Rattle.method.specs.Kinds.{lowestSpeed, highestSpeed}
 use Rattle.method.specs.Curves.{capacity, curveAt, WellFormed}
-use Rattle.method.specs.Speed.{speed, ExactSpeed}
+use Rattle.method.specs.Speed.{speed, shownSpeed, ExactSpeed}
 use Rattle.method.specs.Service.{density, shownDensity, densityLetter, letterAt, meetsLimit, densityLimit, letterNumber}
 use Rattle.method.proofs.CurveLaws.{capacity-mono, curveAt-wellFormed}
 use Rattle.method.proofs.SpeedLaws.{speed-numerator-pos, speed-denominator-pos, speed-antitone, capacitySpeed-le}
@@ -88,6 +89,29 @@ pub density-le : (curve : Curve) (v : ℕ) → WellFormed curve → 100 * v ≤ 
 density-le curve v ok h =
     density-le-iff curve v 450 ok h .1
     (omega (arith, capacitySpeed-le curve v ok h, mul-le-mul-right (speed curve v .denominator) h))
+
+pub shownDensity-le : (curve : Curve) (v : ℕ) → WellFormed curve → shownDensity curve v ≤ 450
+unfolding shownDensity
+shownDensity-le curve v ok = go (decLe (100 * v) (curve .capacity))
+  where
+    go : Dec (100 * v ≤ curve .capacity) → shownDensity curve v ≤ 450
+    go (yes h) = rw (le-leb (100 * v) (curve .capacity) h) (density-le curve v ok h)
+    go (no h) = rw (lt-leb (100 * v) (curve .capacity) (omega arith)) (omega arith)
+
+-- without flow the speed is F, and it never rises with flow
+pub shownSpeed-le : (curve : Curve) (v : ℕ) → WellFormed curve → shownSpeed curve v ≤ curve .«free_flow_speed»
+unfolding shownSpeed speed
+shownSpeed-le curve v ok = go (decLe (100 * v) (curve .capacity))
+  where
+    free : roundedDown (speed curve 0) ≡ curve .«free_flow_speed»
+    free = rw (le-leb (100 * 0) (curve .breakpoint) (omega arith)) (div-one (curve .«free_flow_speed»))
+
+    go : Dec (100 * v ≤ curve .capacity) → shownSpeed curve v ≤ curve .«free_flow_speed»
+    go (yes h) =
+        rw (le-leb (100 * v) (curve .capacity) h)
+        (le-trans (roundedDown-mono (speed curve v) (speed curve 0) (speed-denominator-pos curve v ok) (speed-denominator-pos curve 0 ok) (speed-antitone curve 0 v ok (omega arith) h))
+        (le-of-eq free))
+    go (no h) = rw (lt-leb (100 * v) (curve .capacity) (omega arith)) (omega arith)
 
 pub density-zero : (curve : Curve) → WellFormed curve → density curve 0 ≡ 0
 unfolding density

@@ -3,7 +3,9 @@
 --   Fraction   exact fractions and their order
 --   Search     the greatest and the least number that pass a test
 --   Table      a test of every entry of a table
+--   Bounds     lists compared place by place
 pub mod Division
 pub mod Fraction
 pub mod Search
 pub mod Table
+pub mod Bounds

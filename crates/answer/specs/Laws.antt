@@ -1,0 +1,33 @@
+-- Laws of the answers, stated; proofs/Laws proves them.
+--   figureEnds           the most that each figure of an answer can be
+--   FiguresWithinEnds    no figure of an answer is above its end, so that an answer has 62 bytes at most
+--   RefusalsWithinEnds   a case is refused with 1 to 10, the lanes question with 1 to 9, 14 or 16
+--   CountsAreDigits      a lane count is one digit
+-- Assumes nothing.
+use mathlib.Core.Path.{_≡_}
+use mathlib.Core.List.{List, [], _∷_}
+use Prim.Native.Nat.{ℕ, _*_, _≤_}
+use Rattle.numbers.specs.Bounds.{AllAtMost}
+use Rattle.method.specs.declared.case.Case.{Case}
+use Rattle.method.specs.Refusals.{greatestDemand, Accepted}
+use Rattle.answer.specs.Answers as answers
+use Rattle.answer.specs.Answers.{answerTo}
+use Rattle.answer.specs.Lanes as lanes
+use Rattle.answer.specs.Lanes.{lanesAnswer}
+
+-- letter, F, c, v, speed, density, service volumes A to E. A service volume keeps to capacity, 2,400 passenger cars on each of 8 lanes,
+-- whatever the greatest demand is
+abbrev pub figureEnds : List ℕ
+figureEnds =
+    6 ∷ 75000 ∷ 240000 ∷ 6 * greatestDemand ∷ 75000 ∷ 450 ∷ 19200 ∷ 19200 ∷ 19200 ∷ 19200 ∷ 19200 ∷ []
+
+abbrev pub FiguresWithinEnds : Type 0
+FiguresWithinEnds = (case : Case) → Accepted case → AllAtMost (answers.values (answerTo case)) figureEnds
+
+abbrev pub RefusalsWithinEnds : Type 0
+RefusalsWithinEnds =
+    (case : Case) (n : ℕ)
+    → (answers.refusalNumber (answerTo case) ≤ 10) × (lanes.refusalNumber (lanesAnswer case n) ≤ 16)
+
+abbrev pub CountsAreDigits : Type 0
+CountsAreDigits = (case : Case) (n count : ℕ) → lanes.values (lanesAnswer case n) ≡ count ∷ [] → count ≤ 9

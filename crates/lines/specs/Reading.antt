@@ -1,0 +1,109 @@
+-- A line as a case or its refusal (document 01, "Lines").
+--   kindOf, wayOf, medianOf, terrainOf   what a letter's byte stands for
+--   caseOf vs           the case of the 13 values of a line
+--   readValues vs       the case of a line's values, refusal 15 where there are none
+--   longestLine         80 bytes
+--   readLine bs         the case of a line, or its refusal
+--   refusalNumber r     the number of the refusal, 0 where there is none
+--   kindByte, wayByte, medianByte, terrainByte   the letters' bytes
+--   values r            the 13 values of a case; of a refusal no value
+-- Assumes nothing.
+use Prim.Native.Nat.{ℕ}
+use mathlib.Core.Bool.{cond}
+use mathlib.Core.List.{List, [], _∷_}
+use mathlib.Core.Option.{Option, none, some}
+use lib.Dec.{eqb, ltb}
+use lib.ListN.{length, getD}
+use Rattle.text.specs.Bytes.{tab}
+use Rattle.text.specs.Parts.{parts}
+use Rattle.method.specs.declared.kind.Kind.{Kind}
+use Rattle.method.specs.declared.kind.Kind.the-variants as Kind
+use Rattle.method.specs.declared.case.Way.{Way}
+use Rattle.method.specs.declared.case.Way.the-variants as Way
+use Rattle.method.specs.declared.case.Median.{Median}
+use Rattle.method.specs.declared.case.Median.the-variants as Median
+use Rattle.method.specs.declared.case.Terrain.{Terrain}
+use Rattle.method.specs.declared.case.Terrain.the-variants as Terrain
+use Rattle.method.specs.declared.case.Case.{Case}
+use Rattle.lines.specs.declared.read.LineRead.{LineRead}
+use Rattle.lines.specs.declared.read.LineRead.the-variants as LineRead
+use Rattle.lines.specs.Fields.{layout, valuesOf}
+
+-- F and M are bytes 70 and 77
+abbrev pub kindOf : ℕ → Kind
+kindOf b = cond (eqb b 70) Kind.Freeway Kind.Multilane
+
+-- E and G are bytes 69 and 71
+abbrev pub wayOf : ℕ → Way
+wayOf b = cond (eqb b 69) Way.Estimated Way.Given
+
+-- U, D and T are bytes 85, 68 and 84
+abbrev pub medianOf : ℕ → Median
+medianOf b = cond (eqb b 85) Median.Undivided (cond (eqb b 68) Median.Divided Median.TwoWayLeftTurnLane)
+
+-- L and R are bytes 76 and 82
+abbrev pub terrainOf : ℕ → Terrain
+terrainOf b = cond (eqb b 76) Terrain.Level Terrain.Rolling
+
+unfoldable pub caseOf : List ℕ → Case
+caseOf vs =
+    record {
+      road =
+          record {
+            kind = kindOf (getD vs 0 0);
+            way = wayOf (getD vs 1 0);
+            speed = getD vs 2 0;
+            «lane_width» = getD vs 3 0;
+            «right_clearance» = getD vs 4 0;
+            «left_clearance» = getD vs 5 0;
+            median = medianOf (getD vs 6 0);
+            access = getD vs 7 0;
+          };
+      lanes = getD vs 8 0;
+      demand = getD vs 9 0;
+      «peak_hour_factor» = getD vs 10 0;
+      «heavy_share» = getD vs 11 0;
+      terrain = terrainOf (getD vs 12 0);
+    }
+
+-- "15 malformed line, an unknown field letter included"
+unfoldable pub readValues : Option (List ℕ) → LineRead
+readValues none = LineRead.Refused 15
+readValues (some vs) = LineRead.Case (caseOf vs)
+
+-- "Longer than 80 bytes is malformed"
+abbrev pub longestLine : ℕ
+longestLine = 80
+
+-- "One case a line, 13 fields parted by tabs"
+unfoldable pub readLine : List ℕ → LineRead
+readLine bs =
+    cond (ltb longestLine (length bs)) (LineRead.Refused 15) (readValues (valuesOf layout (parts tab bs)))
+
+abbrev pub refusalNumber : LineRead → ℕ
+refusalNumber (LineRead.Case c) = 0
+refusalNumber (LineRead.Refused n) = n
+
+abbrev pub kindByte : Kind → ℕ
+kindByte Kind.Freeway = 70
+kindByte Kind.Multilane = 77
+
+abbrev pub wayByte : Way → ℕ
+wayByte Way.Estimated = 69
+wayByte Way.Given = 71
+
+abbrev pub medianByte : Median → ℕ
+medianByte Median.Undivided = 85
+medianByte Median.Divided = 68
+medianByte Median.TwoWayLeftTurnLane = 84
+
+abbrev pub terrainByte : Terrain → ℕ
+terrainByte Terrain.Level = 76
+terrainByte Terrain.Rolling = 82
+
+abbrev pub values : LineRead → List ℕ
+values (LineRead.Case c) =
+    kindByte (c .road .kind) ∷ wayByte (c .road .way) ∷ c .road .speed ∷ c .road .«lane_width» ∷ c .road .«right_clearance»
+    ∷ c .road .«left_clearance» ∷ medianByte (c .road .median) ∷ c .road .access ∷ c .lanes ∷ c .demand ∷ c .«peak_hour_factor»
+    ∷ c .«heavy_share» ∷ terrainByte (c .terrain) ∷ []
+values (LineRead.Refused n) = []

@@ -1,0 +1,2 @@
+-- Stream
+use Prim.Native.Nat.{ℕ}

@@ -1,0 +1,50 @@
+-- Answers as text (document 01, "Lines").
+--   letterByte n       the byte of letter number n: A is byte 65
+--   figuresLine vs     the line of the eleven figures of an answer
+--   refusalText n      what `los` prints for a refused line
+--   answerText a       what `los` prints for an answer
+--   longestAnswer      64 bytes have room for any answer
+--   answerOf r         the answer to a line that was read
+--   lineAnswer bs      the answer to a line
+--   lineText bs        what `los` prints for a line
+-- Assumes nothing.
+use Prim.Native.Nat.{ℕ, _+_}
+use mathlib.Core.Bool.{cond}
+use mathlib.Core.List.{List, [], _∷_}
+use lib.Dec.{eqb}
+use Rattle.text.specs.Decimal.{rowText}
+use Rattle.answer.specs.declared.evaluate.Answer.{Answer}
+use Rattle.answer.specs.declared.evaluate.Answer.the-variants as Answer
+use Rattle.answer.specs.Answers.{answerTo, refusalNumber, values}
+use Rattle.lines.specs.declared.read.LineRead.{LineRead}
+use Rattle.lines.specs.declared.read.LineRead.the-variants as LineRead
+use Rattle.lines.specs.Reading.{readLine}
+
+abbrev pub letterByte : ℕ → ℕ
+letterByte n = 64 + n
+
+-- "Answer: letter, F, c, v, speed, density, service volumes A to E, 11 fields"
+unfoldable pub figuresLine : List ℕ → List ℕ
+figuresLine [] = []
+figuresLine (letter ∷ figures) = rowText (letterByte letter) figures
+
+-- "a refused line prints X, tab, number": X is byte 88
+unfoldable pub refusalText : ℕ → List ℕ
+refusalText n = rowText 88 (n ∷ [])
+
+abbrev pub answerText : Answer → List ℕ
+answerText a = let number = refusalNumber a in cond (eqb number 0) (figuresLine (values a)) (refusalText number)
+
+abbrev pub longestAnswer : ℕ
+longestAnswer = 64
+
+-- "An answer read from a line is either a case or its refusal"
+abbrev pub answerOf : LineRead → Answer
+answerOf (LineRead.Case c) = answerTo c
+answerOf (LineRead.Refused n) = Answer.Refused n
+
+abbrev pub lineAnswer : List ℕ → Answer
+lineAnswer bs = answerOf (readLine bs)
+
+unfoldable pub lineText : List ℕ → List ℕ
+lineText bs = answerText (lineAnswer bs)

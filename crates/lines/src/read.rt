@@ -1,0 +1,80 @@
+// A line read into a case or its refusal.
+//   LineRead    a case, or refusal 15
+//   read_line   for any bytes at all, a line without its newline
+use crate::field;
+use method::case::Case;
+use method::case::Median;
+use method::case::Road;
+use method::case::Terrain;
+use method::case::Way;
+use method::kind::Kind;
+ghost use mathlib.Core.Path.{_≡_};
+ghost use Rattle.lines.specs.Reading.{kindOf, wayOf, medianOf, terrainOf, readLine};
+
+pub const MALFORMED_LINE: u64 = 15;
+
+// "Longer than 80 bytes is malformed"
+pub const LONGEST_LINE: usize = 80;
+
+pub enum LineRead {
+    Case(Case),
+    Refused(u64),
+}
+
+fn kind_of(b: u64) -> Kind
+    ensures { λ r. ⌜ r ≡ kindOf b ⌝ }
+{
+    if b == 70 { Kind::Freeway } else { Kind::Multilane }
+}
+
+fn way_of(b: u64) -> Way
+    ensures { λ r. ⌜ r ≡ wayOf b ⌝ }
+{
+    if b == 69 { Way::Estimated } else { Way::Given }
+}
+
+fn median_of(b: u64) -> Median
+    ensures { λ r. ⌜ r ≡ medianOf b ⌝ }
+{
+    if b == 85 {
+        return Median::Undivided;
+    }
+    if b == 68 { Median::Divided } else { Median::TwoWayLeftTurnLane }
+}
+
+fn terrain_of(b: u64) -> Terrain
+    ensures { λ r. ⌜ r ≡ terrainOf b ⌝ }
+{
+    if b == 76 { Terrain::Level } else { Terrain::Rolling }
+}
+
+pub fn read_line(line: &[u8]) -> LineRead
+    ensures { λ r. ⌜ r ≡ readLine (now (line .entry)) ⌝ }
+{
+    if LONGEST_LINE < line.len() {
+        return LineRead::Refused(MALFORMED_LINE);
+    }
+    let fields = field::field_values(line);
+    if !fields.well_formed {
+        return LineRead::Refused(MALFORMED_LINE);
+    }
+    let values = fields.values;
+    let road = Road {
+        kind: kind_of(values[0]),
+        way: way_of(values[1]),
+        speed: values[2],
+        lane_width: values[3],
+        right_clearance: values[4],
+        left_clearance: values[5],
+        median: median_of(values[6]),
+        access: values[7],
+    };
+    LineRead::Case(Case {
+        road,
+        lanes: values[8],
+        demand: values[9],
+        peak_hour_factor: values[10],
+        heavy_share: values[11],
+        terrain: terrain_of(values[12]),
+    })
+}

@@ -1,0 +1,77 @@
+// An answer written as text into a lent buffer. Each function writes at a place and answers the place after what it wrote.
+//   write_answer   an answer, or X and its refusal's number
+//   answer_line    the answer to a line
+use crate::read;
+use crate::read::LineRead;
+use answer::evaluate;
+use answer::evaluate::Answer;
+use answer::evaluate::Grade;
+use method::service::Letter;
+ghost use mathlib.Core.Path.{_≡_};
+ghost use Prim.Native.Nat.{_+_, _≤_};
+ghost use lib.ListN.{length};
+ghost use Rattle.text.specs.Buffer.{Wrote};
+ghost use Rattle.answer.specs.declared.evaluate.Answer.the-variants.{Graded};
+ghost use Rattle.method.specs.Service.{letterNumber};
+ghost use Rattle.lines.specs.Texts.{answerText, refusalText, longestAnswer, lineText};
+
+fn letter_byte(letter: Letter) -> u8
+    ensures { λ r. ⌜ r ≡ 64 + letterNumber letter ⌝ }
+{
+    match letter {
+        Letter::A => b'A',
+        Letter::B => b'B',
+        Letter::C => b'C',
+        Letter::D => b'D',
+        Letter::E => b'E',
+        Letter::F => b'F',
+    }
+}
+
+pub fn write_grade(grade: Grade, out: &mut [u8], at: usize) -> usize
+    requires { ⌜ at + length (answerText (Graded grade)) ≤ length (now out) ⌝ }
+    ensures { λ r. ⌜ Wrote (answerText (Graded grade)) at (now (out .entry)) (now (out .exit)) r ⌝ }
+{
+    let letter = grade.letter;
+    let figures = [
+        grade.free_flow_speed,
+        grade.capacity,
+        grade.flow_rate,
+        grade.speed,
+        grade.density,
+        grade.volume_a,
+        grade.volume_b,
+        grade.volume_c,
+        grade.volume_d,
+        grade.volume_e,
+    ];
+    text::decimal::put_row(letter_byte(letter), &figures, out, at)
+}
+
+fn write_refusal(number: u64, out: &mut [u8], at: usize) -> usize
+    requires { ⌜ at + length (refusalText number) ≤ length (now out) ⌝ }
+    ensures { λ r. ⌜ Wrote (refusalText number) at (now (out .entry)) (now (out .exit)) r ⌝ }
+{
+    text::decimal::put_row(b'X', &[number], out, at)
+}
+
+pub fn write_answer(answer: Answer, out: &mut [u8], at: usize) -> usize
+    requires { ⌜ at + length (answerText answer) ≤ length (now out) ⌝ }
+    ensures { λ r. ⌜ Wrote (answerText answer) at (now (out .entry)) (now (out .exit)) r ⌝ }
+{
+    match answer {
+        Answer::Graded(grade) => write_grade(grade, out, at),
+        Answer::Refused(number) => write_refusal(number, out, at),
+    }
+}
+
+pub fn answer_line(line: &[u8], out: &mut [u8], at: usize) -> usize
+    requires { ⌜ at + longestAnswer ≤ length (now out) ⌝ }
+    ensures { λ r. ⌜ Wrote (lineText (now (line .entry))) at (now (out .entry)) (now (out .exit)) r ⌝ }
+{
+    let reading = read::read_line(line);
+    let LineRead::Case(case) = reading else {
+        return write_refusal(read::MALFORMED_LINE, out, at);
+    };
+    write_answer(evaluate::evaluate(case), out, at)
+}
