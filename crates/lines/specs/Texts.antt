@@ -1,7 +1,7 @@
 -- Answers as text (document 01, "Lines").
 --   letterByte n       the byte of letter number n: A is byte 65
---   figuresLine vs     the line of the eleven figures of an answer
 --   refusalText n      what `los` prints for a refused line
+--   textOf n vs        the line of an answer's refusal number and values
 --   answerText a       what `los` prints for an answer
 --   longestAnswer      64 bytes have room for any answer
 --   answerOf r         the answer to a line that was read
@@ -9,9 +9,7 @@
 --   lineText bs        what `los` prints for a line
 -- Assumes nothing.
 use Prim.Native.Nat.{ℕ, _+_}
-use mathlib.Core.Bool.{cond}
 use mathlib.Core.List.{List, [], _∷_}
-use lib.Dec.{eqb}
 use Rattle.text.specs.Decimal.{rowText}
 use Rattle.answer.specs.declared.evaluate.Answer.{Answer}
 use Rattle.answer.specs.declared.evaluate.Answer.the-variants as Answer
@@ -23,17 +21,17 @@ use Rattle.lines.specs.Reading.{readLine}
 abbrev pub letterByte : ℕ → ℕ
 letterByte n = 64 + n
 
--- "Answer: letter, F, c, v, speed, density, service volumes A to E, 11 fields"
-unfoldable pub figuresLine : List ℕ → List ℕ
-figuresLine [] = []
-figuresLine (letter ∷ figures) = rowText (letterByte letter) figures
-
 -- "a refused line prints X, tab, number": X is byte 88
 unfoldable pub refusalText : ℕ → List ℕ
 refusalText n = rowText 88 (n ∷ [])
 
+-- "Answer: letter, F, c, v, speed, density, service volumes A to E, 11 fields"; an answer with no values is a refusal
+unfoldable pub textOf : ℕ → List ℕ → List ℕ
+textOf number [] = refusalText number
+textOf number (letter ∷ figures) = rowText (letterByte letter) figures
+
 abbrev pub answerText : Answer → List ℕ
-answerText a = let number = refusalNumber a in cond (eqb number 0) (figuresLine (values a)) (refusalText number)
+answerText a = textOf (refusalNumber a) (values a)
 
 abbrev pub longestAnswer : ℕ
 longestAnswer = 64

@@ -49,8 +49,8 @@ fn digits_value(field: &[u8]) -> FieldValue
 }
 
 fn number_value(field: &[u8], most_digits: usize) -> FieldValue
-    requires { ⌜ most_digits ≤ 19 ⌝ }
-    ensures { λ r. ⌜ r ≡ number most_digits (now (field .entry)) ⌝ }
+    requires { ⌜ «most_digits» ≤ 19 ⌝ }
+    ensures { λ r. ⌜ r ≡ number «most_digits» (now (field .entry)) ⌝ }
 {
     let digits = field.len();
     if digits == 0 {
@@ -104,27 +104,19 @@ pub(crate) fn field_values(line: &[u8]) -> FieldValues
     let mut values = [0u64; 13];
     let mut at = 0;
     let mut place = 0;
-    while place < 12 {
+    while place < 13 {
         let end = text::parts::find(line, at, b'\t');
-        if end == line.len() {
-            return FieldValues { well_formed: false, values };
-        }
         let value = field_value(place, &line[at..end]);
         let FieldValue::Value(n) = value else {
             return FieldValues { well_formed: false, values };
         };
         values[place] = n;
+        if end == line.len() {
+            return FieldValues { well_formed: place == 12, values };
+        }
         at = end + 1;
         place += 1;
     }
-    let end = text::parts::find(line, at, b'\t');
-    if end < line.len() {
-        return FieldValues { well_formed: false, values };
-    }
-    let value = field_value(12, &line[at..end]);
-    let FieldValue::Value(n) = value else {
-        return FieldValues { well_formed: false, values };
-    };
-    values[12] = n;
-    FieldValues { well_formed: true, values }
+    // a field too many
+    FieldValues { well_formed: false, values }
 }

@@ -1,4 +1,11 @@
--- Text written piece by piece, and the digits of a number.
+-- Text written piece by piece, and the digits of a number (specs/Decimal, specs/Buffer).
+--   decimal-small, decimal-more, length-small, length-more   a number of one digit; of more
+--   length-written, none-written   a buffer keeps its length; no text leaves it as it was
+--   first-byte, then, then-byte    pieces written one after the other
+--   next-number, row-written       a turn of put_figures; a whole row
+--   next-room, rowText-length, rowText-one   the room that figures and rows take
+--   decimal-mono, figuresText-mono   smaller numbers take no more room
+--   front            text at the start of a buffer
 -- Assumes nothing.
 use mathlib.Core.Path.{_≡_, refl, sym, ap, _∙_}
 use mathlib.Core.Bool.{Bool, true, false, cond}
@@ -12,6 +19,7 @@ use lib.Dec.{ltb, lit<}
 use lib.ListN.{length, take, drop, getD, set, length-append, length-take, length-drop, take-append-drop}
 use lib.Seq.{drop-cons, take-at, drop-at, take-suc, take-all, drop-drop, set-at, length-take-le}
 use borrow.Author.Tests.{lt-ltb, le-ltb}
+use Rattle.numbers.specs.Bounds.{AllAtMost}
 use Rattle.text.specs.Decimal.{decimalUpTo, decimal, figuresText, rowText}
 use Rattle.text.specs.Buffer.{written, Wrote}
 
@@ -152,6 +160,32 @@ pub figuresText-length : (ns : List ℕ) → length (figuresText ns) ≤ 21 * le
 unfolding figuresText
 figuresText-length [] = omega arith
 figuresText-length (n ∷ ns) = omega (arith, decimal-room n, length-append (decimal n) (figuresText ns), figuresText-length ns)
+
+-- a smaller number has no more digits
+decimalUpTo-mono : (k m n : ℕ) → m ≤ n → length (decimalUpTo k m) ≤ length (decimalUpTo k n)
+unfolding decimalUpTo
+decimalUpTo-mono zero m n h = omega arith
+decimalUpTo-mono (suc k) m n h = go (decLt n 10) (decLt m 10) (decimalUpTo-mono k (m / 10) (n / 10) (omega arith))
+  where
+    last : (x : ℕ) → 10 ≤ x → length (decimalUpTo (suc k) x) ≡ length (decimalUpTo k (x / 10)) + 1
+    last x g = rw (more-in k x g) (length-append (decimalUpTo k (x / 10)) ((48 + x % 10) ∷ []))
+
+    go : Dec (n < 10) → Dec (m < 10) → length (decimalUpTo k (m / 10)) ≤ length (decimalUpTo k (n / 10)) → length (decimalUpTo (suc k) m) ≤ length (decimalUpTo (suc k) n)
+    go (yes a) b r = rw (small-in k m (omega arith), small-in k n a) (omega arith)
+    go (no a) (yes b) r = rw (small-in k m b) (omega (arith, last n (omega arith)))
+    go (no a) (no b) r = omega (arith, last m (omega arith), last n (omega arith))
+
+pub decimal-mono : (m n : ℕ) → m ≤ n → length (decimal m) ≤ length (decimal n)
+unfolding decimal
+decimal-mono m n h = decimalUpTo-mono 20 m n h
+
+pub figuresText-mono : (ms ns : List ℕ) → AllAtMost ms ns → length (figuresText ms) ≤ length (figuresText ns)
+unfolding figuresText
+figuresText-mono [] [] h = omega arith
+figuresText-mono [] (n ∷ ns) h = absurd h
+figuresText-mono (m ∷ ms) [] h = absurd h
+figuresText-mono (m ∷ ms) (n ∷ ns) h =
+    omega (arith, decimal-mono m n (h .0), figuresText-mono ms ns (h .1), length-append (decimal m) (figuresText ms), length-append (decimal n) (figuresText ns))
 
 -- text at the start of a buffer
 pub front : (t old : List ℕ) → written t 0 old ≡ t ++ drop (length t) old

@@ -1,0 +1,137 @@
+-- The fields of a line, one after the other (specs/Fields).
+--   oneOf-hit, oneOf-miss, oneOf-end   a letter sought among some, from place i on
+--   letter-not, letter-by   a field that is no single byte; one that is
+--   number-at       every place but 0, 1, 6 and 12 has a number
+--   after           the values before, and those of the rest
+--   more-of, last-of   a field read, with a tab behind it and at the line's end
+--   field-bad, too-many   a malformed field, and a field too many
+-- Assumes nothing.
+use mathlib.Core.Path.{_≡_, refl, sym, ap, _∙_}
+use mathlib.Core.Bool.{Bool, true, false, cond}
+use mathlib.Core.Logic.{⊎-elim}
+use mathlib.Core.List.{List, [], _∷_, _++_, append-assoc}
+use mathlib.Core.Option.{Option, none, some}
+use Prim.Native.Nat.{ℕ, zero, suc, _+_, _-_, _≤_, _<_}
+use native.Mathlib.Nat.{eq-or-lt-of-le}
+use native.Mathlib.Numerals.{add-one}
+use native.Mathlib.Decide.{decLe}
+use native.Mathlib.Omega.{arith}
+use lib.Dec.{eqb}
+use lib.ListN.{length, take, drop, getD, set, length-drop, length-set, drop-of-length-le}
+use lib.Seq.{drop-cons, drop-drop, take-suc-set, take-all}
+use borrow.Author.Tests.{eq-eqb, ne-eqb}
+use Rattle.text.specs.Bytes.{tab}
+use Rattle.text.specs.Parts.{parts, countBefore}
+use Rattle.text.proofs.PartsLaws.{countBefore-le, parts-one, parts-more}
+use Rattle.lines.specs.declared.field.FieldValue.{FieldValue}
+use Rattle.lines.specs.declared.field.FieldValue.the-variants.{Value, Malformed}
+use Rattle.lines.specs.Fields.{Field, digits, layout, fieldAt, oneOf, letter, fieldAs, valuesOf, joined}
+
+pub oneOf-hit : (b : ℕ) (ls : List ℕ) (i : ℕ) → i < length ls → getD ls i 0 ≡ b → oneOf b (drop i ls) ≡ true
+unfolding oneOf
+oneOf-hit b ls i h e = rw (drop-cons ls i 0 h, eq-eqb (getD ls i 0) b e)
+
+pub oneOf-miss : (b : ℕ) (ls : List ℕ) (i : ℕ) → i < length ls → (getD ls i 0 ≡ b → ⊥) → oneOf b (drop i ls) ≡ oneOf b (drop (i + 1) ls)
+unfolding oneOf
+oneOf-miss b ls i h n = rw (drop-cons ls i 0 h, ne-eqb (getD ls i 0) b n, add-one i)
+
+pub oneOf-end : (b : ℕ) (ls : List ℕ) (i : ℕ) → length ls ≤ i → oneOf b (drop i ls) ≡ false
+unfolding oneOf
+oneOf-end b ls i h = rw (drop-of-length-le ls h)
+
+pub letter-not : (ls bs : List ℕ) → (length bs ≡ 1 → ⊥) → letter ls bs ≡ Malformed
+unfolding letter
+letter-not ls bs n = rw (ne-eqb (length bs) 1 n)
+
+pub letter-by : (ls bs : List ℕ) (v : Bool) → length bs ≡ 1 → oneOf (getD bs 0 0) ls ≡ v → letter ls bs ≡ cond v (Value (getD bs 0 0)) Malformed
+unfolding letter
+letter-by ls bs v e o = rw (e, o)
+
+pub number-at : (j : ℕ) → (j ≡ 0 → ⊥) → (j ≡ 1 → ⊥) → (j ≡ 6 → ⊥) → (j ≡ 12 → ⊥) → fieldAt j ≡ digits 5
+unfolding layout
+number-at zero a b c d = absurd (a refl)
+number-at (suc zero) a b c d = absurd (b refl)
+number-at (suc (suc zero)) a b c d = refl
+number-at (suc (suc (suc zero))) a b c d = refl
+number-at (suc (suc (suc (suc zero)))) a b c d = refl
+number-at (suc (suc (suc (suc (suc zero))))) a b c d = refl
+number-at (suc (suc (suc (suc (suc (suc zero)))))) a b c d = absurd (c refl)
+number-at (suc (suc (suc (suc (suc (suc (suc zero))))))) a b c d = refl
+number-at (suc (suc (suc (suc (suc (suc (suc (suc zero)))))))) a b c d = refl
+number-at (suc (suc (suc (suc (suc (suc (suc (suc (suc zero))))))))) a b c d = refl
+number-at (suc (suc (suc (suc (suc (suc (suc (suc (suc (suc zero)))))))))) a b c d = refl
+number-at (suc (suc (suc (suc (suc (suc (suc (suc (suc (suc (suc zero))))))))))) a b c d = refl
+number-at (suc (suc (suc (suc (suc (suc (suc (suc (suc (suc (suc (suc zero)))))))))))) a b c d = absurd (d refl)
+number-at (suc (suc (suc (suc (suc (suc (suc (suc (suc (suc (suc (suc (suc j))))))))))))) a b c d = refl
+
+-- the values before, and those of the rest
+abbrev pub after : List ℕ → Option (List ℕ) → Option (List ℕ)
+after vs none = none
+after vs (some ws) = some (vs ++ ws)
+
+pub after-nil : (o : Option (List ℕ)) → after [] o ≡ o
+after-nil none = refl
+after-nil (some ws) = refl
+
+joined-none : (v : FieldValue) → joined v none ≡ none
+joined-none Malformed = refl
+joined-none (Value v) = refl
+
+after-joined : (vs : List ℕ) (v : ℕ) (o : Option (List ℕ)) → after vs (joined (Value v) o) ≡ after (vs ++ (v ∷ [])) o
+after-joined vs v none = refl
+after-joined vs v (some ws) = ap some (sym (append-assoc vs (v ∷ []) ws))
+
+no-more : (bs : List ℕ) → valuesOf [] (parts tab bs) ≡ none
+unfolding valuesOf
+no-more bs = ⊎-elim (λ e. rw (parts-one tab bs e)) (λ l. rw (parts-more tab bs l)) (eq-or-lt-of-le (countBefore-le 9 bs))
+
+-- a field of the line from at, whose end is at e
+module _ (ls : List Field) (d : Field) (line vs : List ℕ) (j at e : ℕ) (hj : j < length ls) (ha : at ≤ length line) (he : e ≡ at + countBefore tab (drop at line)) where
+  ends : e ≤ length line
+  ends = omega (arith, countBefore-le 9 (drop at line), length-drop at line)
+
+  pub ends-at : (at ≤ e) × (e ≤ length line)
+  ends-at = (omega arith, ends)
+
+  unfoldable pub rest : Option (List ℕ)
+  rest = valuesOf (drop j ls) (parts tab (drop at line))
+
+  -- a tab follows
+  more-is : e < length line → rest ≡ joined (fieldAs (getD ls j d) (take (e - at) (drop at line))) (valuesOf (drop (j + 1) ls) (parts tab (drop (e + 1) line)))
+  unfolding rest valuesOf
+  more-is h =
+      let w : countBefore tab (drop at line) ≡ e - at = omega arith in
+      let u : at + suc (e - at) ≡ e + 1 = omega arith in
+      rw (drop-cons ls j d hj, parts-more tab (drop at line) (omega (arith, length-drop at line)), w, drop-drop, u, add-one j)
+
+  pub more-of : e < length line → (v : ℕ) → j < length vs → fieldAs (getD ls j d) (take (e - at) (drop at line)) ≡ Value v
+      → after (take j vs) rest ≡ after (take (j + 1) (set vs j v)) (valuesOf (drop (j + 1) ls) (parts tab (drop (e + 1) line)))
+  more-of h v hv r = rw (more-is h, r, after-joined, add-one j, take-suc-set vs j v hv)
+
+  -- no tab follows
+  last-is : e ≡ length line → rest ≡ joined (fieldAs (getD ls j d) (take (e - at) (drop at line))) (valuesOf (drop (j + 1) ls) [])
+  unfolding rest valuesOf
+  last-is h =
+      rw (drop-cons ls j d hj, parts-one tab (drop at line) (omega (arith, length-drop at line)), take-all (e - at) (drop at line) (omega (arith, length-drop at line)), add-one j)
+
+  -- it is the last field of the layout, at place m, or fields are missing
+  pub last-of : e ≡ length line → length vs ≡ length ls → (m v : ℕ) → m + 1 ≡ length ls → fieldAs (getD ls j d) (take (e - at) (drop at line)) ≡ Value v
+      → after (take j vs) rest ≡ cond (eqb j m) (some (set vs j v)) none
+  unfolding valuesOf
+  last-of h l m v n r = go (decLe m j)
+    where
+      go : Dec (m ≤ j) → after (take j vs) rest ≡ cond (eqb j m) (some (set vs j v)) none
+      go (yes k) =
+          let w : take (suc j) (set vs j v) ≡ set vs j v = take-all (suc j) (set vs j v) (simp length-set (omega arith)) in
+          let z : drop (j + 1) ls ≡ [] = drop-of-length-le ls {i = j + 1} (omega arith) in
+          rw (eq-eqb j m (omega arith), last-is h, r, z) (ap some (sym (take-suc-set vs j v (omega arith)) ∙ w))
+      go (no k) =
+          rw (ne-eqb j m (λ e. omega arith), last-is h, drop-cons ls (j + 1) d (omega arith), joined-none (fieldAs (getD ls j d) (take (e - at) (drop at line))))
+
+  -- a field that is not as the layout has it
+  pub field-bad : fieldAs (getD ls j d) (take (e - at) (drop at line)) ≡ Malformed → after (take j vs) rest ≡ none
+  field-bad r = ⊎-elim (λ h. rw (last-is h, r)) (λ h. rw (more-is h, r)) (eq-or-lt-of-le ends)
+
+-- a field too many
+pub too-many : (ls : List Field) (line vs : List ℕ) (j at : ℕ) → j ≡ length ls → after (take j vs) (valuesOf (drop j ls) (parts tab (drop at line))) ≡ none
+too-many ls line vs j at h = let z : drop j ls ≡ [] = drop-of-length-le ls {i = j} (omega arith) in rw (z, no-more (drop at line))
