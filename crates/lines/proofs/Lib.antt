@@ -2,3 +2,5 @@
 pub mod DigitsLaws
 pub mod FieldsLaws
 pub mod TextsLaws
+pub mod StreamLaws
+pub mod BlockLaws

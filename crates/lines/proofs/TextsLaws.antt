@@ -25,6 +25,7 @@ use Rattle.method.specs.declared.case.Case.{Case}
 use Rattle.method.specs.Refusals.{refusal}
 use Rattle.answer.specs.declared.evaluate.Answer.{Answer}
 use Rattle.answer.specs.declared.evaluate.Answer.the-variants as Answer
+use Rattle.answer.specs.Answers as answers
 use Rattle.answer.specs.Answers.{graded, answerTo}
 use Rattle.answer.specs.Laws.{figureEnds}
 use Rattle.answer.proofs.Laws.{figures-within-ends}
@@ -64,7 +65,7 @@ figures-le number (letter ∷ figures) h = omega (arith, rowText-length (64 + le
 pub answerText-le : (case : Case) → length (answerText (answerTo case)) ≤ longestAnswer
 unfolding textOf
 answerText-le case =
-    ⊎-elim (λ z. figures-le _ _ (figures-within-ends case (z .0))) (λ p. rw (p .1) (refusalText-le (refusal case)))
+    ⊎-elim (λ z. figures-le (answers.refusalNumber (answerTo case)) (answers.values (answerTo case)) (figures-within-ends case (z .0))) (λ p. rw (p .1) (refusalText-le (refusal case)))
     (cond-cases (refusal case) (Answer.Graded (graded case)) (Answer.Refused (refusal case)))
 
 by-read : (P : List ℕ → Type 0) → P (refusalText 15) → ((case : Case) → P (answerText (answerTo case))) → (bs : List ℕ) → P (lineText bs)

@@ -2,6 +2,7 @@
 -- lines count as too long.
 --   LineTexts               the text printed for a line, the most bytes that it has, and the longest line that is told apart
 --   texts t ls              the texts of the lines ls, one after the other
+--   lastLine p              the line that a last part without newline is: none where it is empty
 --   withoutEmptyLast ps     the parts ps but for a last one that is empty
 --   linesOf input           the lines of an input
 --   outputOf t input        what is printed for an input
@@ -35,12 +36,16 @@ unfoldable pub texts : LineTexts → List (List ℕ) → List ℕ
 texts t [] = []
 texts t (l ∷ ls) = t .text l ++ texts t ls
 
+-- "A last line without newline counts as a line"
+unfoldable pub lastLine : List ℕ → List (List ℕ)
+lastLine p = cond (eqb (length p) 0) [] (p ∷ [])
+
 unfoldable pub withoutEmptyLast : List (List ℕ) → List (List ℕ)
 withoutEmptyLast [] = []
-withoutEmptyLast (p ∷ []) = cond (eqb (length p) 0) [] (p ∷ [])
+withoutEmptyLast (p ∷ []) = lastLine p
 withoutEmptyLast (p ∷ q ∷ ps) = p ∷ withoutEmptyLast (q ∷ ps)
 
--- "A last line without newline counts as a line, an empty line is malformed, an empty input prints nothing"
+-- "an empty line is malformed", and counts; "an empty input prints nothing"
 unfoldable pub linesOf : List ℕ → List (List ℕ)
 linesOf input = withoutEmptyLast (parts newline input)
 
@@ -76,7 +81,7 @@ carried t room bytes = cutOff t (drop (size (answered t room bytes)) bytes)
 pub data Run (t : LineTexts) (room : ℕ) : List ℕ → List ℕ → List ℕ → Type 0 where
   feed : (held piece rest out : List ℕ) → Run t room (held ++ piece) rest out → Run t room held (piece ++ rest) out
   turn : (held rest out : List ℕ) → Run t room (carried t room held) rest out → Run t room held rest (texts t (answered t room held) ++ out)
-  end : (held : List ℕ) → countBefore newline held ≡ length held → Run t room held [] (texts t (linesOf held))
+  end : (held : List ℕ) → countBefore newline held ≡ length held → Run t room held [] (texts t (lastLine held))
 
 abbrev pub TooLongAlike : LineTexts → Type 0
 TooLongAlike t = (l m : List ℕ) → t .longestLine < length l → t .longestLine < length m → t .text l ≡ t .text m

@@ -1,0 +1,16 @@
+-- What `los` prints for an input (document 01, "Lines").
+--   lineTexts           the answers of lines: at most 64 bytes for each, lines of more than 80 bytes alike
+--   OutputOfAnyPieces   whatever pieces the input comes in, what is printed is the answers of its lines
+-- Assumes nothing.
+use Prim.Native.Nat.{ℕ}
+use mathlib.Core.Path.{_≡_}
+use mathlib.Core.List.{List, []}
+use Rattle.lines.specs.Reading as reading
+use Rattle.lines.specs.Texts.{longestAnswer, lineText}
+use Rattle.lines.specs.Stream.{LineTexts, outputOf, Run}
+
+abbrev pub lineTexts : LineTexts
+lineTexts = record { text = lineText; longestText = longestAnswer; longestLine = reading.longestLine }
+
+abbrev pub OutputOfAnyPieces : Type 0
+OutputOfAnyPieces = (room : ℕ) (input out : List ℕ) → Run lineTexts room [] input out → out ≡ outputOf lineTexts input
