@@ -4,3 +4,4 @@ pub mod FieldsLaws
 pub mod TextsLaws
 pub mod StreamLaws
 pub mod BlockLaws
+pub mod OutputLaws

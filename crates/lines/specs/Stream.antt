@@ -16,7 +16,8 @@
 --   Run t room held rest out   a run that holds some bytes, with rest still to come, prints out from there on
 --   TooLongAlike t          lines that are too long all get the same text
 --   AnyPieces               the theorem: a run from an empty start prints the texts of the input's lines
---   SomeRun                 for any pieces there is such a run
+--   joinedPieces ps         the pieces ps, one after the other
+--   SomeRun                 for any pieces there is such a run, where the longest text has room
 -- Assumes nothing.
 use Prim.Native.Nat.{ℕ, suc, _+_, _-_, _≤_, _<_}
 use mathlib.Core.Path.{_≡_}
@@ -89,3 +90,11 @@ TooLongAlike t = (l m : List ℕ) → t .longestLine < length l → t .longestLi
 abbrev pub AnyPieces : Type 0
 AnyPieces =
     (t : LineTexts) → TooLongAlike t → (room : ℕ) (input out : List ℕ) → Run t room [] input out → out ≡ outputOf t input
+
+unfoldable pub joinedPieces : List (List ℕ) → List ℕ
+joinedPieces [] = []
+joinedPieces (p ∷ ps) = p ++ joinedPieces ps
+
+abbrev pub SomeRun : Type 0
+SomeRun =
+    (t : LineTexts) (room : ℕ) → t .longestText ≤ room → (pieces : List (List ℕ)) → (out : List ℕ) × Run t room [] (joinedPieces pieces) out

@@ -1,0 +1,45 @@
+-- What `los` prints (specs/Output), and that there is a run for any pieces (specs/Stream).
+--   output-of-any-pieces   what is printed is the answers of the input's lines
+--   some-run               for any pieces there is a run
+-- Assumes nothing.
+use mathlib.Core.Path.{_≡_, sym, ap, _∙_}
+use mathlib.Core.List.{List, [], _∷_, _++_}
+use mathlib.Core.Logic.{⊎-elim}
+use Prim.Native.Nat.{ℕ, zero, suc, _≤_, _<_}
+use native.Mathlib.Nat.{eq-or-lt-of-le}
+use native.Mathlib.Omega.{arith}
+use lib.ListN.{length, drop, length-drop}
+use Rattle.text.specs.Bytes.{newline}
+use Rattle.text.specs.Parts.{countBefore}
+use Rattle.text.proofs.PartsLaws.{countBefore-le}
+use Rattle.lines.specs.Stream.{LineTexts, answered, size, carried, Run, feed, turn, end, joinedPieces, SomeRun}
+use Rattle.lines.specs.Output.{lineTexts, OutputOfAnyPieces}
+use Rattle.lines.proofs.TextsLaws.{lineText-long}
+use Rattle.lines.proofs.StreamLaws.{next-line, any-pieces}
+use Rattle.lines.proofs.BlockLaws.{cut-le}
+
+pub output-of-any-pieces : OutputOfAnyPieces
+output-of-any-pieces = any-pieces lineTexts (λ l m h k. lineText-long l h ∙ sym (lineText-long m k))
+
+module _ (t : LineTexts) (room : ℕ) (fits : t .longestText ≤ room) where
+  -- a turn with a whole line before it leaves less
+  carried-less : (held : List ℕ) → countBefore newline held < length held → length (carried t room held) < length held
+  unfolding size carried
+  carried-less held h =
+      omega (arith, cut-le t (drop (size (answered t room held)) held), length-drop (size (answered t room held)) held, ap size (next-line t room held fits h))
+
+  -- turns until no whole line is left, and the end
+  ending : (k : ℕ) (held : List ℕ) → length held ≤ k → (out : List ℕ) × Run t room held [] out
+  ending zero held h = (_, end held (omega (arith, countBefore-le newline held)))
+  ending (suc k) held h = ⊎-elim (λ e. (_, end held e)) (λ l. more (ending k (carried t room held) (omega (arith, carried-less held l)))) (eq-or-lt-of-le (countBefore-le newline held))
+    where
+      more : (out : List ℕ) × Run t room (carried t room held) [] out → (out : List ℕ) × Run t room held [] out
+      more (out, r) = (_, turn held [] out r)
+
+  fed : (held : List ℕ) (pieces : List (List ℕ)) → (out : List ℕ) × Run t room held (joinedPieces pieces) out
+  unfolding joinedPieces
+  fed held [] = ending (length held) held (omega arith)
+  fed held (p ∷ ps) = let r = fed (held ++ p) ps in (r .0, feed held p (joinedPieces ps) (r .0) (r .1))
+
+pub some-run : SomeRun
+some-run t room fits pieces = fed t room fits [] pieces
