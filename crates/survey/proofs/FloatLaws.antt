@@ -25,7 +25,7 @@ use Rattle.numbers.specs.declared.Fraction.{Fraction}
 use Rattle.numbers.specs.Fraction.{times, roundedUp}
 use Rattle.survey.specs.declared.SurveyAnswer.{SurveyAnswer}
 use Rattle.survey.specs.declared.SurveyAnswer.the-variants as SurveyAnswer
-use Rattle.survey.specs.Survey.{RoundedSpeed, thousandths, exactValue, roundedIn}
+use Rattle.survey.specs.Survey.{thousandths, exactValue, roundedIn}
 use Rattle.survey.specs.Scale.{Scale, speedAnswer}
 use Rattle.survey.proofs.SurveyLaws.{speedAnswer-low, speedAnswer-high, speedAnswer-negative}
 

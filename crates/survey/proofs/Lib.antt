@@ -1,5 +1,7 @@
 -- The laws of the definitions in specs/, and the figures shown.
---   FloatLaws    a float's exact value by its bits
 --   SurveyLaws   the answer to a survey
-pub mod FloatLaws
+--   FloatLaws    a float's exact value by its bits
+--   Boundary     the boundary sections
 pub mod SurveyLaws
+pub mod FloatLaws
+pub mod Boundary

@@ -1,13 +1,13 @@
 -- The answer to a survey (specs/Survey).
---   surveyAnswer-cars      fewer than 100 cars: 11
---   surveyAnswer-flow      a flow of 1,000 or more: 12
---   surveyAnswer-speed     else 13 alone decides
---   speedAnswer-low, speedAnswer-high, speedAnswer-within   it does by the ends 30,000 and 90,000
---   speedAnswer-negative   a floor of a value that is not above 0 is refused
---   speed-within           a speed that is answered is 30,000 to 90,000
---   refused-within         a refusal that is answered is 11 to 13
+--   speedAnswer-low, speedAnswer-high, speedAnswer-within   what 13 makes of a whole number, by the ends 30,000 and 90,000
+--   speedAnswer-negative        what is 0 or below is refused
+--   surveyAnswer-cars           fewer than 100 cars: 11
+--   surveyAnswer-flow           a flow of 1,000 or more: 12
+--   surveyAnswer-speed          else 13 alone decides
+--   surveyAnswer-speed-ends     a speed that is answered is 30,000 to 90,000
+--   surveyAnswer-refused-ends   a refusal that is answered is 11 to 13
 -- Assumes nothing.
-use mathlib.Core.Path.{_≡_, refl, sym, subst, _∙_}
+use mathlib.Core.Path.{_≡_, refl, subst}
 use mathlib.Core.Bool.{Bool, true, false, cond}
 use Prim.Native.Nat.{ℕ, zero, suc, _≤_, _<_}
 use native.Mathlib.Omega.{arith}
@@ -73,8 +73,8 @@ surveyAnswer-in survey = by-counts (decLe 100 (survey .cars)) (decLe 1000 (surve
     by-counts (yes c) (yes f) = rw (surveyAnswer-flow survey c f) (omega arith, omega arith)
     by-counts (yes c) (no f) = rw (surveyAnswer-speed survey c (omega arith)) (speedAnswer-in (roundedSpeed (survey .speed)))
 
-pub speed-within : (survey : Survey) (n : ℕ) → surveyAnswer survey ≡ SurveyAnswer.Speed n → (30000 ≤ n) × (n ≤ 90000)
-speed-within survey n e = subst Within e (surveyAnswer-in survey)
+pub surveyAnswer-speed-ends : (survey : Survey) (n : ℕ) → surveyAnswer survey ≡ SurveyAnswer.Speed n → (30000 ≤ n) × (n ≤ 90000)
+surveyAnswer-speed-ends survey n e = subst Within e (surveyAnswer-in survey)
 
-pub refused-within : (survey : Survey) (n : ℕ) → surveyAnswer survey ≡ SurveyAnswer.Refused n → (11 ≤ n) × (n ≤ 13)
-refused-within survey n e = subst Within e (surveyAnswer-in survey)
+pub surveyAnswer-refused-ends : (survey : Survey) (n : ℕ) → surveyAnswer survey ≡ SurveyAnswer.Refused n → (11 ≤ n) × (n ≤ 13)
+surveyAnswer-refused-ends survey n e = subst Within e (surveyAnswer-in survey)

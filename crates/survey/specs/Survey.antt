@@ -1,6 +1,6 @@
 -- A surveyed speed and refusals 11 to 13 (document 01, "Surveyed speed" and "Refused, by who can cause it").
---   mile                   a mile in kilometres
---   perMile, perKilometre  one mi/h and one km/h, in thousandths of mi/h
+--   mileInKilometres       a mile
+--   mileAnHour, kilometreAnHour   the two units, in thousandths of mi/h
 --   exactValue m e         m × 2 ^ e
 --   floor s x              x rounded down, or -x where s is true
 --   RoundedSpeed           thousandths of mi/h, or that there is no finite number
@@ -29,14 +29,14 @@ use Rattle.survey.specs.declared.SurveyAnswer.{SurveyAnswer}
 use Rattle.survey.specs.declared.SurveyAnswer.the-variants as SurveyAnswer
 
 -- "1 mi = 1.609344 km"
-abbrev pub mile : Fraction
-mile = over 1609344 1000000
+abbrev pub mileInKilometres : Fraction
+mileInKilometres = over 1609344 1000000
 
-abbrev pub perMile : Fraction
-perMile = whole 1000
+abbrev pub mileAnHour : Fraction
+mileAnHour = whole 1000
 
-abbrev pub perKilometre : Fraction
-perKilometre = dividedBy perMile mile
+abbrev pub kilometreAnHour : Fraction
+kilometreAnHour = dividedBy mileAnHour mileInKilometres
 
 -- 2 ^ e is the fraction up e / down e
 abbrev pub exactValue : ℕ → ℤ → Fraction
@@ -59,8 +59,8 @@ roundedIn unit (fin s m e) = thousandths (floor s (times (exactValue m e) unit))
 
 -- "The speed is a 32-bit float in miles per hour or in kilometres per hour"
 abbrev pub roundedSpeed : SurveyedSpeed → RoundedSpeed
-roundedSpeed (SurveyedSpeed.MilesPerHour x) = roundedIn perMile x
-roundedSpeed (SurveyedSpeed.KilometresPerHour x) = roundedIn perKilometre x
+roundedSpeed (SurveyedSpeed.MilesPerHour x) = roundedIn mileAnHour x
+roundedSpeed (SurveyedSpeed.KilometresPerHour x) = roundedIn kilometreAnHour x
 
 -- "not a finite number, or the rounded speed not 30,000 to 90,000"
 abbrev pub noSpeed : RoundedSpeed → Bool
