@@ -26,7 +26,7 @@ const MILE: u64 = 1_609_344;
 
 const KILOMETRE: u64 = 1_000_000;
 
-// Of an f32's pattern: 1 bit is the sign, 8 are the exponent and 23 the digits below the leading one, whose weight this is.
+// Of an f32's bits 1 is the sign, 8 are the exponent and 23 the digits below the leading one. This is the leading one's weight.
 const LEADING: u64 = 8_388_608;
 
 pub enum SurveyedSpeed {
@@ -60,7 +60,7 @@ fn speed_of_bits(bits: u64, unit: Fraction) -> SurveyAnswer
     if 135 < exponent {
         return SurveyAnswer::Refused(NO_SURVEYED_SPEED);
     }
-    // how many steps of the last digit make 1
+    // a step of the last digit is 2^(exponent - 150): so many make 1
     let steps = 1 << (150 - exponent);
     let thousandths = (LEADING + digits) * unit.numerator / (steps * unit.denominator);
     if thousandths < 30_000 {
