@@ -15,15 +15,19 @@
 
    A line describes one section: 13 fields parted by single tabs, without a newline at its end.
 
-     1  kind: F freeway, M multilane highway     8  ramps in six miles (F), access points per mile (M)
-     2  speed field: E base speed, from which    9  lanes in one direction
-        F is estimated, G free-flow speed F     10  demand
-     3  speed                                   11  peak-hour factor
-     4  lane width                              12  heavy share
-     5  right clearance                         13  terrain: L level, R rolling
+     1  kind: F freeway, M multilane highway
+     2  E: the speed is the base speed, from which F is estimated; G: it is the free-flow speed F itself
+     3  speed
+     4  lane width
+     5  right clearance
      6  left clearance
-     7  median: U undivided, D divided,
-        T two-way left-turn lane
+     7  median: U undivided, D divided, T two-way left-turn lane
+     8  ramps in six miles (kind F), access points per mile (kind M)
+     9  lanes in one direction
+    10  demand
+    11  peak-hour factor
+    12  heavy share
+    13  terrain: L level, R rolling
 
    A number has one to five digits and no leading zero, save 0 itself.
 
