@@ -1,26 +1,46 @@
-# make run      prints what the boundary sections of document 01 get
-# make test     checks the committed tables and the documents' references, then proves and tries everything: rt ci
+# make run      answers the lines of examples/sections.tsv with the program los
+# make test     checks the committed tables, the documents' references, the calls from C and the program's reading and writing, then proves
+#               and tries everything: rt ci
 # make tables   writes the constant tables anew
 BUILD = build
 RUSTC = rustc --edition 2021 -O
+CFLAGS = -std=c11 -Wall -Wextra -Werror -O2
+SOURCES = $(shell find crates -name "*.rt" -o -name "*.antt") crates.txt
+LIBRARY = target/staticlib/libmarehour.a
 
 .PHONY: run test tables clean
 
-run: target/bin/sections
-	@target/bin/sections
+run: target/bin/los
+	@target/bin/los < examples/sections.tsv
 
-target/bin/sections: $(shell find crates -name "*.rt" -o -name "*.antt") crates.txt
-	@mkdir -p $(BUILD)
-	@rt check sections > $(BUILD)/check.log 2>&1 || { cat $(BUILD)/check.log; exit 1; }
-
-test: $(BUILD)/tables $(BUILD)/references
+# rt ci begins by removing target, so what needs the library or the program comes before it.
+test: $(BUILD)/tables $(BUILD)/references $(BUILD)/calls $(BUILD)/widening $(BUILD)/stream target/bin/los
 	$(BUILD)/tables check
 	$(BUILD)/references
+	$(BUILD)/calls
+	$(BUILD)/widening "$$(head -n 1 examples/sections.tsv)" 30 C 12 | cmp - examples/widening.out
+	$(BUILD)/stream target/bin/los
 	rt fmt --check
 	rt ci
 
 tables: $(BUILD)/tables
 	$(BUILD)/tables write
+
+target/bin/%: $(SOURCES)
+	@mkdir -p $(BUILD)
+	@rt check $* > $(BUILD)/check.log 2>&1 || { cat $(BUILD)/check.log; exit 1; }
+
+$(LIBRARY): $(SOURCES)
+	@mkdir -p $(BUILD)
+	@rt staticlib marehour > $(BUILD)/staticlib.log 2>&1 || { cat $(BUILD)/staticlib.log; exit 1; }
+
+$(BUILD)/calls: tests/calls.c tests/overrun.c tests/calls.h include/marehour.h $(LIBRARY)
+	@mkdir -p $(BUILD)
+	$(CC) $(CFLAGS) -Iinclude -o $@ $(filter %.c %.a,$^)
+
+$(BUILD)/widening: examples/widening.c include/marehour.h $(LIBRARY)
+	@mkdir -p $(BUILD)
+	$(CC) $(CFLAGS) -Iinclude -o $@ $(filter %.c %.a,$^)
 
 $(BUILD)/%: tests/%.rs
 	@mkdir -p $(BUILD)

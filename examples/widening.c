@@ -1,0 +1,190 @@
+/* widening: the first year in which a section must be wider.
+
+     widening LINE GROWTH LETTER YEARS
+
+   LINE is a section's line (13 fields parted by tabs), GROWTH the yearly growth of its demand in thousandths, LETTER the target, A to E,
+   YEARS how many years to look ahead. For each year, from 0 for the section as given, a row: year, demand, letter, and the lanes that the
+   target needs, or 'none'. The last line tells the first year in which the section has fewer lanes than that.
+
+   widening.out is what it prints for the first line of sections.tsv, 30, C and 12.
+
+   Exit status: 0; 1 where a call refuses the section, with the refusal's number on standard error; 2 for bad arguments. */
+#include "marehour.h"
+#include <limits.h>
+#include <stdbool.h>
+#include <stdio.h>
+#include <stdlib.h>
+#include <string.h>
+
+enum {
+    LANES_FIELD = 9,
+    DEMAND_FIELD = 10,
+    GREATEST_DEMAND = 99999,
+    LINE_SIZE = 81 /* 80 bytes and the zero byte */
+};
+
+struct plan {
+    const char *line;
+    unsigned long growth;
+    uint32_t target;
+    unsigned long years;
+};
+
+struct year {
+    char letter;
+    unsigned long lanes_needed; /* 0: no lane count meets the target */
+};
+
+static int usage(void)
+{
+    fprintf(stderr, "usage: widening LINE GROWTH LETTER YEARS\n"
+                    "LINE: 13 fields parted by tabs; GROWTH: thousandths a year, 0 to 99999; LETTER: A to E; YEARS: 0 to 99999\n");
+    return 2;
+}
+
+/* One to five digits. */
+static bool read_number(const char *text, unsigned long *number)
+{
+    size_t digits = strspn(text, "0123456789");
+    if (digits < 1 || digits > 5 || text[digits] != '\0') {
+        return false;
+    }
+    *number = strtoul(text, NULL, 10);
+    return true;
+}
+
+static bool read_letter(const char *text, uint32_t *number)
+{
+    if (text[0] < 'A' || text[0] > 'E' || text[1] != '\0') {
+        return false;
+    }
+    *number = (uint32_t)(text[0] - 'A') + MAREHOUR_LETTER_A;
+    return true;
+}
+
+static bool read_plan(int count, char **arguments, struct plan *plan)
+{
+    if (count != 5) {
+        return false;
+    }
+    plan->line = arguments[1];
+    return read_number(arguments[2], &plan->growth) && read_letter(arguments[3], &plan->target) &&
+           read_number(arguments[4], &plan->years);
+}
+
+/* Where the n-th field of a well-formed line begins, the first being 1. */
+static const char *field(const char *line, int n)
+{
+    for (; n > 1; n--) {
+        line = strchr(line, '\t') + 1;
+    }
+    return line;
+}
+
+static unsigned long field_number(const char *line, int n)
+{
+    return strtoul(field(line, n), NULL, 10);
+}
+
+/* A well-formed line with another demand. */
+static void with_demand(const char *line, unsigned long demand, char *changed)
+{
+    const char *start = field(line, DEMAND_FIELD);
+    const char *end = strchr(start, '\t');
+    snprintf(changed, LINE_SIZE, "%.*s%lu%s", (int)(start - line), line, demand, end);
+}
+
+/* 0 and the year, or minus a refusal's number. */
+static int32_t ask(const char *line, uint32_t target, struct year *year)
+{
+    uint8_t answer[MAREHOUR_ANSWER_SIZE];
+    const uint8_t *bytes = (const uint8_t *)line;
+    int32_t result = marehour_answer(bytes, strlen(line), answer, sizeof answer);
+    if (result < 0) {
+        return result;
+    }
+    year->letter = (char)answer[0];
+    result = marehour_lanes(bytes, strlen(line), target, answer, sizeof answer);
+    if (result < 0 && result != -MAREHOUR_NO_LANE_COUNT) {
+        return result;
+    }
+    year->lanes_needed = result < 0 ? 0 : (unsigned long)(answer[0] - '0');
+    return 0;
+}
+
+static void print_year(unsigned long number, unsigned long demand, const struct year *year)
+{
+    printf("%lu\t%lu\t%c\t", number, demand, year->letter);
+    if (year->lanes_needed == 0) {
+        printf("none\n");
+    } else {
+        printf("%lu\n", year->lanes_needed);
+    }
+}
+
+static bool too_narrow(unsigned long lanes, const struct year *year)
+{
+    return year->lanes_needed == 0 || lanes < year->lanes_needed;
+}
+
+/* The demand of the next year, rounded up. */
+static unsigned long grown(unsigned long demand, unsigned long growth)
+{
+    return (unsigned long)(((uint64_t)demand * (1000 + growth) + 999) / 1000);
+}
+
+static int refused(int32_t result)
+{
+    fprintf(stderr, "widening: the section is refused with %d\n", (int)-result);
+    return 1;
+}
+
+/* The last lines, after as many rows. */
+static void print_verdict(const struct plan *plan, unsigned long rows, unsigned long first_narrow)
+{
+    if (rows <= plan->years) {
+        printf("demand passes %d in year %lu\n", GREATEST_DEMAND, rows);
+    }
+    if (first_narrow < rows) {
+        printf("must be wider in year %lu\n", first_narrow);
+    } else {
+        printf("need not be wider in years 0 to %lu\n", rows - 1);
+    }
+}
+
+/* Prints the years of a section that is accepted, until its demand is more than a line can hold. */
+static int print_years(const struct plan *plan)
+{
+    unsigned long lanes = field_number(plan->line, LANES_FIELD);
+    unsigned long demand = field_number(plan->line, DEMAND_FIELD);
+    unsigned long first_narrow = ULONG_MAX;
+    unsigned long number;
+    printf("year\tdemand\tletter\tlanes\n");
+    for (number = 0; number <= plan->years && demand <= GREATEST_DEMAND; number++) {
+        char line[LINE_SIZE];
+        struct year year;
+        with_demand(plan->line, demand, line);
+        int32_t result = ask(line, plan->target, &year);
+        if (result < 0) {
+            return refused(result);
+        }
+        print_year(number, demand, &year);
+        if (first_narrow > number && too_narrow(lanes, &year)) {
+            first_narrow = number;
+        }
+        demand = grown(demand, plan->growth);
+    }
+    print_verdict(plan, number, first_narrow);
+    return 0;
+}
+
+int main(int count, char **arguments)
+{
+    struct plan plan;
+    struct year now;
+    if (!read_plan(count, arguments, &plan)) {
+        return usage();
+    }
+    int32_t result = ask(plan.line, plan.target, &now);
+    return result < 0 ? refused(result) : print_years(&plan);
+}

@@ -1,0 +1,485 @@
+/* Checks the calls of include/marehour.h from C, at the project's root.
+
+   Vectors: crates/los/stdin with crates/los/stdout, tests/lanes.tsv, tests/surveys.tsv. In the latter two a row that begins with # is a
+   comment.
+
+   Line and buffer each lie between two pages that cannot be accessed: once they begin right behind the first, once they end right before
+   the second. The line is read-only while it is lent. The buffer and what is around it is filled with a pattern before a call and compared
+   byte by byte after it. Each set of checks runs in a child. Where the library passes, the checks run over calls that are wrong on purpose
+   (tests/overrun.c), and each of these must end as its fault says. */
+#define _DEFAULT_SOURCE
+#include "calls.h"
+#include "marehour.h"
+#include <signal.h>
+#include <stdarg.h>
+#include <stdbool.h>
+#include <stdio.h>
+#include <stdlib.h>
+#include <string.h>
+#include <sys/mman.h>
+#include <sys/wait.h>
+#include <unistd.h>
+
+enum { LONGEST_BUFFER = 4096, MOST_VECTORS = 2000, SECONDS = 120 };
+
+/* Pages that can be accessed between two that cannot. */
+struct fence {
+    uint8_t *start;
+    size_t size;
+};
+
+enum side { AT_START, AT_END };
+
+/* A line with what a call must answer. */
+struct vector {
+    const uint8_t *line;
+    size_t length;
+    bool asks_lanes;
+    uint32_t letter;
+    int32_t result; /* count of bytes, or minus the refusal */
+    const uint8_t *text;
+};
+
+struct survey {
+    int32_t result;
+    bool metric;
+    float speed;
+    uint32_t cars, flow;
+};
+
+/* What a child tells, in memory that it shares with its parent. */
+struct report {
+    long checks, differences;
+    uintptr_t fault_address;
+    char first[200];
+};
+
+struct text {
+    uint8_t *bytes;
+    size_t length;
+};
+
+static struct vector answers[MOST_VECTORS], lanes[MOST_VECTORS];
+static struct survey surveys[MOST_VECTORS];
+static size_t answer_count, lanes_count, survey_count;
+static struct fence line_fence, buffer_fence;
+static uint8_t *pattern; /* as long as the buffer's pages */
+static size_t page_size;
+static struct report *report;
+
+static void give_up(const char *why, const char *what)
+{
+    printf("calls: %s%s\n", why, what);
+    exit(1);
+}
+
+/* Files */
+
+/* A whole file, with a zero byte past its end. */
+static struct text read_file(const char *path)
+{
+    FILE *file = fopen(path, "rb");
+    struct text text = {NULL, 0};
+    size_t room = 0, got = 0;
+    if (file == NULL) {
+        give_up("cannot read ", path);
+    }
+    do {
+        text.length += got;
+        if (text.length == room) {
+            room = 2 * room + 65536;
+            text.bytes = realloc(text.bytes, room);
+            if (text.bytes == NULL) {
+                give_up("no memory", "");
+            }
+        }
+        got = fread(text.bytes + text.length, 1, room - text.length, file);
+    } while (got > 0);
+    fclose(file);
+    text.bytes[text.length] = 0;
+    return text;
+}
+
+/* Takes the next line off a text, without its newline; false at the end. A last line without newline counts. */
+static bool next_line(struct text *text, struct text *line)
+{
+    if (text->length == 0) {
+        return false;
+    }
+    uint8_t *newline = memchr(text->bytes, '\n', text->length);
+    size_t length = newline == NULL ? text->length : (size_t)(newline - text->bytes);
+    size_t taken = newline == NULL ? length : length + 1;
+    *line = (struct text){text->bytes, length};
+    *text = (struct text){text->bytes + taken, text->length - taken};
+    return true;
+}
+
+/* The next line that is no comment. */
+static bool next_row(struct text *text, struct text *row)
+{
+    while (next_line(text, row)) {
+        if (row->length > 0 && row->bytes[0] != '#') {
+            return true;
+        }
+    }
+    return false;
+}
+
+static void count_vector(size_t *count)
+{
+    if (++*count == MOST_VECTORS) {
+        give_up("too many vectors", "");
+    }
+}
+
+static void read_answers(void)
+{
+    struct text lines = read_file("crates/los/stdin"), texts = read_file("crates/los/stdout"), line, text;
+    while (next_line(&lines, &line)) {
+        struct vector *vector = &answers[answer_count];
+        if (!next_line(&texts, &text) || text.length < 2) {
+            give_up("crates/los/stdout", " has too few lines");
+        }
+        *vector = (struct vector){line.bytes, line.length, false, 0, (int32_t)text.length + 1, text.bytes};
+        if (text.bytes[0] == 'X') {
+            vector->result = -(int32_t)strtol((char *)text.bytes + 2, NULL, 10);
+        }
+        count_vector(&answer_count);
+    }
+    if (texts.length > 0) {
+        give_up("crates/los/stdout", " has too many lines");
+    }
+}
+
+static void read_lanes(void)
+{
+    static const uint8_t digits[] = "0\n1\n2\n3\n4\n5\n6\n7\n8\n9\n";
+    struct text rows = read_file("tests/lanes.tsv"), row;
+    while (next_row(&rows, &row)) {
+        char *letter, *line;
+        long expected = strtol((char *)row.bytes, &letter, 10);
+        uint32_t number = (uint32_t)strtoul(letter, &line, 10);
+        size_t before = (size_t)((uint8_t *)line + 1 - row.bytes);
+        if (*letter != '\t' || *line != '\t' || expected > 9 || before > row.length) {
+            give_up("tests/lanes.tsv", " has a row that is none");
+        }
+        lanes[lanes_count] = (struct vector){row.bytes + before, row.length - before, true, number, (int32_t)expected, NULL};
+        if (expected > 0) {
+            lanes[lanes_count].result = 2;
+            lanes[lanes_count].text = digits + 2 * expected;
+        }
+        count_vector(&lanes_count);
+    }
+}
+
+static void read_surveys(void)
+{
+    struct text rows = read_file("tests/surveys.tsv"), row;
+    while (next_row(&rows, &row)) {
+        struct survey *survey = &surveys[survey_count];
+        char copy[80] = "", unit[4];
+        unsigned bits;
+        memcpy(copy, row.bytes, row.length < sizeof copy ? row.length : sizeof copy - 1);
+        if (sscanf(copy, "%d %3s %x %u %u", &survey->result, unit, &bits, &survey->cars, &survey->flow) != 5) {
+            give_up("tests/surveys.tsv", " has a row that is none");
+        }
+        survey->metric = strcmp(unit, "kmh") == 0;
+        memcpy(&survey->speed, &bits, sizeof survey->speed);
+        count_vector(&survey_count);
+    }
+}
+
+/* Memory */
+
+static struct fence make_fence(size_t size)
+{
+    size_t room = (size + page_size - 1) / page_size * page_size;
+    uint8_t *pages = mmap(NULL, room + 2 * page_size, PROT_NONE, MAP_PRIVATE | MAP_ANONYMOUS, -1, 0);
+    if (pages == MAP_FAILED || mprotect(pages + page_size, room, PROT_READ | PROT_WRITE) != 0) {
+        give_up("no pages", "");
+    }
+    return (struct fence){pages + page_size, room};
+}
+
+static uint8_t *placed(const struct fence *fence, size_t length, enum side side)
+{
+    return side == AT_START ? fence->start : fence->start + fence->size - length;
+}
+
+static size_t longest_line(void)
+{
+    size_t longest = 0;
+    for (size_t i = 0; i < answer_count; i++) {
+        longest = answers[i].length > longest ? answers[i].length : longest;
+    }
+    for (size_t i = 0; i < lanes_count; i++) {
+        longest = lanes[i].length > longest ? lanes[i].length : longest;
+    }
+    return longest;
+}
+
+/* The pattern has no byte that an answer has. */
+static void make_memory(void)
+{
+    page_size = (size_t)sysconf(_SC_PAGESIZE);
+    line_fence = make_fence(longest_line() + 1);
+    buffer_fence = make_fence(LONGEST_BUFFER + 1);
+    pattern = malloc(buffer_fence.size);
+    report = mmap(NULL, sizeof *report, PROT_READ | PROT_WRITE, MAP_SHARED | MAP_ANONYMOUS, -1, 0);
+    if (pattern == NULL || report == MAP_FAILED) {
+        give_up("no memory", "");
+    }
+    for (size_t i = 0; i < buffer_fence.size; i++) {
+        pattern[i] = (uint8_t)(0x80 | (i * 37 + i / 128));
+    }
+}
+
+/* A line among digits, read-only. */
+static const uint8_t *lend_line(const uint8_t *line, size_t length, enum side side)
+{
+    mprotect(line_fence.start, line_fence.size, PROT_READ | PROT_WRITE);
+    memset(line_fence.start, '5', line_fence.size);
+    memcpy(placed(&line_fence, length, side), line, length);
+    mprotect(line_fence.start, line_fence.size, PROT_READ);
+    return placed(&line_fence, length, side);
+}
+
+/* Checks, made in a child */
+
+static void check(bool holds, const char *format, ...)
+{
+    report->checks++;
+    if (!holds && report->differences++ == 0) {
+        va_list values;
+        va_start(values, format);
+        vsnprintf(report->first, sizeof report->first, format, values);
+        va_end(values);
+    }
+}
+
+/* Whether the buffer's pages hold the text at its start and the pattern everywhere else. */
+static bool holds_only(const uint8_t *buffer, const uint8_t *text, size_t count)
+{
+    size_t before = (size_t)(buffer - buffer_fence.start), after = before + count;
+    return memcmp(buffer_fence.start, pattern, before) == 0 && (count == 0 || memcmp(buffer, text, count) == 0) &&
+           memcmp(buffer_fence.start + after, pattern + after, buffer_fence.size - after) == 0;
+}
+
+static void check_buffer(const struct calls *calls, const struct vector *vector, const uint8_t *line, size_t length, enum side side)
+{
+    uint8_t *buffer = placed(&buffer_fence, length, side);
+    int32_t expected = length < MAREHOUR_ANSWER_SIZE ? -MAREHOUR_BUFFER_TOO_SHORT : vector->result;
+    memcpy(buffer_fence.start, pattern, buffer_fence.size);
+    int32_t result = vector->asks_lanes ? calls->lanes(line, vector->length, vector->letter, buffer, length)
+                                        : calls->answer(line, vector->length, buffer, length);
+    const char *shown = (const char *)vector->line;
+    int width = vector->length < 80 ? (int)vector->length : 80;
+    check(result == expected, "result %d, not %d, in %zu bytes, for %.*s", result, expected, length, width, shown);
+    check(holds_only(buffer, vector->text, expected > 0 ? (size_t)expected : 0), "other bytes in a buffer of %zu for %.*s", length, width,
+          shown);
+}
+
+static void check_vector(const struct calls *calls, const struct vector *vector)
+{
+    static const size_t enough[] = {MAREHOUR_ANSWER_SIZE, MAREHOUR_ANSWER_SIZE + 1, 100, LONGEST_BUFFER};
+    for (int sides = 0; sides < 4; sides++) {
+        enum side side = sides % 2 == 0 ? AT_START : AT_END;
+        const uint8_t *line = lend_line(vector->line, vector->length, sides / 2 == 0 ? AT_START : AT_END);
+        for (size_t length = 0; length < MAREHOUR_ANSWER_SIZE; length++) {
+            check_buffer(calls, vector, line, length, side);
+        }
+        for (size_t i = 0; i < sizeof enough / sizeof enough[0]; i++) {
+            check_buffer(calls, vector, line, enough[i], side);
+        }
+    }
+}
+
+static void check_answers(const struct calls *calls)
+{
+    for (size_t i = 0; i < answer_count; i++) {
+        check_vector(calls, &answers[i]);
+    }
+}
+
+static void check_lanes(const struct calls *calls)
+{
+    for (size_t i = 0; i < lanes_count; i++) {
+        check_vector(calls, &lanes[i]);
+    }
+}
+
+static void check_surveys(const struct calls *calls)
+{
+    for (size_t i = 0; i < survey_count; i++) {
+        const struct survey *survey = &surveys[i];
+        int32_t result = (survey->metric ? calls->survey_kmh : calls->survey_mph)(survey->speed, survey->cars, survey->flow);
+        check(result == survey->result, "result %d, not %d, for survey %zu", result, survey->result, i + 1);
+    }
+}
+
+/* NULL with length 0, and a line with its newline, which is a byte that no field has. */
+static void check_edges(const struct calls *calls)
+{
+    const struct vector *first = &answers[0];
+    uint8_t buffer[MAREHOUR_ANSWER_SIZE], line[128];
+    size_t length = first->length < sizeof line ? first->length : 0;
+    memcpy(line, first->line, length);
+    line[length] = '\n';
+    memset(buffer, 0xA5, sizeof buffer);
+    check(calls->answer(NULL, 0, buffer, sizeof buffer) == -15, "answer: no line is not malformed");
+    check(calls->lanes(NULL, 0, 3, buffer, sizeof buffer) == -15, "lanes: no line is not malformed");
+    check(calls->lanes(NULL, 0, 9, buffer, sizeof buffer) == -15, "lanes: no line does not come before letter 9");
+    check(calls->answer(line, length, NULL, 0) == -17, "answer: no buffer is not too short");
+    check(calls->lanes(line, length, 3, NULL, 0) == -17, "lanes: no buffer is not too short");
+    check(calls->answer(NULL, 0, NULL, 0) == -17, "answer: no buffer does not come before no line");
+    check(calls->lanes(NULL, 0, 9, NULL, 0) == -17, "lanes: no buffer does not come before no line");
+    check(calls->answer(line, length + 1, buffer, sizeof buffer) == -15, "answer: a newline is not malformed");
+    check(calls->lanes(line, length + 1, 3, buffer, sizeof buffer) == -15, "lanes: a newline is not malformed");
+    for (size_t i = 0; i < sizeof buffer; i++) {
+        check(buffer[i] == 0xA5, "a refusal changed byte %zu", i);
+    }
+}
+
+/* Children */
+
+/* Notes where an access failed; the access is then tried again and ends the child. */
+static void note_address(int signal_number, siginfo_t *info, void *context)
+{
+    (void)signal_number, (void)context;
+    report->fault_address = (uintptr_t)info->si_addr;
+}
+
+static void run_child(void (*checks)(const struct calls *), const struct calls *calls)
+{
+    struct sigaction action = {.sa_sigaction = note_address, .sa_flags = SA_SIGINFO | (int)SA_RESETHAND};
+    sigaction(SIGSEGV, &action, NULL);
+    alarm(SECONDS);
+    checks(calls);
+    _exit(report->differences > 0 || report->checks == 0);
+}
+
+static bool within(uintptr_t address, const uint8_t *start, size_t size)
+{
+    return address >= (uintptr_t)start && address < (uintptr_t)start + size;
+}
+
+static enum outcome outcome_at(uintptr_t address)
+{
+    if (within(address, line_fence.start - page_size, page_size)) {
+        return DIED_BEFORE_THE_LINE;
+    }
+    if (within(address, line_fence.start, line_fence.size)) {
+        return DIED_IN_THE_LINE;
+    }
+    if (within(address, line_fence.start + line_fence.size, page_size)) {
+        return DIED_PAST_THE_LINE;
+    }
+    if (within(address, buffer_fence.start - page_size, page_size)) {
+        return DIED_BEFORE_THE_BUFFER;
+    }
+    if (within(address, buffer_fence.start + buffer_fence.size, page_size)) {
+        return DIED_PAST_THE_BUFFER;
+    }
+    return DIED_OTHERWISE;
+}
+
+static enum outcome outcome_of(int status)
+{
+    if (WIFEXITED(status)) {
+        return WEXITSTATUS(status) == 0 ? PASSED : DIFFERED;
+    }
+    return WTERMSIG(status) == SIGSEGV ? outcome_at(report->fault_address) : DIED_OTHERWISE;
+}
+
+/* Runs a set of checks in a child and says how it ended. */
+static enum outcome outcome_in_child(void (*checks)(const struct calls *), const struct calls *calls)
+{
+    int status = 0;
+    memset(report, 0, sizeof *report);
+    fflush(stdout);
+    pid_t child = fork();
+    if (child == 0) {
+        run_child(checks, calls);
+    }
+    if (child < 0 || waitpid(child, &status, 0) != child) {
+        give_up("no child", "");
+    }
+    return outcome_of(status);
+}
+
+static const char *name_of(enum outcome outcome)
+{
+    static const char *names[] = {
+        "passed",
+        "differed",
+        "died at the page before the line",
+        "died at the page past the line",
+        "died at a write into the line",
+        "died at the page before the buffer",
+        "died at the page past the buffer",
+        "died otherwise",
+    };
+    return names[outcome];
+}
+
+/* 1 when the child did not end as it must, else 0. */
+static int failed(const char *what, const char *set, enum outcome outcome, enum outcome wanted)
+{
+    if (outcome == wanted) {
+        return 0;
+    }
+    printf("calls: %s, %s: %s, not %s (%ld checks, %ld differences) %s\n", what, set, name_of(outcome), name_of(wanted), report->checks,
+           report->differences, report->first);
+    return 1;
+}
+
+static int run_fault(const struct fault *fault, const char *set, void (*checks)(const struct calls *))
+{
+    struct calls calls = faulty_calls(fault);
+    return failed(fault->name, set, outcome_in_child(checks, &calls), fault->outcome);
+}
+
+/* The library; adds the checks made. */
+static int run_library(long *made)
+{
+    static const struct calls library = {marehour_answer, marehour_lanes, marehour_survey_mph, marehour_survey_kmh};
+    static const struct {
+        const char *name;
+        void (*checks)(const struct calls *);
+    } sets[] = {{"lines", check_answers}, {"lanes questions", check_lanes}, {"surveys", check_surveys}, {"edges", check_edges}};
+    int failures = 0;
+    for (size_t i = 0; i < sizeof sets / sizeof sets[0]; i++) {
+        failures += failed("the library", sets[i].name, outcome_in_child(sets[i].checks, &library), PASSED);
+        *made += report->checks;
+    }
+    return failures;
+}
+
+/* The calls that are wrong on purpose; adds how many were run. */
+static int run_faults(int *run)
+{
+    int failures = run_fault(&one_too_much, "surveys", check_surveys);
+    for (size_t i = 0; i < fault_count; i++) {
+        failures += run_fault(&faults[i], "lines", check_answers);
+        failures += run_fault(&faults[i], "lanes questions", check_lanes);
+    }
+    *run += 1 + 2 * (int)fault_count;
+    return failures;
+}
+
+int main(void)
+{
+    long made = 0;
+    int run = 0;
+    read_answers();
+    read_lanes();
+    read_surveys();
+    make_memory();
+    int failures = run_library(&made);
+    if (failures == 0) {
+        failures = run_faults(&run);
+    }
+    printf("calls: %zu lines, %zu lanes questions, %zu surveys: %ld checks; %d wrong calls tried; %d failures\n", answer_count, lanes_count,
+           survey_count, made, run, failures);
+    return failures > 0;
+}
