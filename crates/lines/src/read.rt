@@ -11,7 +11,7 @@ use method::kind::Kind;
 ghost use mathlib.Core.Path.{_≡_};
 ghost use Rattle.lines.specs.Reading.{kindOf, wayOf, medianOf, terrainOf, readLine};
 
-pub const MALFORMED_LINE: u64 = 15;
+pub const LINE_MALFORMED: u64 = 15;
 
 // "Longer than 80 bytes is malformed"
 pub const LONGEST_LINE: usize = 80;
@@ -52,11 +52,11 @@ pub fn read_line(line: &[u8]) -> LineRead
     ensures { λ r. ⌜ r ≡ readLine (now (line .entry)) ⌝ }
 {
     if LONGEST_LINE < line.len() {
-        return LineRead::Refused(MALFORMED_LINE);
+        return LineRead::Refused(LINE_MALFORMED);
     }
     let fields = field::field_values(line);
     if !fields.well_formed {
-        return LineRead::Refused(MALFORMED_LINE);
+        return LineRead::Refused(LINE_MALFORMED);
     }
     let values = fields.values;
     let road = Road {

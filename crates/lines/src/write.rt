@@ -71,7 +71,7 @@ pub fn answer_line(line: &[u8], out: &mut [u8], at: usize) -> usize
 {
     let reading = read::read_line(line);
     let LineRead::Case(case) = reading else {
-        return write_refusal(read::MALFORMED_LINE, out, at);
+        return write_refusal(read::LINE_MALFORMED, out, at);
     };
     write_answer(evaluate::evaluate(case), out, at)
 }

@@ -9,11 +9,11 @@ ghost use lib.Ieee.{binary32, ofBits};
 ghost use Rattle.survey.specs.Survey.{roundedIn, surveyAnswer};
 ghost use Rattle.survey.specs.Scale.{Scale, speedAnswer};
 
-pub const TOO_FEW_CARS: u64 = 11;
+pub const CARS_TOO_FEW: u64 = 11;
 
-pub const FLOW_TOO_HIGH: u64 = 12;
+pub const FLOW_TOO_LARGE: u64 = 12;
 
-pub const NO_SURVEYED_SPEED: u64 = 13;
+pub const SURVEYED_SPEED_OUT_OF_RANGE: u64 = 13;
 
 const FEWEST_CARS: u64 = 100;
 
@@ -54,20 +54,20 @@ fn speed_of_bits(bits: u64, unit: Fraction) -> SurveyAnswer
     let digits = bits % LEADING;
     // below 1
     if exponent < 127 {
-        return SurveyAnswer::Refused(NO_SURVEYED_SPEED);
+        return SurveyAnswer::Refused(SURVEYED_SPEED_OUT_OF_RANGE);
     }
     // 512 or more, infinite, or with the sign's bit: negative
     if 135 < exponent {
-        return SurveyAnswer::Refused(NO_SURVEYED_SPEED);
+        return SurveyAnswer::Refused(SURVEYED_SPEED_OUT_OF_RANGE);
     }
     // a step of the last digit is 2^(exponent - 150): so many make 1
     let steps = 1 << (150 - exponent);
     let thousandths = (LEADING + digits) * unit.numerator / (steps * unit.denominator);
     if thousandths < 30_000 {
-        return SurveyAnswer::Refused(NO_SURVEYED_SPEED);
+        return SurveyAnswer::Refused(SURVEYED_SPEED_OUT_OF_RANGE);
     }
     if 90_000 < thousandths {
-        return SurveyAnswer::Refused(NO_SURVEYED_SPEED);
+        return SurveyAnswer::Refused(SURVEYED_SPEED_OUT_OF_RANGE);
     }
     SurveyAnswer::Speed(thousandths)
 }
@@ -78,7 +78,7 @@ fn speed_of_float(x: f32, unit: Fraction) -> SurveyAnswer
     ensures { λ r. ⌜ r ≡ speedAnswer (roundedIn unit x) ⌝ }
 {
     if x != x {
-        return SurveyAnswer::Refused(NO_SURVEYED_SPEED);
+        return SurveyAnswer::Refused(SURVEYED_SPEED_OUT_OF_RANGE);
     }
     let bits = f32::to_bits(x) as u64;
     speed_of_bits(bits, unit)
@@ -88,10 +88,10 @@ pub fn surveyed_speed(survey: Survey) -> SurveyAnswer
     ensures { λ r. ⌜ r ≡ surveyAnswer survey ⌝ }
 {
     if survey.cars < FEWEST_CARS {
-        return SurveyAnswer::Refused(TOO_FEW_CARS);
+        return SurveyAnswer::Refused(CARS_TOO_FEW);
     }
     if FLOW_LIMIT <= survey.flow {
-        return SurveyAnswer::Refused(FLOW_TOO_HIGH);
+        return SurveyAnswer::Refused(FLOW_TOO_LARGE);
     }
     let speed = survey.speed;
     match speed {
