@@ -1,4 +1,5 @@
 -- The boundary sections (specs/Boundary), shown, with those of the layer below.
+--   example-figures  the printed line's eleven figures
 --   boundary-shown   each figure of the list is what is to be shown
 -- Assumes nothing.
 use mathlib.Core.Path.{_≡_, refl, ap, _∙_}
@@ -25,7 +26,8 @@ use Rattle.method.proofs.FlowLaws.{flowRate-parts}
 use Rattle.method.proofs.Boundary as method
 use Rattle.method.proofs.Boundary.{Shown-append, ramp-6, ramp-24}
 use Rattle.answer.specs.Volumes.{meets, serviceVolume}
-use Rattle.answer.specs.Answers.{graded}
+use Rattle.answer.specs.Answers as answers
+use Rattle.answer.specs.Answers.{graded, answerTo}
 use Rattle.answer.specs.Lanes.{lanesFound, lanesRefusals, lanesAnswer, refusalNumber}
 use Rattle.answer.specs.Search.{loadOf, keepsTo}
 use Rattle.answer.specs.Boundary.{exampleWith, addedFigures, boundaryFigures}
@@ -63,10 +65,15 @@ pub none-at-99999 : refusalNumber (lanesAnswer (exampleWith 99999) 3) ≡ 14
 unfolding divUp leastFrom least laneWidthAdjustment perMissingFoot rightClearanceAdjustment estimatedBy uncappedBy freeFlowSpeed roadRefusals loadRefusals fieldRefusals speedRefusals refusals capacity breakpoint curveAt curveOf heavyFactor flowRate fallShareBy speed shownSpeed density shownDensity densityLetter letterAt performance measures meets graded lanesFound lanesRefusals
 none-at-99999 = simp ramp-24
 
+-- the printed line's eleven figures
+pub example-figures : answers.values (answerTo example) ≡ 3 ∷ 60783 ∷ 230783 ∷ 1196 ∷ 60783 ∷ 197 ∷ 1117 ∷ 1829 ∷ 2642 ∷ 3360 ∷ 3858 ∷ []
+unfolding divUp laneWidthAdjustment perMissingFoot rightClearanceAdjustment estimatedBy uncappedBy freeFlowSpeed roadRefusals loadRefusals fieldRefusals speedRefusals refusals capacity breakpoint curveAt curveOf heavyFactor flowRate fallShareBy speed shownSpeed density shownDensity densityLetter letterAt performance measures graded
+example-figures = simp (ramp-24, volumes .0, volumes .1, volumes .2, volumes .3, volumes .4)
+
 added-shown : Shown addedFigures
 unfolding divUp leastFrom least laneWidthAdjustment perMissingFoot rightClearanceAdjustment estimatedBy uncappedBy freeFlowSpeed roadRefusals loadRefusals fieldRefusals speedRefusals refusals capacity breakpoint curveAt curveOf heavyFactor flowRate fallShareBy speed shownSpeed density shownDensity densityLetter letterAt performance measures meets graded lanesFound lanesRefusals addedFigures
 added-shown =
-    (simp (ramp-24, volumes .0, volumes .1, volumes .2, volumes .3, volumes .4), (simp ramp-24, (simp ramp-24, (ap (λ number. number ∷ []) none-at-99999, (refl, (simp ramp-6, tt))))))
+    (example-figures, (simp ramp-24, (simp ramp-24, (ap (λ number. number ∷ []) none-at-99999, (refl, (simp ramp-6, tt))))))
 
 pub boundary-shown : Shown boundaryFigures
 boundary-shown = Shown-append Rattle.method.specs.Boundary.boundaryFigures addedFigures method.boundary-shown added-shown

@@ -10,7 +10,8 @@ use mathlib.Core.Bool.{Bool, true, false, cond}
 use mathlib.Core.List.{List, [], _∷_}
 use mathlib.Core.Logic.{⊎-elim}
 use mathlib.Core.Option.{Option, none, some}
-use Prim.Native.Nat.{ℕ, _+_, _≤_, _<_}
+use Prim.Native.Nat.{ℕ, _≤_, _<_}
+use Prim.Native.Char.{code}
 use native.Mathlib.Omega.{arith}
 use lib.Dec.{ltb}
 use lib.ListN.{length}
@@ -33,7 +34,7 @@ use Rattle.lines.specs.declared.read.LineRead.{LineRead}
 use Rattle.lines.specs.declared.read.LineRead.the-variants as LineRead
 use Rattle.lines.specs.Fields.{layout, valuesOf}
 use Rattle.lines.specs.Reading.{readValues, longestLine, readLine, refusalNumber, values}
-use Rattle.lines.specs.Texts.{refusalText, textOf, answerText, longestAnswer, answerOf, lineText}
+use Rattle.lines.specs.Texts.{letterByte, refusalText, textOf, answerText, longestAnswer, answerOf, lineText}
 
 pub readLine-refused : (bs : List ℕ) (n : ℕ) → readLine bs ≡ LineRead.Refused n → n ≡ 15
 unfolding readValues readLine
@@ -54,13 +55,13 @@ lineText-case bs case e = ap (λ r. answerText (answerOf r)) e
 
 pub refusalText-le : (n : ℕ) → length (refusalText n) ≤ longestAnswer
 unfolding refusalText
-refusalText-le n = omega (arith, rowText-one 88 n)
+refusalText-le n = omega (arith, rowText-one (code "X") n)
 
 -- figures that keep to their ends have at most 62 bytes
 figures-le : (number : ℕ) (vs : List ℕ) → AllAtMost vs figureEnds → length (textOf number vs) ≤ longestAnswer
 unfolding decimalUpTo decimal figuresText textOf
 figures-le number [] h = absurd h
-figures-le number (letter ∷ figures) h = omega (arith, rowText-length (64 + letter) figures, figuresText-mono figures _ (h .1))
+figures-le number (letter ∷ figures) h = omega (arith, rowText-length (letterByte letter) figures, figuresText-mono figures _ (h .1))
 
 pub answerText-le : (case : Case) → length (answerText (answerTo case)) ≤ longestAnswer
 unfolding textOf
@@ -80,8 +81,8 @@ lineText-le bs = by-read (λ t. length t ≤ longestAnswer) (refusalText-le 15) 
 
 text-pos : (number : ℕ) (vs : List ℕ) → 0 < length (textOf number vs)
 unfolding refusalText textOf
-text-pos number [] = omega (arith, rowText-length 88 (number ∷ []))
-text-pos number (letter ∷ figures) = omega (arith, rowText-length (64 + letter) figures)
+text-pos number [] = omega (arith, rowText-length (code "X") (number ∷ []))
+text-pos number (letter ∷ figures) = omega (arith, rowText-length (letterByte letter) figures)
 
 pub lineText-pos : (bs : List ℕ) → 0 < length (lineText bs)
 unfolding lineText

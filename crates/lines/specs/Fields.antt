@@ -15,11 +15,13 @@
 -- A letter's value is its byte.
 -- Assumes nothing.
 use Prim.Native.Nat.{ℕ, _+_, _-_, _*_}
+use Prim.Native.Char.{code}
 use mathlib.Core.Bool.{Bool, false, cond, _&&_, _||_}
 use mathlib.Core.List.{List, [], _∷_}
 use mathlib.Core.Option.{Option, none, some}
 use lib.Dec.{eqb, leb, ltb}
 use lib.ListN.{length, getD}
+use Rattle.text.specs.Bytes.{bytesOf}
 use Rattle.method.specs.Refusals.{outside}
 use Rattle.lines.specs.declared.field.FieldValue.{FieldValue}
 use Rattle.lines.specs.declared.field.FieldValue.the-variants.{Value, Malformed}
@@ -33,24 +35,24 @@ pub data Field : Type 0 where
 -- mile (M); lanes; V; H; P; terrain L or R"; "A number has one to five digits"
 unfoldable pub layout : List Field
 layout =
-    letters (70 ∷ 77 ∷ []) ∷ letters (69 ∷ 71 ∷ [])
+    letters (bytesOf "FM") ∷ letters (bytesOf "EG")
     ∷ digits 5 ∷ digits 5 ∷ digits 5 ∷ digits 5
-    ∷ letters (85 ∷ 68 ∷ 84 ∷ [])
+    ∷ letters (bytesOf "UDT")
     ∷ digits 5 ∷ digits 5 ∷ digits 5 ∷ digits 5 ∷ digits 5
-    ∷ letters (76 ∷ 82 ∷ []) ∷ []
+    ∷ letters (bytesOf "LR") ∷ []
 
 abbrev pub fieldAt : ℕ → Field
 fieldAt i = getD layout i (digits 5)
 
 abbrev pub digit : ℕ → Bool
-digit b = leb 48 b && leb b 57
+digit b = leb (code "0") b && leb b (code "9")
 
 unfoldable pub spelled : ℕ → List ℕ → FieldValue
 spelled n [] = Value n
-spelled n (b ∷ bs) = cond (digit b) (spelled (10 * n + (b - 48)) bs) Malformed
+spelled n (b ∷ bs) = cond (digit b) (spelled (10 * n + (b - code "0")) bs) Malformed
 
 abbrev pub leadingZero : List ℕ → Bool
-leadingZero bs = ltb 1 (length bs) && eqb (getD bs 0 0) 48
+leadingZero bs = ltb 1 (length bs) && eqb (getD bs 0 0) (code "0")
 
 -- "one to five digits with no leading zero, save 0 itself"
 unfoldable pub number : ℕ → List ℕ → FieldValue

@@ -9,6 +9,7 @@
 --   values r            the 13 values of a case; of a refusal no value
 -- Assumes nothing.
 use Prim.Native.Nat.{ℕ}
+use Prim.Native.Char.{code}
 use mathlib.Core.Bool.{cond}
 use mathlib.Core.List.{List, [], _∷_}
 use mathlib.Core.Option.{Option, none, some}
@@ -29,21 +30,17 @@ use Rattle.lines.specs.declared.read.LineRead.{LineRead}
 use Rattle.lines.specs.declared.read.LineRead.the-variants as LineRead
 use Rattle.lines.specs.Fields.{layout, valuesOf}
 
--- F and M are bytes 70 and 77
 abbrev pub kindOf : ℕ → Kind
-kindOf b = cond (eqb b 70) Kind.Freeway Kind.Multilane
+kindOf b = cond (eqb b (code "F")) Kind.Freeway Kind.Multilane
 
--- E and G are bytes 69 and 71
 abbrev pub wayOf : ℕ → Way
-wayOf b = cond (eqb b 69) Way.Estimated Way.Given
+wayOf b = cond (eqb b (code "E")) Way.Estimated Way.Given
 
--- U, D and T are bytes 85, 68 and 84
 abbrev pub medianOf : ℕ → Median
-medianOf b = cond (eqb b 85) Median.Undivided (cond (eqb b 68) Median.Divided Median.TwoWayLeftTurnLane)
+medianOf b = cond (eqb b (code "U")) Median.Undivided (cond (eqb b (code "D")) Median.Divided Median.TwoWayLeftTurnLane)
 
--- L and R are bytes 76 and 82
 abbrev pub terrainOf : ℕ → Terrain
-terrainOf b = cond (eqb b 76) Terrain.Level Terrain.Rolling
+terrainOf b = cond (eqb b (code "L")) Terrain.Level Terrain.Rolling
 
 unfoldable pub caseOf : List ℕ → Case
 caseOf vs =
@@ -85,21 +82,21 @@ refusalNumber (LineRead.Case c) = 0
 refusalNumber (LineRead.Refused n) = n
 
 abbrev pub kindByte : Kind → ℕ
-kindByte Kind.Freeway = 70
-kindByte Kind.Multilane = 77
+kindByte Kind.Freeway = code "F"
+kindByte Kind.Multilane = code "M"
 
 abbrev pub wayByte : Way → ℕ
-wayByte Way.Estimated = 69
-wayByte Way.Given = 71
+wayByte Way.Estimated = code "E"
+wayByte Way.Given = code "G"
 
 abbrev pub medianByte : Median → ℕ
-medianByte Median.Undivided = 85
-medianByte Median.Divided = 68
-medianByte Median.TwoWayLeftTurnLane = 84
+medianByte Median.Undivided = code "U"
+medianByte Median.Divided = code "D"
+medianByte Median.TwoWayLeftTurnLane = code "T"
 
 abbrev pub terrainByte : Terrain → ℕ
-terrainByte Terrain.Level = 76
-terrainByte Terrain.Rolling = 82
+terrainByte Terrain.Level = code "L"
+terrainByte Terrain.Rolling = code "R"
 
 abbrev pub values : LineRead → List ℕ
 values (LineRead.Case c) =

@@ -1,5 +1,5 @@
 -- Answers as text (document 01, "Lines").
---   letterByte n       the byte of letter number n: A is byte 65
+--   letterByte n       the byte of letter number n: A is 1
 --   refusalText n      what `los` prints for a refused line
 --   textOf n vs        the line of an answer's refusal number and values
 --   answerText a       what `los` prints for an answer
@@ -8,7 +8,8 @@
 --   lineAnswer bs      the answer to a line
 --   lineText bs        what `los` prints for a line
 -- Assumes nothing.
-use Prim.Native.Nat.{ℕ, _+_}
+use Prim.Native.Nat.{ℕ, _+_, _-_}
+use Prim.Native.Char.{code}
 use mathlib.Core.List.{List, [], _∷_}
 use Rattle.text.specs.Decimal.{rowText}
 use Rattle.answer.specs.declared.evaluate.Answer.{Answer}
@@ -19,11 +20,11 @@ use Rattle.lines.specs.declared.read.LineRead.the-variants as LineRead
 use Rattle.lines.specs.Reading.{readLine}
 
 abbrev pub letterByte : ℕ → ℕ
-letterByte n = 64 + n
+letterByte n = code "A" + n - 1
 
--- "a refused line prints X, tab, number": X is byte 88
+-- "a refused line prints X, tab, number"
 unfoldable pub refusalText : ℕ → List ℕ
-refusalText n = rowText 88 (n ∷ [])
+refusalText n = rowText (code "X") (n ∷ [])
 
 -- "Answer: letter, F, c, v, speed, density, service volumes A to E, 11 fields"; an answer with no values is a refusal
 unfoldable pub textOf : ℕ → List ℕ → List ℕ

@@ -16,6 +16,16 @@ pub const LINE_MALFORMED: u64 = 15;
 // "Longer than 80 bytes is malformed"
 pub const LONGEST_LINE: usize = 80;
 
+const FREEWAY: u64 = b'F' as u64;
+
+const ESTIMATED: u64 = b'E' as u64;
+
+const UNDIVIDED: u64 = b'U' as u64;
+
+const DIVIDED: u64 = b'D' as u64;
+
+const LEVEL: u64 = b'L' as u64;
+
 pub enum LineRead {
     Case(Case),
     Refused(u64),
@@ -24,28 +34,28 @@ pub enum LineRead {
 fn kind_of(b: u64) -> Kind
     ensures { λ r. ⌜ r ≡ kindOf b ⌝ }
 {
-    if b == 70 { Kind::Freeway } else { Kind::Multilane }
+    if b == FREEWAY { Kind::Freeway } else { Kind::Multilane }
 }
 
 fn way_of(b: u64) -> Way
     ensures { λ r. ⌜ r ≡ wayOf b ⌝ }
 {
-    if b == 69 { Way::Estimated } else { Way::Given }
+    if b == ESTIMATED { Way::Estimated } else { Way::Given }
 }
 
 fn median_of(b: u64) -> Median
     ensures { λ r. ⌜ r ≡ medianOf b ⌝ }
 {
-    if b == 85 {
+    if b == UNDIVIDED {
         return Median::Undivided;
     }
-    if b == 68 { Median::Divided } else { Median::TwoWayLeftTurnLane }
+    if b == DIVIDED { Median::Divided } else { Median::TwoWayLeftTurnLane }
 }
 
 fn terrain_of(b: u64) -> Terrain
     ensures { λ r. ⌜ r ≡ terrainOf b ⌝ }
 {
-    if b == 76 { Terrain::Level } else { Terrain::Rolling }
+    if b == LEVEL { Terrain::Level } else { Terrain::Rolling }
 }
 
 pub fn read_line(line: &[u8]) -> LineRead

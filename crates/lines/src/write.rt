@@ -13,10 +13,10 @@ ghost use lib.ListN.{length};
 ghost use Rattle.text.specs.Buffer.{Wrote};
 ghost use Rattle.answer.specs.declared.evaluate.Answer.the-variants.{Graded};
 ghost use Rattle.method.specs.Service.{letterNumber};
-ghost use Rattle.lines.specs.Texts.{answerText, refusalText, longestAnswer, lineText};
+ghost use Rattle.lines.specs.Texts.{letterByte, answerText, refusalText, longestAnswer, lineText};
 
 fn letter_byte(letter: Letter) -> u8
-    ensures { λ r. ⌜ r ≡ 64 + letterNumber letter ⌝ }
+    ensures { λ r. ⌜ r ≡ letterByte (letterNumber letter) ⌝ }
 {
     match letter {
         Letter::A => b'A',

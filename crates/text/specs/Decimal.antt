@@ -5,15 +5,15 @@
 --   rowText b ns      the byte b, each number after a tab, and a newline
 -- Assumes nothing.
 use Prim.Native.Nat.{ℕ, zero, suc, _+_, _/_, _%_}
+use Prim.Native.Char.{code}
 use mathlib.Core.Bool.{cond}
 use mathlib.Core.List.{List, [], _∷_, _++_}
 use lib.Dec.{ltb}
 use Rattle.text.specs.Bytes.{tab, newline}
 
--- the digit 0 is byte 48
 unfoldable pub decimalUpTo : ℕ → ℕ → List ℕ
 decimalUpTo zero n = []
-decimalUpTo (suc k) n = cond (ltb n 10) ((48 + n) ∷ []) (decimalUpTo k (n / 10) ++ ((48 + n % 10) ∷ []))
+decimalUpTo (suc k) n = cond (ltb n 10) ((code "0" + n) ∷ []) (decimalUpTo k (n / 10) ++ ((code "0" + n % 10) ∷ []))
 
 unfoldable pub decimal : ℕ → List ℕ
 decimal n = decimalUpTo 20 n

@@ -1,5 +1,5 @@
 -- Bytes and numbers as text.
---   Bytes     the bytes that document 01 names
+--   Bytes     text as bytes
 --   Parts     bytes parted at a byte
 --   Decimal   numbers in decimal
 --   Buffer    text in a lent buffer
