@@ -95,21 +95,43 @@ unfolding graded measures performance curveOf curveAt
 figures-within-ends case a =
     let curve : Curve = curveOf (case .road) (case .lanes) in
     let volume : (n : ℕ) → 1 ≤ n → n ≤ 5 → serviceVolume case n ≤ 19200 = λ n h k. serviceVolume-le case n a h k in
-    rw (answerTo-accepted case a)
-    (letterNumber-le (graded case .letter), (speed-le case, (capacity-le (case .road .kind) (freeFlowSpeed (case .road) (case .lanes)), (flowRate-le case a,
-    (le-trans (shownSpeed-le curve (flowRate case) (curveOf-wellFormed case a)) (speed-le case),
-    (shownDensity-le curve (flowRate case) (curveOf-wellFormed case a),
-    (volume 1 (omega arith) (omega arith), (volume 2 (omega arith) (omega arith), (volume 3 (omega arith) (omega arith),
-    (volume 4 (omega arith) (omega arith), (volume 5 (omega arith) (omega arith), tt)))))))))))
+    rw (answerTo-accepted case a) (
+      letterNumber-le (graded case .letter),
+      (
+        speed-le case,
+        (
+          capacity-le (case .road .kind) (freeFlowSpeed (case .road) (case .lanes)),
+          (
+            flowRate-le case a,
+            (
+              le-trans (shownSpeed-le curve (flowRate case) (curveOf-wellFormed case a)) (speed-le case),
+              (
+                shownDensity-le curve (flowRate case) (curveOf-wellFormed case a),
+                (
+                  volume 1 (omega arith) (omega arith),
+                  (
+                    volume 2 (omega arith) (omega arith),
+                    (
+                      volume 3 (omega arith) (omega arith),
+                      (volume 4 (omega arith) (omega arith), (volume 5 (omega arith) (omega arith), tt)),
+                    ),
+                  ),
+                ),
+              ),
+            ),
+          ),
+        ),
+      ),
+    )
 
 pub refusals-within-ends : RefusalsWithinEnds
 unfolding roadRefusals loadRefusals fieldRefusals lanesRefusals
 refusals-within-ends case n = (
   ⊎-elim (λ z. omega (arith, ap answers.refusalNumber (z .1))) (λ p. omega (arith, ap answers.refusalNumber (p .1), refusal-le case))
-  (cond-cases (refusal case) (Answer.Graded (graded case)) (Answer.Refused (refusal case))),
+      (cond-cases (refusal case) (Answer.Graded (graded case)) (Answer.Refused (refusal case))),
   ⊎-elim (λ z. omega (arith, ap lanes.refusalNumber (z .1)))
-  (λ p. omega (arith, ap lanes.refusalNumber (p .1), firstRefusal-le 16 (lanesRefusals case n) tt))
-  (cond-cases (firstRefusal (lanesRefusals case n)) (LanesAnswer.Lanes (lanesFound case n)) (LanesAnswer.Refused (firstRefusal (lanesRefusals case n)))),
+      (λ p. omega (arith, ap lanes.refusalNumber (p .1), firstRefusal-le 16 (lanesRefusals case n) tt))
+      (cond-cases (firstRefusal (lanesRefusals case n)) (LanesAnswer.Lanes (lanesFound case n)) (LanesAnswer.Refused (firstRefusal (lanesRefusals case n)))),
 )
 
 pub counts-are-digits : CountsAreDigits

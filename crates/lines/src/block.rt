@@ -82,7 +82,10 @@ pub fn answer_turn(buffer: &mut [u8], held: usize, out: &mut [u8]) -> Turn
     let read = progress.read;
     let carried = carried_length(&buffer[read..held]);
     move_to_start(buffer, read, carried);
-    Turn { carried, written: progress.written }
+    Turn {
+        carried,
+        written: progress.written,
+    }
 }
 
 pub fn answer_last(held: &[u8], out: &mut [u8]) -> usize

@@ -108,15 +108,24 @@ pub(crate) fn field_values(line: &[u8]) -> FieldValues
         let end = text::parts::find(line, at, b'\t');
         let value = field_value(place, &line[at..end]);
         let FieldValue::Value(n) = value else {
-            return FieldValues { well_formed: false, values };
+            return FieldValues {
+                well_formed: false,
+                values,
+            };
         };
         values[place] = n;
         if end == line.len() {
-            return FieldValues { well_formed: place == 12, values };
+            return FieldValues {
+                well_formed: place == 12,
+                values,
+            };
         }
         at = end + 1;
         place += 1;
     }
     // a field too many
-    FieldValues { well_formed: false, values }
+    FieldValues {
+        well_formed: false,
+        values,
+    }
 }

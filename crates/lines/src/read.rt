@@ -34,13 +34,21 @@ pub enum LineRead {
 fn kind_of(b: u64) -> Kind
     ensures { λ r. ⌜ r ≡ kindOf b ⌝ }
 {
-    if b == FREEWAY { Kind::Freeway } else { Kind::Multilane }
+    if b == FREEWAY {
+        Kind::Freeway
+    } else {
+        Kind::Multilane
+    }
 }
 
 fn way_of(b: u64) -> Way
     ensures { λ r. ⌜ r ≡ wayOf b ⌝ }
 {
-    if b == ESTIMATED { Way::Estimated } else { Way::Given }
+    if b == ESTIMATED {
+        Way::Estimated
+    } else {
+        Way::Given
+    }
 }
 
 fn median_of(b: u64) -> Median
@@ -49,13 +57,21 @@ fn median_of(b: u64) -> Median
     if b == UNDIVIDED {
         return Median::Undivided;
     }
-    if b == DIVIDED { Median::Divided } else { Median::TwoWayLeftTurnLane }
+    if b == DIVIDED {
+        Median::Divided
+    } else {
+        Median::TwoWayLeftTurnLane
+    }
 }
 
 fn terrain_of(b: u64) -> Terrain
     ensures { λ r. ⌜ r ≡ terrainOf b ⌝ }
 {
-    if b == LEVEL { Terrain::Level } else { Terrain::Rolling }
+    if b == LEVEL {
+        Terrain::Level
+    } else {
+        Terrain::Rolling
+    }
 }
 
 pub fn read_line(line: &[u8]) -> LineRead

@@ -1,13 +1,44 @@
--- Boundary
-use Prim.Native.Nat.{ℕ}
-use Prim.Native.Char.{code}
-use Prim.Native.String.{String, [] as empty, _∷_ as _then_}
-use mathlib.Core.Path.{_≡_, refl}
-use mathlib.Core.List.{List, [], _∷_}
+-- The boundary sections of document 01: one list, those of the layers below with what this layer adds.
+--   printedLine           the line of document 01
+--   printedLineWith v     the same with another demand
+--   printedAnswer         what `los` prints for it
+--   addedFigures          what this layer adds
+--   boundaryFigures       the list
+-- Assumes nothing.
+use Prim.Native.String.{String, _++_ as _then_}
+use mathlib.Core.List.{List, [], _∷_, _++_}
+use Rattle.text.specs.Bytes.{bytesOf}
+use Rattle.method.specs.Boundary.{Figure, figure}
+use Rattle.answer.specs.Boundary as answer
+use Rattle.survey.specs.Boundary.{surveyFigures}
+use Rattle.lines.specs.Reading.{readLine, refusalNumber}
+use Rattle.lines.specs.Texts.{lineText}
+use Rattle.lines.specs.Stream.{outputOf}
+use Rattle.lines.specs.Output.{lineTexts}
 
-abbrev pub bytesOf : String → List ℕ
-bytesOf empty = []
-bytesOf (c then s) = code c ∷ bytesOf s
+-- tabs as blanks: F E 75400 110 20 0 D 24 2 V 920 50 R
+abbrev pub printedLineWith : String → String
+printedLineWith demand = "F\tE\t75400\t110\t20\t0\tD\t24\t2\t" then (demand then "\t920\t50\tR")
 
-try : bytesOf "F\tE\n" ≡ 70 ∷ 9 ∷ 69 ∷ 10 ∷ []
-try = refl
+abbrev pub printedLine : String
+printedLine = printedLineWith "2000"
+
+abbrev pub printedAnswer : String
+printedAnswer = "C\t60783\t230783\t1196\t60783\t197\t1117\t1829\t2642\t3360\t3858\n"
+
+-- Starred: the printed line. Not starred: what is printed for it between an empty line and a last line without newline; an empty input;
+-- the line with a leading zero, six digits and an empty field as its demand, with a 14th field, and with an unknown terrain.
+unfoldable pub addedFigures : List Figure
+addedFigures =
+    figure (lineText (bytesOf printedLine)) (bytesOf printedAnswer)
+    ∷ figure (outputOf lineTexts (bytesOf ("\n" then (printedLine then "\nF")))) (bytesOf ("X\t15\n" then (printedAnswer then "X\t15\n")))
+    ∷ figure (outputOf lineTexts (bytesOf "")) (bytesOf "")
+    ∷ figure (refusalNumber (readLine (bytesOf (printedLineWith "02000"))) ∷ []) (15 ∷ [])
+    ∷ figure (refusalNumber (readLine (bytesOf (printedLineWith "100000"))) ∷ []) (15 ∷ [])
+    ∷ figure (refusalNumber (readLine (bytesOf (printedLineWith ""))) ∷ []) (15 ∷ [])
+    ∷ figure (refusalNumber (readLine (bytesOf (printedLine then "\t"))) ∷ []) (15 ∷ [])
+    ∷ figure (refusalNumber (readLine (bytesOf (printedLine then "r"))) ∷ []) (15 ∷ [])
+    ∷ []
+
+abbrev pub boundaryFigures : List Figure
+boundaryFigures = answer.boundaryFigures ++ (surveyFigures ++ addedFigures)

@@ -79,8 +79,8 @@ pub extern "C" fn marehour_lanes(line: &[u8], letter: u32, answer: &mut [u8]) ->
     if answer.len() < ANSWER_SIZE {
         return refused(BUFFER_TOO_SHORT);
     }
-    let reading = read::read_line(line);
-    let LineRead::Case(case) = reading else {
+    let asked = read::read_line(line);
+    let LineRead::Case(case) = asked else {
         return refused(read::LINE_MALFORMED);
     };
     lanes_case(case, letter as u64, answer)

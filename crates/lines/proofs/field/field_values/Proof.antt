@@ -99,7 +99,7 @@ loop-again c =
       omega arith,
       simp length-set (l .inv .2),
       l .inv .3 ∙ more-of layout (digits 5) (a .line .now) (l .values) (l .place) (l .at) (f .result) (omega arith) (omega arith) (f .ensures .0)
-      (omega arith) _ (omega arith) (sym (c .before .before .before .before .field-value .ensures) ∙ c .before .before .value .given .1),
+          (omega arith) _ (omega arith) (sym (c .before .before .before .before .field-value .ensures) ∙ c .before .before .value .given .1),
     )
 
 -- src/field.rt:101:1

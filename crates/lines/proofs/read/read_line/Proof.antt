@@ -101,8 +101,15 @@ returns-3 : tie.Need-returns-3
 unfolding readLine readValues caseOf
 returns-3 c =
     let f = c .before .before .before .before .before .before .before .field-values in
-    rw (le-ltb _ _ (c .before .before .before .before .before .before .before .before .if1 .left), sym (f .ensures), not-false (f .result .«well_formed») (c .before .before .before .before .before .if2 .left),
-    c .terrain-of .ensures, c .before .median-of .ensures, c .before .before .way-of .ensures, c .before .before .before .kind-of .ensures)
+    rw (
+      le-ltb _ _ (c .before .before .before .before .before .before .before .before .if1 .left),
+      sym (f .ensures),
+      not-false (f .result .«well_formed») (c .before .before .before .before .before .if2 .left),
+      c .terrain-of .ensures,
+      c .before .median-of .ensures,
+      c .before .before .way-of .ensures,
+      c .before .before .before .kind-of .ensures,
+    )
 
 pub read-line-spec : {M : Type 1} → statement M
 read-line-spec =

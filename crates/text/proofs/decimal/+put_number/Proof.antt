@@ -1,7 +1,6 @@
 use Prim.Native.Nat.{_+_, _%_, _≤_, _^_}
 use native.Mathlib.Omega.{arith}
 use lib.ListN.{length}
-
 use Rattle.text.proofs.WritingLaws.{decimal-small, decimal-more, length-small, length-more, first-byte, then-byte}
 use borrow.Author.Needs.{needs}
 use Prim.Native.Nat.{ℕ, _<_}
