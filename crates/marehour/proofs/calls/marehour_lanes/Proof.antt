@@ -29,8 +29,8 @@ read-line-requires : tie.Need-read-line-requires
 read-line-requires c κs = search needs
 
 -- src/calls.rt:83:24
-enum-known-reading : tie.Need-enum-known-reading
-enum-known-reading c = search needs
+enum-known-asked : tie.Need-enum-known-asked
+enum-known-asked c = search needs
 
 -- src/calls.rt:84:9
 enum-told : tie.Need-enum-told
@@ -60,7 +60,7 @@ same-length c = search needs
 returns-3 : tie.Need-returns-3
 returns-3 c =
     let a = c .before .before .before .before .before .before .before .before .before .before .before .args in
-    let e = sym (c .before .before .before .before .before .before .before .read-line .ensures) ∙ c .before .before .before .before .before .reading .given .1 in
+    let e = sym (c .before .before .before .before .before .before .before .read-line .ensures) ∙ c .before .before .before .before .before .asked .given .1 in
     let s = c .before .before .lanes-case in
     same-reply (s .result) _ _ (a .answer .now) _ (search needs) (s .ensures .0) (s .ensures .1)
     (inBuffer-fits (length (a .answer .now)) (lanesByRead (readLine (a .line .now)) (a .letter)) (c .before .before .before .before .before .before .before .before .if1 .left) ∙ ap (λ r. lanesByRead r (a .letter)) e)
@@ -72,7 +72,7 @@ marehour-lanes-spec =
     refused-requires
     returns
     read-line-requires
-    enum-known-reading
+    enum-known-asked
     enum-told
     refused-requires-2
     returns-2
