@@ -2,6 +2,3 @@
 pub mod DigitsLaws
 pub mod FieldsLaws
 pub mod TextsLaws
-pub mod StreamLaws
-pub mod BlockLaws
-pub mod OutputLaws

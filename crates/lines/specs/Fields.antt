@@ -11,7 +11,7 @@
 --   fieldAs f bs      the value that bs has as field f
 --   joined v vs       a field's value before those of the fields after it
 --   valuesOf fs ps    the values of the parts ps as the fields fs, where there is a part for each and all are well formed
---   held r            the values that the code hands on
+--   valuesIn r        the values that the code hands on
 -- A letter's value is its byte.
 -- Assumes nothing.
 use Prim.Native.Nat.{ℕ, _+_, _-_, _*_}
@@ -80,5 +80,5 @@ valuesOf [] (p ∷ ps) = none
 valuesOf (f ∷ fs) [] = none
 valuesOf (f ∷ fs) (p ∷ ps) = joined (fieldAs f p) (valuesOf fs ps)
 
-abbrev pub held : FieldValues → Option (List ℕ)
-held r = cond (r .«well_formed») (some (r .values)) none
+abbrev pub valuesIn : FieldValues → Option (List ℕ)
+valuesIn r = cond (r .«well_formed») (some (r .values)) none

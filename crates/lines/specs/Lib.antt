@@ -1,11 +1,9 @@
--- Lines: what a line says, what is printed for it, and what is printed for an input.
+-- Lines: what a line says, and what is printed for it.
 --   Fields    the fields of a line
 --   Reading   a line as a case or its refusal
 --   Texts     answers as text
---   Stream    an input answered line by line, whatever pieces it comes in
---   Output    what is printed for an input
+--   Laws      laws of lines
 pub mod Fields
 pub mod Reading
 pub mod Texts
-pub mod Stream
-pub mod Output
+pub mod Laws

@@ -7,7 +7,7 @@ ghost use Prim.Native.Nat.{_≤_};
 ghost use lib.ListN.{length, getD};
 ghost use Rattle.text.specs.Bytes.{tab};
 ghost use Rattle.text.specs.Parts.{parts};
-ghost use Rattle.lines.specs.Fields.{spelled, number, letter, fieldAs, layout, fieldAt, valuesOf, held};
+ghost use Rattle.lines.specs.Fields.{spelled, number, letter, fieldAs, layout, fieldAt, valuesOf, valuesIn};
 
 pub enum FieldValue {
     Value(u64),
@@ -99,7 +99,7 @@ fn field_value(place: usize, field: &[u8]) -> FieldValue
 }
 
 pub(crate) fn field_values(line: &[u8]) -> FieldValues
-    ensures { λ r. ⌜ held r ≡ valuesOf layout (parts tab (now (line .entry))) ⌝ }
+    ensures { λ r. ⌜ valuesIn r ≡ valuesOf layout (parts tab (now (line .entry))) ⌝ }
 {
     let mut values = [0u64; 13];
     let mut at = 0;

@@ -1,6 +1,8 @@
 // A line read into a case or its refusal.
-//   LineRead    a case, or refusal 15
-//   read_line   for any bytes at all, a line without its newline
+//   LineRead         a case or a refusal
+//   LINE_MALFORMED   the refusal
+//   LONGEST_LINE     the most bytes of a line
+//   read_line        for any bytes at all, a line without its newline
 use crate::field;
 use method::case::Case;
 use method::case::Median;

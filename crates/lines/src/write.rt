@@ -1,6 +1,8 @@
 // An answer written as text into a lent buffer. Each function writes at a place and answers the place after what it wrote.
-//   write_answer   an answer, or X and its refusal's number
-//   answer_line    the answer to a line
+//   LONGEST_ANSWER   room for any answer
+//   write_grade      the eleven figures of an answer
+//   write_answer     an answer, or X and its refusal's number
+//   answer_line      the answer to a line
 use crate::read;
 use crate::read::LineRead;
 use answer::evaluate;
@@ -14,6 +16,8 @@ ghost use Rattle.text.specs.Buffer.{Wrote};
 ghost use Rattle.answer.specs.declared.evaluate.Answer.the-variants.{Graded};
 ghost use Rattle.method.specs.Service.{letterNumber};
 ghost use Rattle.lines.specs.Texts.{letterByte, answerText, refusalText, longestAnswer, lineText};
+
+pub const LONGEST_ANSWER: usize = 64;
 
 fn letter_byte(letter: Letter) -> u8
     ensures { λ r. ⌜ r ≡ letterByte (letterNumber letter) ⌝ }

@@ -2,16 +2,16 @@ use mathlib.Core.Path.{_≡_, refl}
 use Prim.Native.Nat.{_-_}
 use native.Mathlib.Omega.{arith}
 use lib.ListN.{length, drop, length-drop}
-use Rattle.lines.specs.Output.{lineTexts}
+use Rattle.blocks.specs.Output.{lineTexts}
 use Rattle.lines.proofs.TextsLaws.{lineText-le}
-use Rattle.lines.proofs.StreamLaws.{none-left, full}
-use Rattle.lines.proofs.BlockLaws.{Answering, begun, answered-one, stopped}
+use Rattle.blocks.proofs.StreamLaws.{none-left, full}
+use Rattle.blocks.proofs.BlockLaws.{Answering, begun, answered-one, stopped}
 use borrow.Author.Needs.{needs}
-use Rattle.lines.proofs.block.answer_block.Statement.{statement}
-use Rattle.lines.proofs.block.answer_block.Tie as tie
-use Rattle.lines.proofs.block.answer_block.Reads as reads
-use Rattle.lines.proofs.block.answer_block.Lts as lts
+use Rattle.blocks.proofs.answer_block.Statement.{statement}
+use Rattle.blocks.proofs.answer_block.Tie as tie
+use Rattle.blocks.proofs.answer_block.Reads as reads
+use Rattle.blocks.proofs.answer_block.Lts as lts
 use Rattle.lines.proofs.write.answer_line.Reads as answer-line-reads
 use Rattle.text.proofs.parts.find.Reads as find-reads
 
 abbrev Inv-loop : tie.InvT-loop

@@ -1,4 +1,4 @@
--- The code's way through a block (src/block.rt): lines answered one after the other, and bytes moved to the start of a buffer.
+-- The code's way through a block (src/lib.rt): lines answered one after the other, and bytes moved to the start of a buffer.
 --   Answering            some lines of a block are answered, and what is left to do
 --   begun, answered-one, stopped   at the start; one line more; at the end
 --   cut-short, cut-line, cut-long, cut-le   how many bytes are carried over
@@ -23,8 +23,9 @@ use Rattle.text.specs.Bytes.{newline}
 use Rattle.text.specs.Parts.{countBefore}
 use Rattle.text.specs.Buffer.{Wrote}
 use Rattle.text.proofs.WritingLaws.{then, none-written}
-use Rattle.lines.specs.Stream.{LineTexts, texts, lastLine, answered, size, cutOff, carried}
-use Rattle.lines.proofs.StreamLaws.{texts-append, size-append, next-line, none-left}
+use Rattle.blocks.specs.Stream.{LineTexts, texts, lastLine, linesOf}
+use Rattle.blocks.specs.Turns.{answered, size, cutOff, carried}
+use Rattle.blocks.proofs.StreamLaws.{texts-append, size-append, linesOf-last, next-line, none-left}
 
 -- ---- lines answered one after the other
 pub record Answering (t : LineTexts) (block old new : List ℕ) (read written : ℕ) : Type 0 where
@@ -79,13 +80,14 @@ module _ (t : LineTexts) (block old mid : List ℕ) (p w e : ℕ) (a : Answering
       (a .reads ∙ ap size (sym d), (rw d (a .wrote), (a .within, a .room)))
 
 -- ---- the last line
-pub last-none : (t : LineTexts) (held old : List ℕ) → length held ≡ 0 → Wrote (texts t (lastLine held)) 0 old old 0
-unfolding texts lastLine
-last-none t held old h = rw h (record { content = sym (none-written 0 old); ends = refl })
+module _ (t : LineTexts) (held : List ℕ) (h : countBefore newline held ≡ length held) where
+  pub last-none : (old : List ℕ) → length held ≡ 0 → Wrote (texts t (linesOf held)) 0 old old 0
+  unfolding texts lastLine
+  last-none old z = rw (linesOf-last held h, z) (record { content = sym (none-written 0 old); ends = refl })
 
-pub last-one : (t : LineTexts) (held : List ℕ) → (length held ≡ 0 → ⊥) → texts t (lastLine held) ≡ t .text held
-unfolding lastLine
-last-one t held n = rw (ne-eqb (length held) 0 n) (one-text t held)
+  pub last-one : (length held ≡ 0 → ⊥) → texts t (linesOf held) ≡ t .text held
+  unfolding lastLine
+  last-one n = rw (linesOf-last held h, ne-eqb (length held) 0 n) (one-text t held)
 
 -- ---- bytes moved
 step : (s d : List ℕ) (i : ℕ) → i < length s → length s ≤ length d → set (take i s ++ drop i d) i (getD s i 0) ≡ take (i + 1) s ++ drop (i + 1) d

@@ -1,20 +1,22 @@
-// Lines answered in blocks.
+// Blocks: whole lines of a block answered, the rest carried over.
 //   Progress, answer_block   the whole lines at the start of a block, while there is room for an answer
 //   Turn, answer_turn        the same for the bytes that a buffer holds; the rest is carried over to its start
-//   answer_last              a last line without newline
-use crate::read::LONGEST_LINE;
-use crate::write::answer_line;
+//   answer_last              what is held at the end of the input: a last line without newline, or nothing
+use lines::read::LONGEST_LINE;
+use lines::write::LONGEST_ANSWER;
+use lines::write::answer_line;
 ghost use mathlib.Core.Path.{_≡_};
 ghost use mathlib.Core.List.{_++_};
 ghost use Prim.Native.Nat.{_+_, _≤_, _<_};
 ghost use lib.ListN.{length, take, drop};
 ghost use Rattle.text.specs.Buffer.{Wrote};
+ghost use Rattle.text.specs.Bytes.{newline};
+ghost use Rattle.text.specs.Parts.{countBefore};
 ghost use Rattle.lines.specs.Reading.{longestLine};
 ghost use Rattle.lines.specs.Texts.{longestAnswer};
-ghost use Rattle.lines.specs.Stream.{texts, lastLine, answered, size, cutOff, carried};
-ghost use Rattle.lines.specs.Output.{lineTexts};
-
-const LONGEST_ANSWER: usize = 64;
+ghost use Rattle.blocks.specs.Stream.{texts, linesOf};
+ghost use Rattle.blocks.specs.Turns.{answered, size, cutOff, carried};
+ghost use Rattle.blocks.specs.Output.{lineTexts};
 
 pub struct Progress {
     pub read: usize,
@@ -89,8 +91,8 @@ pub fn answer_turn(buffer: &mut [u8], held: usize, out: &mut [u8]) -> Turn
 }
 
 pub fn answer_last(held: &[u8], out: &mut [u8]) -> usize
-    requires { ⌜ longestAnswer ≤ length (now out) ⌝ }
-    ensures { λ r. ⌜ Wrote (texts lineTexts (lastLine (now (held .entry)))) 0 (now (out .entry)) (now (out .exit)) r ⌝ }
+    requires { ⌜ (longestAnswer ≤ length (now out)) × (countBefore newline (now held) ≡ length (now held)) ⌝ }
+    ensures { λ r. ⌜ Wrote (texts lineTexts (linesOf (now (held .entry)))) 0 (now (out .entry)) (now (out .exit)) r ⌝ }
     ensures { λ r. ⌜ r ≤ length (now (out .entry)) ⌝ }
 {
     if held.len() == 0 {

@@ -5,12 +5,14 @@
 use Prim.Native.Nat.{ℕ}
 use mathlib.Core.Path.{_≡_}
 use mathlib.Core.List.{List, []}
 use Rattle.lines.specs.Reading as reading
 use Rattle.lines.specs.Texts.{longestAnswer, lineText}
-use Rattle.lines.specs.Stream.{LineTexts, outputOf, Run}
+use Rattle.blocks.specs.Stream.{LineTexts, outputOf}
+use Rattle.blocks.specs.Runs.{Run, joinedPieces}
 
 abbrev pub lineTexts : LineTexts
 lineTexts = record { text = lineText; longestText = longestAnswer; longestLine = reading.longestLine }
 
 abbrev pub OutputOfAnyPieces : Type 0
-OutputOfAnyPieces = (room : ℕ) (input out : List ℕ) → Run lineTexts room [] input out → out ≡ outputOf lineTexts input
+OutputOfAnyPieces =
+    (room : ℕ) (pieces : List (List ℕ)) (out : List ℕ) → Run lineTexts room [] pieces out → out ≡ outputOf lineTexts (joinedPieces pieces)

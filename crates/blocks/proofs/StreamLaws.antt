@@ -1,9 +1,10 @@
--- An input answered line by line (specs/Stream).
+-- An input answered line by line, a turn at a time (specs/Stream, specs/Turns).
+--   firstLine, afterFirst        the bytes before the first newline, and those after it
 --   none-left, full, next-line   what a turn answers: no whole line is left, no room is left, a line and the rest
 --   texts-append, size-append    the texts and the size of lines in two stretches
 --   turn-law     a turn prints the texts of some lines, and what it carries over stands for the rest
---   any-pieces   the theorem
---   nothing-left where there is room and nothing is printed, no whole line is left
+--   linesOf-last where no newline is held, the lines are the last one
+--   nothing-left, carried-newline   where there is room and nothing is printed, no whole line is left, and none is carried over
 -- Assumes nothing.
 use mathlib.Core.Path.{_≡_, refl, sym, ap, _∙_}
 use mathlib.Core.Bool.{Bool, true, false, cond}
@@ -20,7 +21,9 @@ use borrow.Author.Tests.{lt-ltb, le-ltb, ne-eqb}
 use Rattle.text.specs.Bytes.{newline}
 use Rattle.text.specs.Parts.{parts, countBefore, onFirst}
 use Rattle.text.proofs.PartsLaws.{countBefore-le, parts-one, parts-more}
-use Rattle.lines.specs.Stream.{LineTexts, texts, lastLine, withoutEmptyLast, linesOf, outputOf, whole, fitting, answered, size, cutOff, carried, Run, feed, turn, end, TooLongAlike, AnyPieces}
+use Rattle.blocks.specs.Stream.{LineTexts, texts, lastLine, withoutEmptyLast, linesOf, outputOf}
+use Rattle.blocks.specs.Turns.{endedParts, fitting, answered, size, cutOff, carried}
+use Rattle.blocks.specs.Runs.{TooLongAlike}
 
 -- of the bytes: those before the first newline, and those after it
 abbrev pub firstLine : List ℕ → List ℕ
@@ -29,9 +32,9 @@ firstLine bs = take (countBefore newline bs) bs
 abbrev pub afterFirst : List ℕ → List ℕ
 afterFirst bs = drop (suc (countBefore newline bs)) bs
 
-whole-cons : (l bs : List ℕ) → whole (l ∷ parts newline bs) ≡ l ∷ whole (parts newline bs)
-unfolding whole
-whole-cons l bs = ⊎-elim (λ e. rw (parts-one newline bs e)) (λ h. rw (parts-more newline bs h)) (eq-or-lt-of-le (countBefore-le newline bs))
+endedParts-cons : (l bs : List ℕ) → endedParts (l ∷ parts newline bs) ≡ l ∷ endedParts (parts newline bs)
+unfolding endedParts
+endedParts-cons l bs = ⊎-elim (λ e. rw (parts-one newline bs e)) (λ h. rw (parts-more newline bs h)) (eq-or-lt-of-le (countBefore-le newline bs))
 
 withoutEmptyLast-cons : (l bs : List ℕ) → withoutEmptyLast (l ∷ parts newline bs) ≡ l ∷ withoutEmptyLast (parts newline bs)
 unfolding withoutEmptyLast
@@ -74,14 +77,18 @@ parts-front (b ∷ r) f p ps h e = go (eqb b newline) h (λ k. parts-front r f p
     go true h k = absurd (omega arith)
     go false h k = ap (onFirst b) (k (omega arith))
 
+pub linesOf-last : (held : List ℕ) → countBefore newline held ≡ length held → linesOf held ≡ lastLine held
+unfolding withoutEmptyLast linesOf
+linesOf-last held h = ap withoutEmptyLast (parts-one newline held h)
+
 module _ (t : LineTexts) where
   pub none-left : (room : ℕ) (bs : List ℕ) → countBefore newline bs ≡ length bs → answered t room bs ≡ []
-  unfolding answered whole fitting
+  unfolding answered endedParts fitting
   none-left room bs e = rw (parts-one newline bs e)
 
   pub full : (room : ℕ) (bs : List ℕ) → room < t .longestText → answered t room bs ≡ []
   unfolding answered fitting
-  full room bs h = by-lines (whole (parts newline bs))
+  full room bs h = by-lines (endedParts (parts newline bs))
     where
       by-lines : (ls : List (List ℕ)) → fitting t room ls ≡ []
       by-lines [] = refl
@@ -90,7 +97,7 @@ module _ (t : LineTexts) where
   pub next-line : (room : ℕ) (bs : List ℕ) → t .longestText ≤ room → countBefore newline bs < length bs
       → answered t room bs ≡ firstLine bs ∷ answered t (room - length (t .text (firstLine bs))) (afterFirst bs)
   unfolding answered fitting
-  next-line room bs h l = rw (parts-more newline bs l, whole-cons (firstLine bs) (afterFirst bs), le-ltb room (t .longestText) h)
+  next-line room bs h l = rw (parts-more newline bs l, endedParts-cons (firstLine bs) (afterFirst bs), le-ltb room (t .longestText) h)
 
   pub texts-append : (a b : List (List ℕ)) → texts t (a ++ b) ≡ texts t a ++ texts t b
   unfolding texts
@@ -168,12 +175,6 @@ module _ (t : LineTexts) where
         lines-law (length held) room held f (omega arith)
         ∙ ap (λ (x : List ℕ). texts t (answered t room held) ++ x) (cut-law (drop (size (answered t room held)) held) f)
 
-    run-law : {room : ℕ} {held rest out : List ℕ} → Run t room held rest out → out ≡ outputOf t (held ++ rest)
-    unfolding withoutEmptyLast linesOf outputOf
-    run-law (feed held piece rest out r) = run-law r ∙ ap (outputOf t) (append-assoc held piece rest)
-    run-law {room = room} (turn held rest out r) = ap (λ (x : List ℕ). texts t (answered t room held) ++ x) (run-law r) ∙ sym (turn-law room held rest)
-    run-law (end held h) = sym (ap (λ (ps : List (List ℕ)). texts t (withoutEmptyLast ps)) (parts-one newline held h)) ∙ ap (outputOf t) (sym (append-nil held))
-
   pub nothing-left : (room : ℕ) (held : List ℕ) → ((l : List ℕ) → 0 < length (t .text l)) → t .longestText ≤ room → length (texts t (answered t room held)) ≡ 0 → countBefore newline held ≡ length held
   unfolding texts
   nothing-left room held some h e =
@@ -185,5 +186,7 @@ module _ (t : LineTexts) where
       by : countBefore newline held < length held → length (texts t (answered t room held)) ≡ length (t .text (firstLine held) ++ texts t rest) → ⊥
       by l n = omega (arith, some (firstLine held), length-append (t .text (firstLine held)) (texts t rest))
 
-pub any-pieces : AnyPieces
-any-pieces t alike room input out r = run-law t alike r
+  pub carried-newline : (room : ℕ) (held : List ℕ) → countBefore newline held ≡ length held → countBefore newline (carried t room held) ≡ length (carried t room held)
+  unfolding size cutOff carried
+  carried-newline room held h =
+      rw (none-left room held h, le-ltb (countBefore newline held) (length held) (omega arith)) (no-newline (suc (t .longestLine)) held h)

@@ -1,11 +1,11 @@
 use native.Mathlib.Omega.{arith}
-use Rattle.lines.specs.Output.{lineTexts}
-use Rattle.lines.proofs.BlockLaws.{cut-short, cut-line, cut-long}
+use Rattle.blocks.specs.Output.{lineTexts}
+use Rattle.blocks.proofs.BlockLaws.{cut-short, cut-line, cut-long}
 use borrow.Author.Needs.{needs}
-use Rattle.lines.proofs.block.carried_length.Statement.{statement}
-use Rattle.lines.proofs.block.carried_length.Tie as tie
-use Rattle.lines.proofs.block.carried_length.Reads as reads
-use Rattle.lines.proofs.block.carried_length.Lts as lts
+use Rattle.blocks.proofs.carried_length.Statement.{statement}
+use Rattle.blocks.proofs.carried_length.Tie as tie
+use Rattle.blocks.proofs.carried_length.Reads as reads
+use Rattle.blocks.proofs.carried_length.Lts as lts
 use Rattle.text.proofs.parts.find.Reads as find-reads
 
 -- src/block.rt:46:13

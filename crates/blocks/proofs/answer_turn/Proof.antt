@@ -4,19 +4,19 @@ use Prim.Native.Nat.{ℕ, _-_, _≤_}
 use native.Mathlib.Omega.{arith}
 use lib.ListN.{length, take, drop}
 use lib.Seq.{length-take-le}
-use Rattle.lines.specs.Stream.{cutOff, carried}
-use Rattle.lines.specs.Output.{lineTexts}
+use Rattle.blocks.specs.Turns.{cutOff, carried}
+use Rattle.blocks.specs.Output.{lineTexts}
 use Rattle.lines.proofs.TextsLaws.{lineText-pos}
-use Rattle.lines.proofs.StreamLaws.{nothing-left}
-use Rattle.lines.proofs.BlockLaws.{carried-is, carried-le, carried-moved, carried-short}
+use Rattle.blocks.proofs.StreamLaws.{nothing-left}
+use Rattle.blocks.proofs.BlockLaws.{carried-is, carried-le, carried-moved, carried-short}
 use borrow.Author.Needs.{needs}
-use Rattle.lines.proofs.block.answer_turn.Statement.{statement}
-use Rattle.lines.proofs.block.answer_turn.Tie as tie
-use Rattle.lines.proofs.block.answer_turn.Reads as reads
-use Rattle.lines.proofs.block.answer_turn.Lts as lts
-use Rattle.lines.proofs.block.answer_block.Reads as answer-block-reads
-use Rattle.lines.proofs.block.carried_length.Reads as carried-length-reads
-use Rattle.lines.proofs.block.move_to_start.Reads as move-to-start-reads
+use Rattle.blocks.proofs.answer_turn.Statement.{statement}
+use Rattle.blocks.proofs.answer_turn.Tie as tie
+use Rattle.blocks.proofs.answer_turn.Reads as reads
+use Rattle.blocks.proofs.answer_turn.Lts as lts
+use Rattle.blocks.proofs.answer_block.Reads as answer-block-reads
+use Rattle.blocks.proofs.carried_length.Reads as carried-length-reads
+use Rattle.blocks.proofs.move_to_start.Reads as move-to-start-reads
 
 -- src/block.rt:81:33
 slice-reshare-prefix-answer-block : tie.Need-slice-reshare-prefix-answer-block

@@ -3,12 +3,12 @@ use mathlib.Core.List.{_++_}
 use Prim.Native.Nat.{_-_, _≤_}
 use native.Mathlib.Omega.{arith}
 use lib.ListN.{length, take, drop, length-set}
-use Rattle.lines.proofs.BlockLaws.{moved}
+use Rattle.blocks.proofs.BlockLaws.{moved}
 use borrow.Author.Needs.{needs}
-use Rattle.lines.proofs.block.move_to_start.Statement.{statement}
-use Rattle.lines.proofs.block.move_to_start.Tie as tie
-use Rattle.lines.proofs.block.move_to_start.Reads as reads
-use Rattle.lines.proofs.block.move_to_start.Lts as lts
+use Rattle.blocks.proofs.move_to_start.Statement.{statement}
+use Rattle.blocks.proofs.move_to_start.Tie as tie
+use Rattle.blocks.proofs.move_to_start.Reads as reads
+use Rattle.blocks.proofs.move_to_start.Lts as lts
 
 abbrev Inv-loop : tie.InvT-loop
 Inv-loop buffer₀ from n i₀ buffer i = (i ≤ n) × (length buffer ≡ length buffer₀) × (buffer ≡ take i (drop from buffer₀) ++ drop i buffer₀)
