@@ -2,3 +2,4 @@
 pub mod DigitsLaws
 pub mod FieldsLaws
 pub mod TextsLaws
+pub mod Laws
