@@ -18,8 +18,8 @@ use Rattle.lines.specs.declared.read.LineRead.the-variants as LineRead
 use Rattle.lines.specs.Fields.{layout, spelled, number, oneOf, letter, fieldAs, valuesOf}
 use Rattle.lines.specs.Reading.{caseOf, readValues, readLine}
 use Rattle.lines.specs.Texts.{refusalText, textOf, lineText}
-use Rattle.lines.specs.Stream.{texts, lastLine, withoutEmptyLast, linesOf, outputOf}
-use Rattle.lines.specs.Output.{lineTexts}
+use Rattle.blocks.specs.Stream.{texts, lastLine, withoutEmptyLast, linesOf, outputOf}
+use Rattle.blocks.specs.Output.{lineTexts}
 use Rattle.lines.proofs.TextsLaws.{lineText-refused, lineText-case}
 use Rattle.marehour.specs.Boundary.{printedLine, printedAnswer, addedFigures, boundaryFigures}
 

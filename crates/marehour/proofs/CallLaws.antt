@@ -1,7 +1,7 @@
 -- The calls of a host in C (specs/Calls): what a number is in 32 bits, and the reply by what was found.
 --   minus-fits, minus-is     minus a refusal's number
 --   handed-back              a number that another function handed back
---   caseReply-graded, caseReply-refused     the reply to a case
+--   answerReply-graded, answerReply-refused     the reply to a case
 --   countReply-found, countReply-refused    the reply to the lanes question
 --   wrote-reply, refused-reply, same-reply   the result and the buffer, by what was done
 --   inBuffer-short, inBuffer-fits   by the buffer's length
@@ -24,7 +24,7 @@ use Rattle.numbers.proofs.ChoiceLaws.{cond-pos, cond-cases}
 use Rattle.text.specs.Bytes.{newline}
 use Rattle.text.specs.Decimal.{decimal}
 use Rattle.text.specs.Buffer.{Wrote}
-use Rattle.text.proofs.WritingLaws.{decimal-small, first-byte, then-byte, front}
+use Rattle.text.proofs.WritingLaws.{decimal-small, first-byte, then-byte}
 use Rattle.method.specs.declared.case.Case.{Case}
 use Rattle.method.specs.Refusals.{firstRefusal, refusal}
 use Rattle.answer.specs.declared.evaluate.Grade.{Grade}
@@ -37,7 +37,7 @@ use Rattle.answer.specs.Answers.{graded, answerTo}
 use Rattle.answer.specs.Lanes as lanes
 use Rattle.answer.specs.Lanes.{lanesFound, lanesRefusals, lanesAnswer}
 use Rattle.lines.specs.Texts.{answerText, longestAnswer}
-use Rattle.marehour.specs.Calls.{Reply, bytes, refusal as refusalReply, replyBy, caseReply, countText, countReply, inBuffer, result, content}
+use Rattle.marehour.specs.Calls.{Reply, bytes, refusal as refusalReply, answerReply, countText, countReply, inBuffer, result, content}
 
 -- ---- numbers in 32 bits
 small : (n : ℕ) → n ≤ 90000 → n < 2147483648
@@ -63,25 +63,25 @@ pub positive-fits : (n : ℕ) → n ≤ 90000 → SFits w32 (pos n)
 positive-fits n h = record { sfits = small n h }
 
 -- ---- a case
-pub caseReply-graded : (case : Case) (g : Grade) → answerTo case ≡ Answer.Graded g → caseReply case ≡ bytes (answerText (Answer.Graded g))
-caseReply-graded case g e = ap (λ a. replyBy (answers.refusalNumber a) (answerText a)) e
+pub answerReply-graded : (case : Case) (g : Grade) → answerTo case ≡ Answer.Graded g → answerReply (answerTo case) ≡ bytes (answerText (Answer.Graded g))
+answerReply-graded case g e = ap answerReply e
 
-pub caseReply-refused : (case : Case) (n : ℕ) → answerTo case ≡ Answer.Refused n → caseReply case ≡ refusalReply n
-caseReply-refused case n e =
+pub answerReply-refused : (case : Case) (n : ℕ) → answerTo case ≡ Answer.Refused n → answerReply (answerTo case) ≡ refusalReply n
+answerReply-refused case n e =
     ⊎-elim (λ z. absurd (omega (arith, ap (λ a. length (answers.values a)) (sym (z .1) ∙ e))))
-    (λ p. ap (λ a. replyBy (answers.refusalNumber a) (answerText a)) e
+    (λ p. ap answerReply e
     ∙ cond-pos n (bytes (answerText (Answer.Refused n))) (refusalReply n) (omega (arith, p .0, ap answers.refusalNumber (sym (p .1) ∙ e))))
     (cond-cases (refusal case) (Answer.Graded (graded case)) (Answer.Refused (refusal case)))
 
 -- ---- the lanes question
-pub countReply-found : (case : Case) (letter count : ℕ) → lanesAnswer case letter ≡ LanesAnswer.Lanes count → countReply case letter ≡ bytes (countText (count ∷ []))
-countReply-found case letter count e = ap (λ a. replyBy (lanes.refusalNumber a) (countText (lanes.values a))) e
+pub countReply-found : (case : Case) (letter count : ℕ) → lanesAnswer case letter ≡ LanesAnswer.Lanes count → countReply (lanesAnswer case letter) ≡ bytes (countText (count ∷ []))
+countReply-found case letter count e = ap countReply e
 
-pub countReply-refused : (case : Case) (letter n : ℕ) → lanesAnswer case letter ≡ LanesAnswer.Refused n → countReply case letter ≡ refusalReply n
+pub countReply-refused : (case : Case) (letter n : ℕ) → lanesAnswer case letter ≡ LanesAnswer.Refused n → countReply (lanesAnswer case letter) ≡ refusalReply n
 countReply-refused case letter n e =
     let number : ℕ = firstRefusal (lanesRefusals case letter) in
     ⊎-elim (λ z. absurd (omega (arith, ap (λ a. length (lanes.values a)) (sym (z .1) ∙ e))))
-    (λ p. ap (λ a. replyBy (lanes.refusalNumber a) (countText (lanes.values a))) e
+    (λ p. ap countReply e
     ∙ cond-pos n (bytes (countText [])) (refusalReply n) (omega (arith, p .0, ap lanes.refusalNumber (sym (p .1) ∙ e))))
     (cond-cases number (LanesAnswer.Lanes (lanesFound case letter)) (LanesAnswer.Refused number))
 
@@ -90,7 +90,7 @@ pub wrote-reply : (bs old new : List ℕ) (n : ℕ) (r : Reply) → length bs �
 wrote-reply bs old new n r h w e =
     let k : n ≡ length bs = w .ends ∙ omega arith in (
       positive-is n (omega arith) ∙ ap pos k ∙ sym (ap result e),
-      w .content ∙ front bs old ∙ sym (ap (λ x. content x old) e),
+      w .content ∙ sym (ap (λ x. content x old) e),
     )
 
 pub refused-reply : (z : ℤ) (n : ℕ) (r : Reply) (old : List ℕ) → n ≤ 99 → z ≡ negℤ (pos n) → r ≡ refusalReply n → (toZ w32 (ofZ w32 z) ≡ result r) × (old ≡ content r old)

@@ -1,6 +1,6 @@
 -- The boundary sections of document 01: one list, those of the layers below with what this layer adds.
 --   printedLine           the line of document 01
---   printedLineWith v     the same with another demand
+--   printedLineWith v t   the same with another demand and another terrain
 --   printedAnswer         what `los` prints for it
 --   addedFigures          what this layer adds
 --   boundaryFigures       the list
@@ -13,15 +13,15 @@ use Rattle.answer.specs.Boundary as answer
 use Rattle.survey.specs.Boundary.{surveyFigures}
 use Rattle.lines.specs.Reading.{readLine, refusalNumber}
 use Rattle.lines.specs.Texts.{lineText}
-use Rattle.lines.specs.Stream.{outputOf}
-use Rattle.lines.specs.Output.{lineTexts}
+use Rattle.blocks.specs.Stream.{outputOf}
+use Rattle.blocks.specs.Output.{lineTexts}
 
--- tabs as blanks: F E 75400 110 20 0 D 24 2 V 920 50 R
-abbrev pub printedLineWith : String → String
-printedLineWith demand = "F\tE\t75400\t110\t20\t0\tD\t24\t2\t" then (demand then "\t920\t50\tR")
+-- tabs as blanks: F E 75400 110 20 0 D 24 2 V 920 50, and the terrain
+abbrev pub printedLineWith : String → String → String
+printedLineWith demand terrain = "F\tE\t75400\t110\t20\t0\tD\t24\t2\t" then (demand then ("\t920\t50\t" then terrain))
 
 abbrev pub printedLine : String
-printedLine = printedLineWith "2000"
+printedLine = printedLineWith "2000" "R"
 
 abbrev pub printedAnswer : String
 printedAnswer = "C\t60783\t230783\t1196\t60783\t197\t1117\t1829\t2642\t3360\t3858\n"
@@ -33,11 +33,11 @@ addedFigures =
     figure (lineText (bytesOf printedLine)) (bytesOf printedAnswer)
     ∷ figure (outputOf lineTexts (bytesOf ("\n" then (printedLine then "\nF")))) (bytesOf ("X\t15\n" then (printedAnswer then "X\t15\n")))
     ∷ figure (outputOf lineTexts (bytesOf "")) (bytesOf "")
-    ∷ figure (refusalNumber (readLine (bytesOf (printedLineWith "02000"))) ∷ []) (15 ∷ [])
-    ∷ figure (refusalNumber (readLine (bytesOf (printedLineWith "100000"))) ∷ []) (15 ∷ [])
-    ∷ figure (refusalNumber (readLine (bytesOf (printedLineWith ""))) ∷ []) (15 ∷ [])
+    ∷ figure (refusalNumber (readLine (bytesOf (printedLineWith "02000" "R"))) ∷ []) (15 ∷ [])
+    ∷ figure (refusalNumber (readLine (bytesOf (printedLineWith "100000" "R"))) ∷ []) (15 ∷ [])
+    ∷ figure (refusalNumber (readLine (bytesOf (printedLineWith "" "R"))) ∷ []) (15 ∷ [])
     ∷ figure (refusalNumber (readLine (bytesOf (printedLine then "\t"))) ∷ []) (15 ∷ [])
-    ∷ figure (refusalNumber (readLine (bytesOf (printedLine then "r"))) ∷ []) (15 ∷ [])
+    ∷ figure (refusalNumber (readLine (bytesOf (printedLineWith "2000" "M"))) ∷ []) (15 ∷ [])
     ∷ []
 
 abbrev pub boundaryFigures : List Figure

@@ -5,7 +5,7 @@ use Rattle.answer.proofs.Laws.{refusals-within-ends}
 use Rattle.answer.specs.Answers.{refusalNumber}
 use Rattle.lines.specs.Texts.{answerText}
 use Rattle.lines.proofs.TextsLaws.{answerText-le}
-use Rattle.marehour.proofs.CallLaws.{positive-fits, refused-reply, caseReply-graded, caseReply-refused, wrote-reply}
+use Rattle.marehour.proofs.CallLaws.{positive-fits, refused-reply, answerReply-graded, answerReply-refused, wrote-reply}
 use borrow.Author.Needs.{needs}
 use Rattle.marehour.proofs.calls.answer_case.Statement.{statement}
 use Rattle.marehour.proofs.calls.answer_case.Tie as tie
@@ -53,13 +53,13 @@ same-length c = search needs
 returns : tie.Need-returns
 returns c =
     let e = sym (c .before .before .before .before .before .before .before .evaluate .ensures) ∙ c .before .before .before .before .before .found .given .1 in
-    wrote-reply _ _ _ _ _ (omega (arith, answerText-le (c .before .before .before .before .before .before .before .before .before .args .case), ap (λ a. length (answerText a)) e)) (c .before .before .write-grade .ensures) (caseReply-graded (c .before .before .before .before .before .before .before .before .before .args .case) _ e)
+    wrote-reply _ _ _ _ _ (omega (arith, answerText-le (c .before .before .before .before .before .before .before .before .before .args .case), ap (λ a. length (answerText a)) e)) (c .before .before .write-grade .ensures) (answerReply-graded (c .before .before .before .before .before .before .before .before .before .args .case) _ e)
 
 -- src/calls.rt:31:1
 returns-2 : tie.Need-returns-2
 returns-2 c =
     let e = sym (c .before .before .before .before .evaluate .ensures) ∙ c .before .before .found2 .given .1 in
-    refused-reply (c .refused .result) _ _ _ (omega (arith, refusals-within-ends (c .before .before .before .before .before .before .args .case) 1 .0, ap refusalNumber e)) (c .refused .ensures) (caseReply-refused (c .before .before .before .before .before .before .args .case) _ e)
+    refused-reply (c .refused .result) _ _ _ (omega (arith, refusals-within-ends (c .before .before .before .before .before .before .args .case) 1 .0, ap refusalNumber e)) (c .refused .ensures) (answerReply-refused (c .before .before .before .before .before .before .args .case) _ e)
 
 pub answer-case-spec : {M : Type 1} → statement M
 answer-case-spec =

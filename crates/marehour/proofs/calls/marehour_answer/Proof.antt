@@ -1,9 +1,10 @@
 use mathlib.Core.Path.{sym, ap, _∙_}
 use native.Mathlib.Omega.{arith}
 use lib.ListN.{length}
-use Rattle.lines.specs.Reading.{readLine}
+use Rattle.answer.specs.declared.evaluate.Answer.the-variants as Answer
+use Rattle.lines.specs.Texts.{answerOf, lineAnswer}
 use Rattle.lines.proofs.TextsLaws.{readLine-refused}
-use Rattle.marehour.specs.Calls.{refusal, answerByRead}
+use Rattle.marehour.specs.Calls.{answerReply}
 use Rattle.marehour.proofs.CallLaws.{refused-reply, same-reply, inBuffer-short, inBuffer-fits}
 use borrow.Author.Needs.{needs}
 use Rattle.marehour.proofs.calls.marehour_answer.Statement.{statement}
@@ -22,7 +23,7 @@ refused-requires c κs = search needs
 returns : tie.Need-returns
 returns c =
     let a = c .before .before .before .before .args in
-    refused-reply (c .refused .result) 17 _ (a .answer .now) (omega arith) (c .refused .ensures) (inBuffer-short (length (a .answer .now)) (answerByRead (readLine (a .line .now))) (c .before .if1 .taken))
+    refused-reply (c .refused .result) 17 _ (a .answer .now) (omega arith) (c .refused .ensures) (inBuffer-short (length (a .answer .now)) (answerReply (lineAnswer (a .line .now))) (c .before .if1 .taken))
 
 -- src/calls.rt:67:9
 read-line-requires : tie.Need-read-line-requires
@@ -46,7 +47,7 @@ returns-2 c =
     let a = c .before .before .before .before .before .before .before .args in
     let e = sym (c .before .before .before .read-line .ensures) ∙ c .before .enum-told .given .1 in
     refused-reply (c .refused2 .result) 15 _ (a .answer .now) (omega arith) (c .refused2 .ensures)
-    (inBuffer-fits (length (a .answer .now)) (answerByRead (readLine (a .line .now))) (c .before .before .before .before .if1 .left) ∙ ap (λ r. answerByRead r) e ∙ ap refusal (readLine-refused (a .line .now) _ e))
+    (inBuffer-fits (length (a .answer .now)) (answerReply (lineAnswer (a .line .now))) (c .before .before .before .before .if1 .left) ∙ ap (λ r. answerReply (answerOf r)) e ∙ ap (λ n. answerReply (Answer.Refused n)) (readLine-refused (a .line .now) _ e))
 
 -- src/calls.rt:71:5
 answer-case-requires : tie.Need-answer-case-requires
@@ -63,7 +64,7 @@ returns-3 c =
     let e = sym (c .before .before .before .before .before .before .before .read-line .ensures) ∙ c .before .before .before .before .before .reading .given .1 in
     let s = c .before .before .answer-case in
     same-reply (s .result) _ _ (a .answer .now) _ (search needs) (s .ensures .0) (s .ensures .1)
-    (inBuffer-fits (length (a .answer .now)) (answerByRead (readLine (a .line .now))) (c .before .before .before .before .before .before .before .before .if1 .left) ∙ ap (λ r. answerByRead r) e)
+    (inBuffer-fits (length (a .answer .now)) (answerReply (lineAnswer (a .line .now))) (c .before .before .before .before .before .before .before .before .if1 .left) ∙ ap (λ r. answerReply (answerOf r)) e)
 
 pub marehour-answer-spec : {M : Type 1} → statement M
 marehour-answer-spec =

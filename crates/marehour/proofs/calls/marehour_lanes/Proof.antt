@@ -3,7 +3,8 @@ use native.Mathlib.Omega.{arith}
 use lib.ListN.{length}
 use Rattle.lines.specs.Reading.{readLine}
 use Rattle.lines.proofs.TextsLaws.{readLine-refused}
-use Rattle.marehour.specs.Calls.{refusal, lanesByRead}
+use Rattle.answer.specs.declared.lanes.LanesAnswer.the-variants as LanesAnswer
+use Rattle.marehour.specs.Calls.{countReply, lanesOf}
 use Rattle.marehour.proofs.CallLaws.{refused-reply, same-reply, inBuffer-short, inBuffer-fits}
 use borrow.Author.Needs.{needs}
 use Rattle.marehour.proofs.calls.marehour_lanes.Statement.{statement}
@@ -22,7 +23,7 @@ refused-requires c κs = search needs
 returns : tie.Need-returns
 returns c =
     let a = c .before .before .before .before .args in
-    refused-reply (c .refused .result) 17 _ (a .answer .now) (omega arith) (c .refused .ensures) (inBuffer-short (length (a .answer .now)) (lanesByRead (readLine (a .line .now)) (a .letter)) (c .before .if1 .taken))
+    refused-reply (c .refused .result) 17 _ (a .answer .now) (omega arith) (c .refused .ensures) (inBuffer-short (length (a .answer .now)) (countReply (lanesOf (readLine (a .line .now)) (a .letter))) (c .before .if1 .taken))
 
 -- src/calls.rt:82:9
 read-line-requires : tie.Need-read-line-requires
@@ -46,7 +47,7 @@ returns-2 c =
     let a = c .before .before .before .before .before .before .before .args in
     let e = sym (c .before .before .before .read-line .ensures) ∙ c .before .enum-told .given .1 in
     refused-reply (c .refused2 .result) 15 _ (a .answer .now) (omega arith) (c .refused2 .ensures)
-    (inBuffer-fits (length (a .answer .now)) (lanesByRead (readLine (a .line .now)) (a .letter)) (c .before .before .before .before .if1 .left) ∙ ap (λ r. lanesByRead r (a .letter)) e ∙ ap refusal (readLine-refused (a .line .now) _ e))
+    (inBuffer-fits (length (a .answer .now)) (countReply (lanesOf (readLine (a .line .now)) (a .letter))) (c .before .before .before .before .if1 .left) ∙ ap (λ r. countReply (lanesOf r (a .letter))) e ∙ ap (λ n. countReply (LanesAnswer.Refused n)) (readLine-refused (a .line .now) _ e))
 
 -- src/calls.rt:86:5
 lanes-case-requires : tie.Need-lanes-case-requires
@@ -63,7 +64,7 @@ returns-3 c =
     let e = sym (c .before .before .before .before .before .before .before .read-line .ensures) ∙ c .before .before .before .before .before .asked .given .1 in
     let s = c .before .before .lanes-case in
     same-reply (s .result) _ _ (a .answer .now) _ (search needs) (s .ensures .0) (s .ensures .1)
-    (inBuffer-fits (length (a .answer .now)) (lanesByRead (readLine (a .line .now)) (a .letter)) (c .before .before .before .before .before .before .before .before .if1 .left) ∙ ap (λ r. lanesByRead r (a .letter)) e)
+    (inBuffer-fits (length (a .answer .now)) (countReply (lanesOf (readLine (a .line .now)) (a .letter))) (c .before .before .before .before .before .before .before .before .if1 .left) ∙ ap (λ r. countReply (lanesOf r (a .letter))) e)
 
 pub marehour-lanes-spec : {M : Type 1} → statement M
 marehour-lanes-spec =
