@@ -150,10 +150,12 @@ among P (x ∷ ls) b a t = go (eqb x b) refl t (λ h. among P ls b (a .1) h)
 case-values : (vs : List ℕ) → Fits layout vs → values (LineRead.Case (caseOf vs)) ≡ vs
 unfolding layout caseOf
 case-values vs f =
-    rw (among (λ b. kindByte (kindOf b) ≡ b) (bytesOf "FM") (getD vs 0 0) (refl, (refl, tt)) (f .1 0 (omega arith)),
-    among (λ b. wayByte (wayOf b) ≡ b) (bytesOf "EG") (getD vs 1 0) (refl, (refl, tt)) (f .1 1 (omega arith)),
-    among (λ b. medianByte (medianOf b) ≡ b) (bytesOf "UDT") (getD vs 6 0) (refl, (refl, (refl, tt))) (f .1 6 (omega arith)),
-    among (λ b. terrainByte (terrainOf b) ≡ b) (bytesOf "LR") (getD vs 12 0) (refl, (refl, tt)) (f .1 12 (omega arith)))
+    rw (
+      among (λ b. kindByte (kindOf b) ≡ b) (bytesOf "FM") (getD vs 0 0) (refl, (refl, tt)) (f .1 0 (omega arith)),
+      among (λ b. wayByte (wayOf b) ≡ b) (bytesOf "EG") (getD vs 1 0) (refl, (refl, tt)) (f .1 1 (omega arith)),
+      among (λ b. medianByte (medianOf b) ≡ b) (bytesOf "UDT") (getD vs 6 0) (refl, (refl, (refl, tt))) (f .1 6 (omega arith)),
+      among (λ b. terrainByte (terrainOf b) ≡ b) (bytesOf "LR") (getD vs 12 0) (refl, (refl, tt)) (f .1 12 (omega arith)),
+    )
     (sym (drop-entries 13 0 vs (omega (arith, f .0))))
 
 pub values-are-the-fields : ValuesAreTheFields

@@ -1,73 +1,95 @@
 // los: reads lines from standard input and prints one answer a line; a refused line prints X, tab and its number.
-// It follows lines/specs/Stream.Run: a piece is read, whole lines are answered and the rest is carried over, and at the end of the input
-// a last line without newline is answered. It stops quietly when its output is closed.
+// Its steps are those of blocks/specs/Runs.Run: a piece is read behind the bytes held (feed), whole lines are answered and the rest is carried
+// over (turn), and at the end of the input a last line without newline is answered (end). It stops quietly when its output can't be
+// written, and with a message when its input can't be read: half a line is never answered.
+use libc::STDERR_FILENO;
 use libc::STDIN_FILENO;
 use libc::STDOUT_FILENO;
-use lines::block;
-ghost use Prim.Native.Nat.{_≤_, _<_};
-ghost use lib.ListN.{length};
+ghost use mathlib.Core.Path.{_≡_};
+ghost use mathlib.Core.Bool.{true, false};
+ghost use Prim.Native.Nat.{_+_, _≤_, _<_};
+ghost use lib.ListN.{length, take};
+ghost use Rattle.text.specs.Bytes.{newline};
+ghost use Rattle.text.specs.Parts.{countBefore};
+ghost use Rattle.lines.specs.Reading.{longestLine};
+ghost use Rattle.lines.specs.Texts.{longestAnswer};
+ghost use Rattle.blocks.specs.Turns.{carried};
+ghost use Rattle.blocks.specs.Output.{lineTexts};
 
-// After a step: the bytes held, whether to go on, and whether the output is still open.
-struct Progress {
+// After a step: the bytes held, whether there may be more, and whether reading and writing went well.
+struct Step {
     held: usize,
     more: bool,
-    open: bool,
+    sound: bool,
 }
 
-// Reads once behind the bytes held. Nothing more to read is the end of the input, so there has to be room.
-fn read_more(buffer: &mut [u8], held: usize) -> Progress
+// Reads a piece behind the bytes held. There has to be room: nothing read is the end of the input.
+fn read_more(buffer: &mut [u8], held: usize) -> Step
     requires { ⌜ held < length (now buffer) ⌝ }
-    ensures { λ r. ⌜ r .held ≤ length (now (buffer .entry)) ⌝ }
+    ensures { λ r. ⌜ (held ≤ r .held) × (r .held ≤ length (now (buffer .entry))) ⌝ }
+    ensures kept { λ r. ⌜ take held (now (buffer .exit)) ≡ take held (now (buffer .entry)) ⌝ }
+    ensures ended { λ r. ⌜ (r .more ≡ false → r .held ≡ held) ⌝ }
 {
     let part = &mut buffer[held..];
     let got = libc::read(STDIN_FILENO, part);
+    if got < 0 {
+        io::write_all(STDERR_FILENO, b"los: standard input can't be read\n");
+        return Step {
+            held,
+            more: false,
+            sound: false,
+        };
+    }
     let n = io::count(got, part);
-    Progress {
+    Step {
         held: held + n,
         more: 0 < n,
-        open: true,
+        sound: true,
     }
 }
 
 // Answers the whole lines that are held, or reads more where there is none.
-fn step(buffer: &mut [u8], held: usize, out: &mut [u8]) -> Progress
-    requires { ⌜ (held ≤ length (now buffer)) × ((82 ≤ length (now buffer)) × (64 ≤ length (now out))) ⌝ }
+fn advance(buffer: &mut [u8], held: usize, out: &mut [u8]) -> Step
+    requires { ⌜ (held ≤ length (now buffer)) × ((longestLine + 2 ≤ length (now buffer)) × (longestAnswer ≤ length (now out))) ⌝ }
     ensures { λ r. ⌜ r .held ≤ length (now (buffer .entry)) ⌝ }
+    ensures kept { λ r. ⌜ take (length (carried lineTexts (length (now (out .entry))) (take held (now (buffer .entry))))) (take (r .held) (now (buffer .exit))) ≡ carried lineTexts (length (now (out .entry))) (take held (now (buffer .entry))) ⌝ }
+    ensures ended { λ r. ⌜ (r .more ≡ false → r .sound ≡ true → countBefore newline (take (r .held) (now (buffer .exit))) ≡ r .held) ⌝ }
 {
-    let turn = block::answer_turn(buffer, held, out);
+    let turn = blocks::answer_turn(buffer, held, out);
     let written = turn.written;
     if written == 0 {
         return read_more(buffer, turn.carried);
     }
     let open = io::write_all(STDOUT_FILENO, &out[..written]);
-    Progress {
+    Step {
         held: turn.carried,
         more: open,
-        open,
+        sound: open,
     }
 }
 
 fn run(buffer: &mut [u8], out: &mut [u8])
-    requires { ⌜ (82 ≤ length (now buffer)) × (64 ≤ length (now out)) ⌝ }
+    requires { ⌜ (longestLine + 2 ≤ length (now buffer)) × (longestAnswer ≤ length (now out)) ⌝ }
 {
     let mut held = 0;
     let mut more = true;
-    let mut open = true;
+    let mut sound = true;
+    // every loop is proved to end: this one by a count that no input reaches
     let mut steps = u64::MAX;
     while more {
         if steps == 0 {
             return;
         }
-        let s = step(buffer, held, out);
-        held = s.held;
-        more = s.more;
-        open = s.open;
+        let step = advance(buffer, held, out);
+        held = step.held;
+        more = step.more;
+        sound = step.sound;
         steps -= 1;
     }
-    if !open {
+    if !sound {
         return;
     }
-    let written = block::answer_last(&buffer[..held], out);
+    let written = blocks::answer_last(&buffer[..held], out);
     io::write_all(STDOUT_FILENO, &out[..written]);
 }
 

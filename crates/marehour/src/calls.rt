@@ -21,6 +21,8 @@ ghost use Rattle.marehour.specs.Calls.{answerReply, countReply, answerCa
 
 pub const BUFFER_TOO_SHORT: u64 = 17;
 
+const ANSWER_SIZE: usize = LONGEST_ANSWER;
+
 // Minus a refusal's number.
 pub(crate) fn refused(number: u64) -> i32
     requires { ⌜ number ≤ 99 ⌝ }
@@ -62,7 +64,7 @@ pub extern "C" fn marehour_answer(line: &[u8], answer: &mut [u8]) -> i32
     ensures result { λ r. ⌜ r ≡ result (answerCall (now (line .entry)) (length (now (answer .entry)))) ⌝ }
     ensures buffer { λ _. ⌜ now (answer .exit) ≡ content (answerCall (now (line .entry)) (length (now (answer .entry)))) (now (answer .entry)) ⌝ }
 {
-    if answer.len() < LONGEST_ANSWER {
+    if answer.len() < ANSWER_SIZE {
         return refused(BUFFER_TOO_SHORT);
     }
     let reading = read::read_line(line);
@@ -77,7 +79,7 @@ pub extern "C" fn marehour_lanes(line: &[u8], letter: u32, answer: &mut [u8]) ->
     ensures result { λ r. ⌜ r ≡ result (lanesCall (now (line .entry)) letter (length (now (answer .entry)))) ⌝ }
     ensures buffer { λ _. ⌜ now (answer .exit) ≡ content (lanesCall (now (line .entry)) letter (length (now (answer .entry)))) (now (answer .entry)) ⌝ }
 {
-    if answer.len() < LONGEST_ANSWER {
+    if answer.len() < ANSWER_SIZE {
         return refused(BUFFER_TOO_SHORT);
     }
     let asked = read::read_line(line);
