@@ -16,7 +16,8 @@
    A line describes one section: 13 fields parted by single tabs, without a newline at its end.
 
      1  kind: F freeway, M multilane highway
-     2  E: the speed is the base speed, from which F is estimated; G: it is the free-flow speed F itself
+     2  E: the speed is the base speed, from which the free-flow speed is estimated; G: it is the free-flow speed itself, and fields 4
+        to 8 are checked and not used
      3  speed
      4  lane width
      5  right clearance
@@ -83,9 +84,10 @@ enum {
 int32_t marehour_answer(const uint8_t *line, size_t line_length, uint8_t *answer, size_t answer_length);
 /* Answers a section: 11 fields parted by tabs, and a newline.
 
-     letter A to F; F; capacity; flow rate; speed; density; service volumes A to E
+     letter A to F; free-flow speed; capacity; flow rate; speed; density; service volumes A to E
 
-   Above capacity the letter is F, and speed and density are 0. A service volume is the greatest demand from 0 to 99,999 that gets its
+   A free-flow speed above 75,000 (kind F) or 70,000 (kind M) is taken as that end. Flow rate and density are rounded up, speed down; the
+   letter rests on the speed before it is rounded. Above capacity the letter is F, and speed and density are 0. A service volume is the greatest demand from 0 to 99,999 that gets its
    letter or a better one.
 
    The result is the count of bytes written, newline included, at most MAREHOUR_ANSWER_SIZE; or minus the first of these refusals that
@@ -102,7 +104,7 @@ int32_t marehour_answer(const uint8_t *line, size_t line_length, uint8_t *answer
 int32_t marehour_lanes(const uint8_t *line, size_t line_length, uint32_t letter, uint8_t *answer, size_t answer_length);
 /* Answers the least lane count, 2 to 8 on kind F and 2 to 3 on kind M, with which the section gets the letter or a better one, all other
    fields kept: one digit and a newline. The letter is given by its number, MAREHOUR_LETTER_A to MAREHOUR_LETTER_E; any number may be
-   passed. The free-flow speed is estimated anew for each count. A count with which F is below its lower end (10) is passed over, the
+   passed. With E the free-flow speed is estimated anew for each count. A count with which F is below its lower end (10) is passed over, the
    section's own too: 10 is never the result.
 
    The result is 2, the count of bytes written; or minus the first of these refusals that holds, in this order:

@@ -1,7 +1,7 @@
 -- Laws of the answers, stated; proofs/Laws proves them.
 --   figureEnds           the most that each figure of an answer can be
---   FiguresWithinEnds    no figure of an answer is above its end, so that an answer has 62 bytes at most
---   RefusalsWithinEnds   a case is refused with 1 to 10, the lanes question with 1 to 9, 14 or 16
+--   FiguresWithinEnds    no figure of an answer is above its end; the room for an answer rests on it
+--   RefusalsWithinEnds   no refusal of a case has a number above 10, none of the lanes question one above 16
 --   CountsAreDigits      a lane count is one digit
 -- Assumes nothing.
 use mathlib.Core.Path.{_≡_}

@@ -1,7 +1,7 @@
 -- Lines as cases and answers as text (specs/Reading, specs/Texts).
 --   readLine-refused     a line is refused with 15
 --   lineText-refused, lineText-case   what is printed for a refused line, and for a case
---   answerText-le        an answer has at most 64 bytes
+--   refusalText-le, answerText-le, answerText-pos   an answer has at most 64 bytes, and is not empty
 --   lineText-le, lineText-pos   so has what is printed for a line, and it is not empty
 --   lineText-long        lines of more than 80 bytes all get the same
 -- Assumes nothing.
@@ -83,6 +83,9 @@ text-pos : (number : ℕ) (vs : List ℕ) → 0 < length (textOf number vs)
 unfolding refusalText textOf
 text-pos number [] = omega (arith, rowText-length (code "X") (number ∷ []))
 text-pos number (letter ∷ figures) = omega (arith, rowText-length (letterByte letter) figures)
+
+pub answerText-pos : (a : Answer) → 0 < length (answerText a)
+answerText-pos a = text-pos _ _
 
 pub lineText-pos : (bs : List ℕ) → 0 < length (lineText bs)
 unfolding lineText

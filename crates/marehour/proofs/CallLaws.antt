@@ -1,11 +1,12 @@
 -- The calls of a host in C (specs/Calls): what a number is in 32 bits, and the reply by what was found.
 --   minus-fits, minus-is     minus a refusal's number
 --   handed-back              a number that another function handed back
---   answerReply-graded, answerReply-refused     the reply to a case
---   countReply-found, countReply-refused    the reply to the lanes question
+--   positive-is, positive-fits   a count or a speed
+--   refused-pos, answerReply-graded, answerReply-refused     the reply to a case
+--   lanes-refused-pos, countReply-found, countReply-refused   the reply to the lanes question
 --   wrote-reply, refused-reply, same-reply   the result and the buffer, by what was done
 --   inBuffer-short, inBuffer-fits   by the buffer's length
---   count-written            the two bytes of a lane count
+--   count-length, count-pos, count-written   the two bytes of a lane count
 -- Assumes nothing.
 use mathlib.Core.Path.{_≡_, refl, sym, ap, _∙_}
 use mathlib.Core.List.{List, [], _∷_, _++_}
@@ -66,24 +67,28 @@ positive-fits n h = record { sfits = small n h }
 pub answerReply-graded : (case : Case) (g : Grade) → answerTo case ≡ Answer.Graded g → answerReply (answerTo case) ≡ bytes (answerText (Answer.Graded g))
 answerReply-graded case g e = ap answerReply e
 
-pub answerReply-refused : (case : Case) (n : ℕ) → answerTo case ≡ Answer.Refused n → answerReply (answerTo case) ≡ refusalReply n
-answerReply-refused case n e =
+pub refused-pos : (case : Case) (n : ℕ) → answerTo case ≡ Answer.Refused n → 0 < n
+refused-pos case n e =
     ⊎-elim (λ z. absurd (omega (arith, ap (λ a. length (answers.values a)) (sym (z .1) ∙ e))))
-    (λ p. ap answerReply e
-    ∙ cond-pos n (bytes (answerText (Answer.Refused n))) (refusalReply n) (omega (arith, p .0, ap answers.refusalNumber (sym (p .1) ∙ e))))
+    (λ p. omega (arith, p .0, ap answers.refusalNumber (sym (p .1) ∙ e)))
     (cond-cases (refusal case) (Answer.Graded (graded case)) (Answer.Refused (refusal case)))
+
+pub answerReply-refused : (case : Case) (n : ℕ) → answerTo case ≡ Answer.Refused n → answerReply (answerTo case) ≡ refusalReply n
+answerReply-refused case n e = ap answerReply e ∙ cond-pos n (bytes (answerText (Answer.Refused n))) (refusalReply n) (refused-pos case n e)
 
 -- ---- the lanes question
 pub countReply-found : (case : Case) (letter count : ℕ) → lanesAnswer case letter ≡ LanesAnswer.Lanes count → countReply (lanesAnswer case letter) ≡ bytes (countText (count ∷ []))
 countReply-found case letter count e = ap countReply e
 
-pub countReply-refused : (case : Case) (letter n : ℕ) → lanesAnswer case letter ≡ LanesAnswer.Refused n → countReply (lanesAnswer case letter) ≡ refusalReply n
-countReply-refused case letter n e =
+pub lanes-refused-pos : (case : Case) (letter n : ℕ) → lanesAnswer case letter ≡ LanesAnswer.Refused n → 0 < n
+lanes-refused-pos case letter n e =
     let number : ℕ = firstRefusal (lanesRefusals case letter) in
     ⊎-elim (λ z. absurd (omega (arith, ap (λ a. length (lanes.values a)) (sym (z .1) ∙ e))))
-    (λ p. ap countReply e
-    ∙ cond-pos n (bytes (countText [])) (refusalReply n) (omega (arith, p .0, ap lanes.refusalNumber (sym (p .1) ∙ e))))
+    (λ p. omega (arith, p .0, ap lanes.refusalNumber (sym (p .1) ∙ e)))
     (cond-cases number (LanesAnswer.Lanes (lanesFound case letter)) (LanesAnswer.Refused number))
+
+pub countReply-refused : (case : Case) (letter n : ℕ) → lanesAnswer case letter ≡ LanesAnswer.Refused n → countReply (lanesAnswer case letter) ≡ refusalReply n
+countReply-refused case letter n e = ap countReply e ∙ cond-pos n (bytes (countText [])) (refusalReply n) (lanes-refused-pos case letter n e)
 
 -- ---- the buffer
 pub wrote-reply : (bs old new : List ℕ) (n : ℕ) (r : Reply) → length bs ≤ 64 → Wrote bs 0 old new n → r ≡ bytes bs → (toZ w32 n ≡ result r) × (new ≡ content r old)
@@ -109,6 +114,10 @@ inBuffer-fits room r h = rw (le-ltb room longestAnswer h)
 pub count-length : (count : ℕ) → count ≤ 9 → length (countText (count ∷ [])) ≤ 64
 unfolding countText
 count-length count h = rw (decimal-small count (omega arith)) (omega arith)
+
+pub count-pos : (count : ℕ) → count ≤ 9 → 0 < length (countText (count ∷ []))
+unfolding countText
+count-pos count h = rw (decimal-small count (omega arith)) (omega arith)
 
 pub count-written : (count : ℕ) (old : List ℕ) → count ≤ 9 → 64 ≤ length old → Wrote (countText (count ∷ [])) 0 old (set (set old 0 (48 + count)) 1 newline) 2
 unfolding countText

@@ -1,3 +1,4 @@
--- The laws of the definitions in specs/.
+-- The laws of the definitions in specs/, and the boundary sections shown.
 pub mod CallLaws
+pub mod Laws
 pub mod Boundary

@@ -26,7 +26,7 @@ use Rattle.numbers.specs.Fraction.{times, roundedUp}
 use Rattle.survey.specs.declared.SurveyAnswer.{SurveyAnswer}
 use Rattle.survey.specs.declared.SurveyAnswer.the-variants as SurveyAnswer
 use Rattle.survey.specs.Survey.{thousandths, exactValue, roundedIn}
-use Rattle.survey.specs.Scale.{Scale, speedAnswer}
+use Rattle.survey.specs.Units.{UnitFits, speedAnswer}
 use Rattle.survey.proofs.SurveyLaws.{speedAnswer-low, speedAnswer-high, speedAnswer-negative}
 
 -- (p n) (c d) = (p c) (n d)
@@ -116,7 +116,7 @@ module _ (unit : Fraction) where
       by-test true = refl
       by-test false = refl
 
-  module _ (s : Scale unit) where
+  module _ (s : UnitFits unit) where
     -- in units of the least float, 2 ^ 149 of which make 1
     abbrev floorOf : ℕ → ℕ
     floorOf a = a * unit .numerator / (2 ^ 149 * unit .denominator)

@@ -18,8 +18,8 @@ use lib.IntN.{pos, negsuc, negℤ}
 use Rattle.survey.specs.declared.Survey.{Survey}
 use Rattle.survey.specs.declared.SurveyAnswer.{SurveyAnswer}
 use Rattle.survey.specs.declared.SurveyAnswer.the-variants as SurveyAnswer
-use Rattle.survey.specs.Survey.{RoundedSpeed, notFinite, thousandths, roundedSpeed, noSpeed, speedIn, surveyRefusals, surveyAnswer}
-use Rattle.survey.specs.Scale.{speedAnswer}
+use Rattle.survey.specs.Survey.{RoundedSpeed, notFinite, thousandths, roundedSpeed, speedRefused, thousandthsIn, surveyRefusals, surveyAnswer}
+use Rattle.survey.specs.Units.{speedAnswer}
 
 pub speedAnswer-low : (n : ℕ) → n < 30000 → speedAnswer (thousandths (pos n)) ≡ SurveyAnswer.Refused 13
 speedAnswer-low n h = simp (lt-ltb n 30000 h)
@@ -44,9 +44,9 @@ surveyAnswer-flow survey c h = simp (le-ltb (survey .cars) 100 c, le-leb 1000 (s
 
 pub surveyAnswer-speed : (survey : Survey) → 100 ≤ survey .cars → survey .flow < 1000 → surveyAnswer survey ≡ speedAnswer (roundedSpeed (survey .speed))
 unfolding surveyRefusals
-surveyAnswer-speed survey c h = simp (le-ltb (survey .cars) 100 c, lt-leb 1000 (survey .flow) h) (by-test (noSpeed (roundedSpeed (survey .speed))))
+surveyAnswer-speed survey c h = simp (le-ltb (survey .cars) 100 c, lt-leb 1000 (survey .flow) h) (by-test (speedRefused (roundedSpeed (survey .speed))))
   where
-    by-test : (b : Bool) → cond (eqb (cond b 13 0) 0) (SurveyAnswer.Speed (speedIn (roundedSpeed (survey .speed)))) (SurveyAnswer.Refused (cond b 13 0)) ≡ cond b (SurveyAnswer.Refused 13) (SurveyAnswer.Speed (speedIn (roundedSpeed (survey .speed))))
+    by-test : (b : Bool) → cond (eqb (cond b 13 0) 0) (SurveyAnswer.Speed (thousandthsIn (roundedSpeed (survey .speed)))) (SurveyAnswer.Refused (cond b 13 0)) ≡ cond b (SurveyAnswer.Refused 13) (SurveyAnswer.Speed (thousandthsIn (roundedSpeed (survey .speed))))
     by-test true = refl
     by-test false = refl
 

@@ -1,5 +1,5 @@
 -- The boundary sections of document 01 about a surveyed speed, in the way of method/specs/Boundary; the layer above puts them into its list.
---   counted speed    a survey of that speed with the fewest cars and the greatest flow that are accepted
+--   surveyOf speed    a survey of that speed with the fewest cars and the greatest flow that are accepted
 --   miles x          the same of x mi/h
 --   surveyFigures    the list
 -- Assumes nothing.
@@ -13,18 +13,18 @@ use Rattle.survey.specs.declared.SurveyedSpeed.the-variants as SurveyedS
 use Rattle.survey.specs.declared.Survey.{Survey}
 use Rattle.survey.specs.Survey.{surveyAnswer, refusalNumber, values}
 
-abbrev pub counted : SurveyedSpeed → Survey
-counted speed = record { speed = speed; cars = 100; flow = 999 }
+abbrev pub surveyOf : SurveyedSpeed → Survey
+surveyOf speed = record { speed = speed; cars = 100; flow = 999 }
 
 abbrev pub miles : Float → Survey
-miles x = counted (SurveyedSpeed.MilesPerHour x)
+miles x = surveyOf (SurveyedSpeed.MilesPerHour x)
 
 -- Of a survey that is accepted the speed, of one that is refused its number. A float is written m × 2 ^ e with an odd m: 100 is 25 × 2 ^ 2.
--- Starred: 100.0 km/h. Not starred: 30 and 90 mi/h; the float below 30 mi/h; 99 cars with a flow of 1,000 and no number; a flow of 1,000
--- with no number; no number, both infinities, -0, -100 and the least float above 0.
+-- Starred: 100.0 km/h. Not starred: 30 and 90 mi/h; the float below 30 mi/h; 99 cars with a flow of 1,000 and NaN; a flow of 1,000
+-- with NaN; NaN, both infinities, -0, -100 and the least float above 0.
 unfoldable pub surveyFigures : List Figure
 surveyFigures =
-    figure (values (surveyAnswer (counted (SurveyedSpeed.KilometresPerHour (fin false 25 (pos 2)))))) (62137 ∷ [])
+    figure (values (surveyAnswer (surveyOf (SurveyedSpeed.KilometresPerHour (fin false 25 (pos 2)))))) (62137 ∷ [])
     ∷ figure (values (surveyAnswer (miles (fin false 15 (pos 1))))) (30000 ∷ [])
     ∷ figure (values (surveyAnswer (miles (fin false 45 (pos 1))))) (90000 ∷ [])
     ∷ figure (refusalNumber (surveyAnswer (miles (fin false 15728639 (negsuc 18)))) ∷ []) (13 ∷ [])

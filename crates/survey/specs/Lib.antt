@@ -1,7 +1,7 @@
 -- A surveyed speed.
 --   Survey     the speed of a survey, or its refusal
---   Scale      what the code's helpers need and hand back
+--   Units      what the code's helpers need and hand back
 --   Boundary   the boundary sections about it
 pub mod Survey
-pub mod Scale
+pub mod Units
 pub mod Boundary

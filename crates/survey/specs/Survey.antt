@@ -6,8 +6,8 @@
 --   RoundedSpeed           thousandths of mi/h, or that there is no finite number
 --   roundedIn unit x       the float x in a unit: its exact value rounded down
 --   roundedSpeed speed     the same of a surveyed speed
---   noSpeed r              what 13 refuses
---   speedIn r              the thousandths of what it does not refuse
+--   speedRefused r              what 13 refuses
+--   thousandthsIn r              the thousandths of what it does not refuse
 --   surveyRefusals survey  11 to 13 in their order
 --   surveyAnswer survey    the speed, or the refusal's number
 --   refusalNumber a        the number of the refusal, 0 where there is none
@@ -51,7 +51,7 @@ pub data RoundedSpeed : Type 0 where
   thousandths : ℤ → RoundedSpeed
 
 -- "Its exact value .. is rounded down to thousandths of mi/h". A finite float `fin s m e` is m × 2 ^ e, negative where s is true; -0, and
--- the floats too small for a leading digit, are among them.
+-- the subnormal floats, are among them.
 unfoldable pub roundedIn : Fraction → Float → RoundedSpeed
 roundedIn unit nan = notFinite
 roundedIn unit (inf s) = notFinite
@@ -63,30 +63,30 @@ roundedSpeed (SurveyedSpeed.MilesPerHour x) = roundedIn mileAnHour x
 roundedSpeed (SurveyedSpeed.KilometresPerHour x) = roundedIn kilometreAnHour x
 
 -- "not a finite number, or the rounded speed not 30,000 to 90,000"
-abbrev pub noSpeed : RoundedSpeed → Bool
-noSpeed notFinite = true
-noSpeed (thousandths (pos n)) = outside 30000 90000 n
-noSpeed (thousandths (negsuc n)) = true
+abbrev pub speedRefused : RoundedSpeed → Bool
+speedRefused notFinite = true
+speedRefused (thousandths (pos n)) = outside 30000 90000 n
+speedRefused (thousandths (negsuc n)) = true
 
 -- 0 for what 13 refuses as not finite or below 0
-abbrev pub speedIn : RoundedSpeed → ℕ
-speedIn notFinite = 0
-speedIn (thousandths (pos n)) = n
-speedIn (thousandths (negsuc n)) = 0
+abbrev pub thousandthsIn : RoundedSpeed → ℕ
+thousandthsIn notFinite = 0
+thousandthsIn (thousandths (pos n)) = n
+thousandthsIn (thousandths (negsuc n)) = 0
 
 -- "11 fewer than 100 cars; 12 flow of 1,000 or more; 13 not a finite number, or the rounded speed not 30,000 to 90,000"
 unfoldable pub surveyRefusals : Survey → List Refusal
 surveyRefusals survey =
     refuses 11 (ltb (survey .cars) 100)
     ∷ refuses 12 (leb 1000 (survey .flow))
-    ∷ refuses 13 (noSpeed (roundedSpeed (survey .speed)))
+    ∷ refuses 13 (speedRefused (roundedSpeed (survey .speed)))
     ∷ []
 
 -- "Every refusal hands back its number and nothing else"
 abbrev pub surveyAnswer : Survey → SurveyAnswer
 surveyAnswer survey =
     let number = firstRefusal (surveyRefusals survey) in
-    cond (eqb number 0) (SurveyAnswer.Speed (speedIn (roundedSpeed (survey .speed)))) (SurveyAnswer.Refused number)
+    cond (eqb number 0) (SurveyAnswer.Speed (thousandthsIn (roundedSpeed (survey .speed)))) (SurveyAnswer.Refused number)
 
 abbrev pub refusalNumber : SurveyAnswer → ℕ
 refusalNumber (SurveyAnswer.Speed n) = 0

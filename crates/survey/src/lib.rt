@@ -7,7 +7,7 @@ use numbers::Fraction;
 ghost use mathlib.Core.Path.{_≡_};
 ghost use lib.Ieee.{binary32, ofBits};
 ghost use Rattle.survey.specs.Survey.{roundedIn, surveyAnswer};
-ghost use Rattle.survey.specs.Scale.{Scale, speedAnswer};
+ghost use Rattle.survey.specs.Units.{UnitFits, speedAnswer};
 
 pub const CARS_TOO_FEW: u64 = 11;
 
@@ -47,7 +47,7 @@ pub enum SurveyAnswer {
 
 // The float that has these bits, in a unit.
 fn speed_of_bits(bits: u64, unit: Fraction) -> SurveyAnswer
-    requires { ⌜ Scale unit ⌝ }
+    requires { ⌜ UnitFits unit ⌝ }
     ensures { λ r. ⌜ r ≡ speedAnswer (roundedIn unit (ofBits binary32 bits)) ⌝ }
 {
     let exponent = bits / LEADING;
@@ -74,7 +74,7 @@ fn speed_of_bits(bits: u64, unit: Fraction) -> SurveyAnswer
 
 // A float, in a unit. A NaN has no bits of its own, so it is refused first.
 fn speed_of_float(x: f32, unit: Fraction) -> SurveyAnswer
-    requires { ⌜ Scale unit ⌝ }
+    requires { ⌜ UnitFits unit ⌝ }
     ensures { λ r. ⌜ r ≡ speedAnswer (roundedIn unit x) ⌝ }
 {
     if x != x {

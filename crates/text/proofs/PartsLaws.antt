@@ -1,4 +1,7 @@
--- The parts of a list, by where its first part ends.
+-- The parts of a list, by where its first part ends (specs/Parts).
+--   countBefore-le            at most all bytes stand before the first t
+--   parts-one, parts-more     a list with no t is one part; with one it is the part before it and the parts after it
+--   countBefore-hit, countBefore-miss, countBefore-end   the count from place i on, one byte further
 -- Assumes nothing.
 use mathlib.Core.Path.{_≡_, refl, sym, ap, _∙_}
 use mathlib.Core.Bool.{Bool, true, false, cond}

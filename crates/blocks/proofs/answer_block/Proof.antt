@@ -1,3 +1,5 @@
+-- `blocks::answer_block` meets its contract: the lines answered so far, and what is left to do, are the lines that the block's turn answers.
+-- Assumes nothing.
 use mathlib.Core.Path.{_≡_, refl}
 use Prim.Native.Nat.{_-_}
 use native.Mathlib.Omega.{arith}

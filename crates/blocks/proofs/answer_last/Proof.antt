@@ -1,3 +1,5 @@
+-- `blocks::answer_last` meets its contract: no newline is held, so what is held is one line, or none where it is empty.
+-- Assumes nothing.
 use native.Mathlib.Omega.{arith}
 use Rattle.blocks.specs.Output.{lineTexts}
 use Rattle.lines.proofs.TextsLaws.{lineText-le}

@@ -1,3 +1,5 @@
+-- `blocks::answer_turn` meets its contract: what follows the answered lines is cut, moved to the start and nothing else of the buffer is changed.
+-- Assumes nothing.
 use mathlib.Core.Path.{_≡_, sym, ap, _∙_}
 use mathlib.Core.List.{List, _++_}
 use Prim.Native.Nat.{ℕ, _-_, _≤_}

@@ -1,3 +1,5 @@
+-- `blocks::carried_length` meets its contract: the bytes are few, hold a newline, or are cut off.
+-- Assumes nothing.
 use native.Mathlib.Omega.{arith}
 use Rattle.blocks.specs.Output.{lineTexts}
 use Rattle.blocks.proofs.BlockLaws.{cut-short, cut-line, cut-long}

@@ -1,3 +1,5 @@
+-- `blocks::move_to_start` meets its contract: a byte is moved to a place before its own, so those not yet moved are as they were.
+-- Assumes nothing.
 use mathlib.Core.Path.{_≡_, refl}
 use mathlib.Core.List.{_++_}
 use Prim.Native.Nat.{_-_, _≤_}

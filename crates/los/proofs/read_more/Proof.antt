@@ -1,3 +1,5 @@
+-- `los::read_more` meets its contract: the piece is read behind the bytes held, which stay.
+-- Assumes nothing.
 use mathlib.Core.Path.{refl}
 use native.Mathlib.Omega.{arith}
 use borrow.Author.Tests.{ltb-false}

@@ -1,3 +1,5 @@
+-- `los::run` meets its contract: a step that ends the input leaves no newline in what is held; the count of steps falls.
+-- Assumes nothing.
 use mathlib.Core.Path.{_≡_, refl, sym, _∙_}
 use mathlib.Core.Bool.{true, false, true≢false}
 use Prim.Native.Nat.{_≤_}

@@ -4,7 +4,7 @@ use mathlib.Core.Path.{sym, ap, _∙_}
 use Prim.Native.Nat.{_/_, _%_}
 use native.Mathlib.Omega.{arith}
 use borrow.Author.Needs.{needs}
-use Rattle.survey.specs.Scale.{speedAnswer}
+use Rattle.survey.specs.Units.{speedAnswer}
 use Rattle.survey.proofs.SurveyLaws.{speedAnswer-low, speedAnswer-high, speedAnswer-within}
 use Rattle.survey.proofs.FloatLaws.{steps, bits-low, bits-between, bits-high, numerator-fits, denominator-fits, denominator-pos}
 use Rattle.survey.proofs.speed_of_bits.Statement.{statement}

@@ -9,7 +9,7 @@ use lib.Ieee.Bits.{ofBits-toBits, toBits-lt}
 use denote.Floats.{passes}
 use borrow.Author.Needs.{needs}
 use Rattle.survey.specs.Survey.{roundedIn}
-use Rattle.survey.specs.Scale.{speedAnswer}
+use Rattle.survey.specs.Units.{speedAnswer}
 use Rattle.survey.proofs.FloatLaws.{notNan, roundedIn-nan}
 use Rattle.survey.proofs.speed_of_float.Statement.{statement}
 use Rattle.survey.proofs.speed_of_float.Tie as tie

@@ -3,7 +3,7 @@
 use mathlib.Core.Path.{sym, ap, _∙_}
 use borrow.Author.Needs.{needs}
 use Rattle.survey.specs.Survey.{roundedSpeed}
-use Rattle.survey.specs.Scale.{speedAnswer}
+use Rattle.survey.specs.Units.{speedAnswer}
 use Rattle.survey.proofs.SurveyLaws.{surveyAnswer-cars, surveyAnswer-flow, surveyAnswer-speed}
 use Rattle.survey.proofs.surveyed_speed.Statement.{statement}
 use Rattle.survey.proofs.surveyed_speed.Tie as tie

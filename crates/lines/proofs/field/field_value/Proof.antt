@@ -1,3 +1,5 @@
+-- `lines::field::field_value` meets its contract: the places 0, 1, 6 and 12 of the layout have letters, every other a number.
+-- Assumes nothing.
 use Rattle.lines.specs.Fields.{layout, fieldAs}
 use Rattle.lines.proofs.FieldsLaws.{number-at}
 use borrow.Author.Needs.{needs}

@@ -1,3 +1,5 @@
+-- `lines::field::field_values` meets its contract: the fields read so far have their values, and the rest of the line is read as the rest of the layout.
+-- Assumes nothing.
 use mathlib.Core.Path.{_≡_, refl, sym, _∙_}
 use Prim.Native.Nat.{_-_, _≤_}
 use native.Mathlib.Omega.{arith}

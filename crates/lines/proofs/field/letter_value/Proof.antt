@@ -1,3 +1,5 @@
+-- `lines::field::letter_value` meets its contract: the letters passed are not the byte, so it is one of all exactly when it is one of the rest.
+-- Assumes nothing.
 use mathlib.Core.Path.{_≡_, refl, sym, ap, _∙_}
 use Rattle.lines.specs.declared.field.FieldValue.the-variants.{Value}
 use mathlib.Core.Bool.{true, false}

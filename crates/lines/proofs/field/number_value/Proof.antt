@@ -1,3 +1,5 @@
+-- `lines::field::number_value` meets its contract: the tests are those of the definition in its order: no digit, too many, one, a leading zero.
+-- Assumes nothing.
 use mathlib.Core.Path.{sym, _∙_}
 use native.Mathlib.Omega.{arith}
 use Rattle.lines.proofs.DigitsLaws.{number-none, number-long, number-zero, number-one, number-more}

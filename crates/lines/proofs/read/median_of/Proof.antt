@@ -1,3 +1,5 @@
+-- `lines::read::median_of` meets its contract: two choices by the byte.
+-- Assumes nothing.
 use borrow.Author.Needs.{needs}
 use borrow.Author.Tests.{eq-eqb, ne-eqb}
 use Rattle.lines.proofs.read.median_of.Statement.{statement}

@@ -1,3 +1,5 @@
+-- `lines::read::read_line` meets its contract: a line is too long, has a malformed field, or has the values of which its case is made.
+-- Assumes nothing.
 use mathlib.Core.Path.{sym}
 use borrow.Author.Tests.{lt-ltb, le-ltb, not-true, not-false}
 use Rattle.lines.specs.Reading.{readLine, readValues, caseOf}

@@ -1,3 +1,5 @@
+-- `lines::read::terrain_of` meets its contract: a choice by the byte.
+-- Assumes nothing.
 use borrow.Author.Needs.{needs}
 use borrow.Author.Tests.{eq-eqb, ne-eqb}
 use Rattle.lines.proofs.read.terrain_of.Statement.{statement}

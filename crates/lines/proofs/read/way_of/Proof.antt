@@ -1,3 +1,5 @@
+-- `lines::read::way_of` meets its contract: a choice by the byte.
+-- Assumes nothing.
 use borrow.Author.Needs.{needs}
 use borrow.Author.Tests.{eq-eqb, ne-eqb}
 use Rattle.lines.proofs.read.way_of.Statement.{statement}

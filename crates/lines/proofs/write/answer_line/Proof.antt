@@ -1,3 +1,5 @@
+-- `lines::write::answer_line` meets its contract: a line is refused with 15 or is a case, and the answer to a case has at most 64 bytes.
+-- Assumes nothing.
 use mathlib.Core.Path.{sym, _∙_}
 use native.Mathlib.Omega.{arith}
 use Rattle.lines.proofs.TextsLaws.{lineText-refused, lineText-case, refusalText-le, answerText-le}

@@ -1,3 +1,5 @@
+-- `lines::write::letter_byte` meets its contract: one byte for each letter.
+-- Assumes nothing.
 use borrow.Author.Needs.{needs}
 use Rattle.lines.proofs.write.letter_byte.Statement.{statement}
 use Rattle.lines.proofs.write.letter_byte.Tie as tie

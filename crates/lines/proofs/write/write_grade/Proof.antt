@@ -1,3 +1,5 @@
+-- `lines::write::write_grade` meets its contract: the row of the letter's byte and ten figures is the text of the eleven values.
+-- Assumes nothing.
 use Rattle.lines.specs.Texts.{textOf}
 use borrow.Author.Needs.{needs}
 use Rattle.lines.proofs.write.write_grade.Statement.{statement}

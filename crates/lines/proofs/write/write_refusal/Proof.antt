@@ -1,3 +1,5 @@
+-- `lines::write::write_refusal` meets its contract: the row of X and the number is the text of a refusal.
+-- Assumes nothing.
 use Rattle.lines.specs.Texts.{refusalText}
 use borrow.Author.Needs.{needs}
 use Rattle.lines.proofs.write.write_refusal.Statement.{statement}

@@ -1,3 +1,5 @@
+-- `marehour::calls::answer_case` meets its contract: a grade is written at the start of the buffer; a refusal writes nothing.
+-- Assumes nothing.
 use mathlib.Core.Path.{sym, ap, _∙_}
 use native.Mathlib.Omega.{arith}
 use lib.ListN.{length}

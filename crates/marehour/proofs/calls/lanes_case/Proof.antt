@@ -1,3 +1,5 @@
+-- `marehour::calls::lanes_case` meets its contract: a count is one digit, so two bytes are its text; a refusal writes nothing.
+-- Assumes nothing.
 use mathlib.Core.Path.{refl, sym, ap, _∙_}
 use mathlib.Core.List.{_∷_, []}
 use native.Mathlib.Omega.{arith}

@@ -1,3 +1,5 @@
+-- `marehour::calls::marehour_answer` meets its contract: 17, then 15, then the reply to the case that was read.
+-- Assumes nothing.
 use mathlib.Core.Path.{sym, ap, _∙_}
 use native.Mathlib.Omega.{arith}
 use lib.ListN.{length}

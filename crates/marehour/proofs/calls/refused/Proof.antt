@@ -1,3 +1,5 @@
+-- `marehour::calls::refused` meets its contract: a number of at most 99 has its minus in 32 bits.
+-- Assumes nothing.
 use mathlib.Core.Path.{_∙_}
 use mir.Syntax.{w32}
 use mir.ValLaws.{toZ-ofZ}

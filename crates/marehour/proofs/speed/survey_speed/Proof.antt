@@ -1,3 +1,5 @@
+-- `marehour::speed::survey_speed` meets its contract: a speed is at most 90,000 and a refusal 11 to 13, so 32 bits hold both.
+-- Assumes nothing.
 use mathlib.Core.Path.{sym, ap, _∙_}
 use native.Mathlib.Omega.{arith}
 use Rattle.survey.proofs.SurveyLaws.{surveyAnswer-speed-ends, surveyAnswer-refused-ends}

@@ -1,3 +1,5 @@
+-- `text::decimal::put_figures` meets its contract: each turn writes a tab and a number behind what the figures before it took.
+-- Assumes nothing.
 use mathlib.Core.Path.{_≡_, refl, sym, ap, _∙_}
 use mathlib.Core.List.{List}
 use Prim.Native.Nat.{ℕ, _+_, _-_, _≤_, _<_}

@@ -1,3 +1,5 @@
+-- `text::decimal::put_row` meets its contract: the byte, the figures and the newline are three pieces written one after the other.
+-- Assumes nothing.
 use mathlib.Core.Path.{_≡_, refl, sym, ap, _∙_}
 use Prim.Native.Nat.{ℕ, _+_, _-_, _≤_, _<_}
 use native.Mathlib.Omega.{arith}

@@ -1,3 +1,5 @@
+-- `text::parts::find` meets its contract: the bytes passed are not the one sought, so the count from the start and the count from here differ by them.
+-- Assumes nothing.
 use mathlib.Core.Path.{_≡_, refl, sym, _∙_}
 use Prim.Native.Nat.{_+_, _-_, _≤_}
 use native.Mathlib.Omega.{arith}

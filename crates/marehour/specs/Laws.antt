@@ -1,0 +1,17 @@
+-- Laws of the calls, stated; proofs/Laws proves them.
+--   WithinEnds r          bytes, one at least and at most 64; or a refusal from 1 to 17
+--   RepliesWithinEnds     both line calls reply so: 0 is never handed back, and a buffer of 64 bytes is enough
+-- Assumes nothing.
+use Prim.Native.Nat.{ℕ, _≤_}
+use mathlib.Core.List.{List}
+use lib.ListN.{length}
+use Rattle.lines.specs.Texts.{longestAnswer}
+use Rattle.marehour.specs.Calls.{Reply, bytes, refusal, answerCall, lanesCall}
+
+abbrev pub WithinEnds : Reply → Type 0
+WithinEnds (bytes bs) = (1 ≤ length bs) × (length bs ≤ longestAnswer)
+WithinEnds (refusal n) = (1 ≤ n) × (n ≤ 17)
+
+abbrev pub RepliesWithinEnds : Type 0
+RepliesWithinEnds =
+    (line : List ℕ) (letter room : ℕ) → WithinEnds (answerCall line room) × WithinEnds (lanesCall line letter room)
