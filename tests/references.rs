@@ -40,7 +40,7 @@ fn declared(text: &str) -> Vec<String> {
             let line = line.trim_start();
             let line = line.strip_prefix("unfoldable ").or_else(|| line.strip_prefix("abbrev ")).unwrap_or(line);
             let rest = line.strip_prefix("pub ")?;
-            let record = rest.strip_prefix("record ");
+            let record = rest.strip_prefix("record ").or_else(|| rest.strip_prefix("data "));
             let name = record.unwrap_or(rest).split_whitespace().next()?;
             let declares = record.is_some() || rest[name.len()..].trim_start().starts_with(':');
             declares.then(|| name.to_string())
