@@ -2,7 +2,8 @@
 //   - crates/los/stdin gets crates/los/stdout, written at once and in pieces, with and without a last newline;
 //   - many lines of varied length get what each gets by itself, and so do lines around the end of a block;
 //   - an empty input prints nothing, and a line of ten million bytes is one malformed line;
-//   - when nobody reads its output, it ends and says nothing.
+//   - when nobody reads its output, it ends and says nothing;
+//   - when its input can't be read, it says so and answers no half line.
 
 use std::io::{BufRead, BufReader, Read, Write};
 use std::os::unix::process::ExitStatusExt;
@@ -13,6 +14,7 @@ use std::time::{Duration, Instant};
 
 const LIMIT: Duration = Duration::from_secs(120);
 const MALFORMED: &[u8] = b"X\t15\n";
+const UNREADABLE: &[u8] = b"los: standard input can't be read\n";
 const SIGPIPE: i32 = 13;
 
 struct Outcome {
@@ -163,6 +165,15 @@ fn expect_quiet_end(what: &str, command: Command, input: &Arc<Vec<u8>>, first: &
     status
 }
 
+// A folder can be opened and not read.
+fn expect_unreadable(los: &str) {
+    let folder = std::fs::File::open(".").unwrap_or_else(|error| fail(&error.to_string()));
+    let outcome = Command::new(los).stdin(folder).output().unwrap_or_else(|error| fail(&error.to_string()));
+    if !outcome.stdout.is_empty() || outcome.stderr != UNREADABLE {
+        fail("an input that can't be read: another output or message");
+    }
+}
+
 fn main() {
     let Some(los) = std::env::args().nth(1) else { fail("usage: stream PATH-OF-LOS") };
     let input = Arc::new(read_file("crates/los/stdin"));
@@ -205,5 +216,7 @@ fn main() {
     ignoring.args(["-c", "trap '' PIPE; exec \"$0\"", &los]);
     expect_quiet_end("output closed, SIGPIPE ignored", ignoring, &many, first);
 
-    println!("stream: {} vectors in pieces, 200000 lines, a line of 10000000 bytes, closed output: all as expected", lines.len());
+    expect_unreadable(&los);
+
+    println!("stream: {} vectors in pieces, 200000 lines, a line of 10000000 bytes, closed output, unreadable input: all as expected", lines.len());
 }
