@@ -1,8 +1,7 @@
 -- The laws of specs/Laws, proved.
 --   serviceVolume-le   no service volume is above 19,200
 -- Assumes nothing.
-use mathlib.Core.Path.{_≡_, refl, sym, ap, _∙_}
-use mathlib.Core.List.{[], _∷_}
+use mathlib.Core.Path.{sym, ap, _∙_}
 use mathlib.Core.Logic.{⊎-elim}
 use Prim.Native.Nat.{ℕ, suc, _*_, _≤_, _<_}
 use native.Mathlib.Omega.{arith}
@@ -39,7 +38,7 @@ use Rattle.answer.specs.Volumes.{meets, serviceVolume}
 use Rattle.answer.specs.Answers as answers
 use Rattle.answer.specs.Answers.{graded}
 use Rattle.answer.specs.Lanes as lanes
-use Rattle.answer.specs.Lanes.{lanesFound, lanesRefusals, lanesAnswer}
+use Rattle.answer.specs.Lanes.{lanesFound, lanesRefusals}
 use Rattle.answer.specs.Search.{loadOf, keepsTo}
 use Rattle.answer.specs.Laws.{FiguresWithinEnds, RefusalsWithinEnds, CountsAreDigits}
 use Rattle.answer.proofs.VolumeLaws.{keepsTo-zero, serviceVolume-eq}

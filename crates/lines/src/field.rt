@@ -4,7 +4,7 @@
 //   field_values   the values of a line's fields
 ghost use mathlib.Core.Path.{_≡_};
 ghost use Prim.Native.Nat.{_≤_};
-ghost use lib.ListN.{length, getD};
+ghost use lib.ListN.{length};
 ghost use Rattle.text.specs.Bytes.{tab};
 ghost use Rattle.text.specs.Parts.{parts};
 ghost use Rattle.lines.specs.Fields.{spelled, number, letter, fieldAs, layout, fieldAt, valuesOf, valuesIn};

@@ -11,13 +11,13 @@ use mathlib.Core.Path.{_≡_, refl, sym, ap, _∙_}
 use mathlib.Core.Bool.{Bool, true, false, cond}
 use mathlib.Core.List.{List, [], _∷_, _++_, append-assoc, append-nil}
 use Prim.Native.Nat.{ℕ, zero, suc, _+_, _-_, _*_, _/_, _%_, _^_, _≤_, _<_}
-use native.Mathlib.Nat.{add-assoc, pow-suc, div-lt-iff-lt-mul, le-trans, add-zero, mul-comm}
+use native.Mathlib.Nat.{add-assoc, pow-suc, div-lt-iff-lt-mul, add-zero}
 use native.Mathlib.Numerals.{add-one}
 use native.Mathlib.Decide.{decLt}
 use native.Mathlib.Omega.{arith}
-use lib.Dec.{ltb, lit<}
+use lib.Dec.{ltb}
 use lib.ListN.{length, take, drop, getD, set, length-append, length-take, length-drop, take-append-drop}
-use lib.Seq.{drop-cons, take-at, drop-at, take-suc, take-all, drop-drop, set-at, length-take-le}
+use lib.Seq.{drop-cons, take-at, drop-at, take-suc, drop-drop, set-at, length-take-le}
 use borrow.Author.Tests.{lt-ltb, le-ltb}
 use Rattle.numbers.specs.Bounds.{AllAtMost}
 use Rattle.text.specs.Decimal.{decimalUpTo, decimal, figuresText, rowText}

@@ -2,7 +2,6 @@
 //   put_number    a number
 //   put_figures   each number of a slice after a tab
 //   put_row       a byte, each number after a tab, and a newline
-ghost use mathlib.Core.Path.{_≡_};
 ghost use Prim.Native.Nat.{_+_, _≤_};
 ghost use lib.ListN.{length};
 ghost use Rattle.text.specs.Decimal.{decimal, figuresText, rowText};

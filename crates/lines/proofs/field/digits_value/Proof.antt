@@ -1,7 +1,7 @@
 -- `lines::field::digits_value` meets its contract: the digits read so far spell n, and 18 of them leave room for one more in 64 bits.
 -- Assumes nothing.
 use mathlib.Core.Path.{_≡_, refl, sym, _∙_}
-use Prim.Native.Nat.{_+_, _-_, _^_, _≤_, _<_}
+use Prim.Native.Nat.{_-_, _^_, _≤_, _<_}
 use native.Mathlib.Omega.{arith}
 use lib.ListN.{length, drop}
 use Rattle.lines.specs.Fields.{spelled}

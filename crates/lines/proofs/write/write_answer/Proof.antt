@@ -1,6 +1,5 @@
 -- `lines::write::write_answer` meets its contract: a grade and a refusal are written by the two functions before.
 -- Assumes nothing.
-use mathlib.Core.Path.{sym}
 use Rattle.lines.specs.Texts.{textOf}
 use borrow.Author.Needs.{needs}
 use Rattle.lines.proofs.write.write_answer.Statement.{statement}

@@ -1,7 +1,6 @@
 -- `marehour::calls::lanes_case` meets its contract: a count is one digit, so two bytes are its text; a refusal writes nothing.
 -- Assumes nothing.
-use mathlib.Core.Path.{refl, sym, ap, _∙_}
-use mathlib.Core.List.{_∷_, []}
+use mathlib.Core.Path.{sym, ap, _∙_}
 use native.Mathlib.Omega.{arith}
 use lib.ListN.{length, length-set}
 use Rattle.answer.proofs.Laws.{refusals-within-ends, counts-are-digits}

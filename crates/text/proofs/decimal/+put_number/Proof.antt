@@ -1,6 +1,6 @@
 -- `text::decimal::put_number` meets its contract: the digits before the last are written by the call on a tenth, which is smaller, and the last behind them.
 -- Assumes nothing.
-use Prim.Native.Nat.{_+_, _%_, _≤_, _^_}
+use Prim.Native.Nat.{_+_, _%_}
 use native.Mathlib.Omega.{arith}
 use lib.ListN.{length}
 use Rattle.text.proofs.WritingLaws.{decimal-small, decimal-more, length-small, length-more, first-byte, then-byte}

@@ -1,15 +1,14 @@
 -- `text::decimal::put_figures` meets its contract: each turn writes a tab and a number behind what the figures before it took.
 -- Assumes nothing.
-use mathlib.Core.Path.{_≡_, refl, sym, ap, _∙_}
-use mathlib.Core.List.{List}
-use Prim.Native.Nat.{ℕ, _+_, _-_, _≤_, _<_}
+use mathlib.Core.Path.{_≡_, refl, sym}
+use Prim.Native.Nat.{_+_, _-_, _≤_}
 use native.Mathlib.Omega.{arith}
 use native.Mathlib.Nat.{add-zero}
-use lib.ListN.{length, take, drop, getD, set, length-set}
+use lib.ListN.{length, take, set, length-set}
 use lib.Seq.{take-all}
 use Rattle.text.specs.Decimal.{figuresText}
 use Rattle.text.specs.Buffer.{Wrote}
-use Rattle.text.proofs.WritingLaws.{none-written, next-number, next-room, length-written}
+use Rattle.text.proofs.WritingLaws.{none-written, next-number, next-room}
 use borrow.Author.Needs.{needs}
 use Rattle.text.proofs.decimal.put_figures.Statement.{statement}
 use Rattle.text.proofs.decimal.put_figures.Tie as tie

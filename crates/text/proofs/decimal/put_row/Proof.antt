@@ -1,9 +1,8 @@
 -- `text::decimal::put_row` meets its contract: the byte, the figures and the newline are three pieces written one after the other.
 -- Assumes nothing.
-use mathlib.Core.Path.{_≡_, refl, sym, ap, _∙_}
-use Prim.Native.Nat.{ℕ, _+_, _-_, _≤_, _<_}
+use Prim.Native.Nat.{_-_}
 use native.Mathlib.Omega.{arith}
-use lib.ListN.{length, take, drop, getD, set, length-set}
+use lib.ListN.{length, set, length-set}
 use Rattle.text.proofs.WritingLaws.{rowText-length, row-written}
 use borrow.Author.Needs.{needs}
 use Rattle.text.proofs.decimal.put_row.Statement.{statement}
