@@ -86,6 +86,7 @@ fn quick(total: &mut Tally) {
     group(total, "traps", || filled(|tally| traps::traps(method, tally)));
     group(total, "examples of chapter 26", || examples(method));
     group(total, "curves by a stride", || filled(|tally| curves::by_stride(method, tally)));
+    group(total, "table entries", || filled(|tally| curves::table_entries(method, tally)));
     group(total, "random cases", || random_cases(method));
     group(total, "service volumes by every demand", || every_demand(method));
     group(total, "floats", || filled(|tally| floats::by_stride(tally, &mut Draw(SEED + 2))));

@@ -4,7 +4,7 @@ use super::draw::append_line;
 use super::engine;
 use super::tally::Tally;
 use crate::second::lines;
-use crate::second::method::{Case, Kind, Median, Method, Service, Terrain, Way};
+use crate::second::method::{density, millionths, speed_at_weight, Case, Kind, Median, Method, Service, Terrain, Way};
 use std::fmt::Write;
 use std::thread;
 
@@ -68,6 +68,33 @@ pub fn by_stride(method: &Method, tally: &mut Tally) {
             curve(method, tally, kind, speed, telling_flow_rates(method, kind, speed).into_iter());
         }
     }
+}
+
+// What is shown of a flow rate on kind M with a table entry t.
+fn shown(free_flow_speed: u64, flow_rate: u64, t: u64) -> (u64, u64) {
+    let speed = speed_at_weight(Kind::Multilane, free_flow_speed, millionths(t));
+    (speed.rounded_down(), density(speed, flow_rate).rounded_up())
+}
+
+// Flow rates on kind M that show the entries of the table: two for each, at one of which a greater entry, at the other a smaller one, would
+// be seen. Two entries lack one: T(1), which no whole flow rate looks up, and T(1,000), where one millionth less cannot be seen.
+pub fn table_entries(method: &Method, tally: &mut Tally) {
+    let mut seen = [[false; 2]; 1_001];
+    for speed in Kind::Multilane.free_flow_speeds().rev() {
+        let (b, c) = (Kind::Multilane.breakpoint(speed), Kind::Multilane.capacity(speed));
+        for flow_rate in b / 100 + 1..=c / 100 {
+            let i = (1_000 * (100 * flow_rate - b)).div_ceil(c - b);
+            let t = method.power(i);
+            for (seen, other) in seen[i as usize].iter_mut().zip([t + 1, t - 1]) {
+                if !*seen && shown(speed, flow_rate, other) != shown(speed, flow_rate, t) {
+                    *seen = true;
+                    curve(method, tally, Kind::Multilane, speed, [flow_rate].into_iter());
+                }
+            }
+        }
+    }
+    let unseen: Vec<usize> = (1..=1_000).filter(|&i| seen[i] != [true, true]).collect();
+    tally.equal(unseen, vec![1, 1_000], || "entries that no flow rate shows".to_string());
 }
 
 // Every speed of a kind with every flow rate up to capacity and the first above it.

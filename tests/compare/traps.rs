@@ -4,7 +4,7 @@
 use super::engine;
 use super::tally::Tally;
 use crate::second::lines;
-use crate::second::method::{flow_rate, passenger_cars, Case, Kind, Method, LETTER_F};
+use crate::second::method::{density, flow_rate, millionths, passenger_cars, speed_at_weight, Case, Kind, Method, LETTER_F};
 
 struct Trap {
     name: &'static str,
@@ -103,10 +103,9 @@ fn freeway_breakpoint(method: &Method, case: &Case) -> String {
     let (speed, flow) = (free_flow_speed(method, case), flow_rate(case));
     let (wrong, c) = (Kind::Freeway.breakpoint(speed), case.kind.capacity(speed));
     let i = (1_000 * (100 * flow).saturating_sub(wrong)).div_ceil(c - wrong);
-    // S in 45 millionths.
-    let exact = 45_000_000 * speed - (45 * speed - 10 * c) * method.power(i);
-    let density = (10_000 * 45_000_000 * flow).div_ceil(exact);
-    fields(case, letter_of(density), speed, flow, exact / 45_000_000, density)
+    let exact = speed_at_weight(case.kind, speed, millionths(method.power(i)));
+    let density = density(exact, flow).rounded_up();
+    fields(case, letter_of(density), speed, flow, exact.rounded_down(), density)
 }
 
 // Blanks for tabs, and no more fields than there are wanted.

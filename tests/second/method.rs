@@ -86,8 +86,8 @@ pub type Refusal = i32;
 // A fraction that is not negative.
 #[derive(Clone, Copy)]
 pub struct Fraction {
-    pub over: u128,
-    pub under: u128,
+    over: u128,
+    under: u128,
 }
 
 impl Fraction {
@@ -115,11 +115,11 @@ impl Fraction {
         self.over <= u128::from(limit) * self.under
     }
 
-    fn rounded_down(self) -> u64 {
+    pub fn rounded_down(self) -> u64 {
         (self.over / self.under) as u64
     }
 
-    fn rounded_up(self) -> u64 {
+    pub fn rounded_up(self) -> u64 {
         self.over.div_ceil(self.under) as u64
     }
 }
@@ -310,24 +310,18 @@ impl Method {
         Ok(speed.min(*ends.end()))
     }
 
-    // w of a flow rate from the breakpoint to capacity.
-    fn weight(&self, kind: Kind, free_flow_speed: u64, flow_rate: u64) -> Fraction {
-        let (b, c) = (kind.breakpoint(free_flow_speed), kind.capacity(free_flow_speed));
-        let part = Fraction::new(100 * flow_rate - b, c - b);
-        match kind {
-            Kind::Freeway => part.times(part),
-            Kind::Multilane => Fraction::new(self.power(Fraction::whole(1_000).times(part).rounded_up()), 1_000_000),
-        }
-    }
-
     // S of a flow rate up to capacity, exactly.
-    pub fn speed(&self, kind: Kind, free_flow_speed: u64, flow_rate: u64) -> Fraction {
-        let free = Fraction::whole(free_flow_speed);
-        if 100 * flow_rate <= kind.breakpoint(free_flow_speed) {
-            return free;
+    fn speed(&self, kind: Kind, free_flow_speed: u64, flow_rate: u64) -> Fraction {
+        let (b, c) = (kind.breakpoint(free_flow_speed), kind.capacity(free_flow_speed));
+        if 100 * flow_rate <= b {
+            return Fraction::whole(free_flow_speed);
         }
-        let at_capacity = Fraction::new(10 * kind.capacity(free_flow_speed), 45);
-        free.minus(free.minus(at_capacity).times(self.weight(kind, free_flow_speed, flow_rate)))
+        let part = Fraction::new(100 * flow_rate - b, c - b);
+        let weight = match kind {
+            Kind::Freeway => part.times(part),
+            Kind::Multilane => millionths(self.power(Fraction::whole(1_000).times(part).rounded_up())),
+        };
+        speed_at_weight(kind, free_flow_speed, weight)
     }
 
     // The letter of a flow rate, from its exact density.
@@ -424,12 +418,23 @@ impl Method {
     }
 }
 
+pub fn millionths(count: u64) -> Fraction {
+    Fraction::new(count, 1_000_000)
+}
+
+// F − (F − 10c/45) × w.
+pub fn speed_at_weight(kind: Kind, free_flow_speed: u64, weight: Fraction) -> Fraction {
+    let free = Fraction::whole(free_flow_speed);
+    let at_capacity = Fraction::new(10 * kind.capacity(free_flow_speed), 45);
+    free.minus(free.minus(at_capacity).times(weight))
+}
+
 // The exact density: 10,000v / S.
 pub fn density(speed: Fraction, flow_rate: u64) -> Fraction {
     Fraction::whole(10_000 * flow_rate).divided_by(speed)
 }
 
-pub fn letter_of_density(density: Fraction) -> u32 {
+fn letter_of_density(density: Fraction) -> u32 {
     let place = DENSITY_LIMITS.iter().position(|&limit| density.at_most(limit));
     1 + place.expect("up to capacity the density is at most 450") as u32
 }
