@@ -104,7 +104,7 @@ fn full_floats(total: &mut Tally) {
     for unit in [Unit::MilesPerHour, Unit::KilometresPerHour] {
         group(total, &format!("floats, {unit:?}"), || {
             let counts = floats::full(unit);
-            println!("{:?}: {} accepted, {} refused", counts.unit, counts.accepted, counts.refused);
+            println!("{unit:?}: {} accepted, {} refused", counts.accepted, counts.refused);
             counts.tally
         });
     }

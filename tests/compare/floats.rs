@@ -76,14 +76,13 @@ pub fn by_stride(tally: &mut Tally, draw: &mut Draw) {
 }
 
 pub struct Counts {
-    pub unit: Unit,
     pub tally: Tally,
     pub accepted: u64,
     pub refused: u64,
 }
 
 fn half(unit: Unit, top_bit: u32) -> Counts {
-    let mut counts = Counts { unit, tally: Tally::default(), accepted: 0, refused: 0 };
+    let mut counts = Counts { tally: Tally::default(), accepted: 0, refused: 0 };
     for bits in 0..=0x7fff_ffffu32 {
         if check(&mut counts.tally, top_bit | bits, unit, 100, 999) > 0 {
             counts.accepted += 1;

@@ -205,16 +205,8 @@ const FREEWAY_FAULTS: [(i32, usize, &str); 9] = [
     (9, 11, "1001"),
     (10, 2, "54999"),
 ];
-const MULTILANE_FAULTS: [(i32, usize, &str); 8] = [
-    (1, 2, "90001"),
-    (2, 3, "201"),
-    (3, 4, "401"),
-    (5, 7, "201"),
-    (6, 8, "4"),
-    (8, 10, "1001"),
-    (9, 11, "99999"),
-    (10, 2, "44999"),
-];
+const MULTILANE_FAULTS: [(i32, usize, &str); 8] =
+    [(1, 2, "90001"), (2, 3, "201"), (3, 4, "401"), (5, 7, "201"), (6, 8, "4"), (8, 10, "1001"), (9, 11, "99999"), (10, 2, "44999")];
 const FREEWAY: &str = "F G 60000 120 60 60 D 0 2 1000 1000 0 L";
 const MULTILANE: &str = "M G 60000 120 60 60 D 0 2 1000 1000 0 L";
 
@@ -393,15 +385,19 @@ impl Paper<'_> {
         }
     }
 
-    // An answer buffer under 64 bytes, first of all; 64 are enough. The buffer is compared in full elsewhere.
+    // An answer buffer under 64 bytes, first of all. Everything else here lends 64.
     fn buffer_length(&mut self) {
         for line in [LINE, "", &with_field(LINE, 2, "0")] {
+            let (line, method) = (tabbed(line), self.method);
             for length in 0..64 {
-                let (mut buffer, line) = ([0u8; 64], tabbed(line));
-                self.tally.equal(engine::answer(&line, &mut buffer[..length]), -17, || format!("engine, buffer of {length}"));
-                self.tally.equal(engine::lanes(&line, 0, &mut buffer[..length]), -17, || format!("engine, buffer of {length}, lanes"));
-                self.tally.equal(lines::answer(self.method, &line, &mut buffer[..length]), -17, || format!("second, buffer of {length}"));
-                self.tally.equal(lines::lanes(self.method, &line, 0, &mut buffer[..length]), -17, || format!("second, buffer of {length}, lanes"));
+                let buffer = &mut [0; 64][..length];
+                let results = [
+                    engine::answer(&line, buffer),
+                    engine::lanes(&line, 0, buffer),
+                    lines::answer(method, &line, buffer),
+                    lines::lanes(method, &line, 0, buffer),
+                ];
+                self.tally.equal(results, [-17; 4], || format!("both calls of engine and second, buffer of {length}"));
             }
         }
     }

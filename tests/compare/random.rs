@@ -11,8 +11,8 @@ const LETTERS: [u32; 14] = [1, 2, 3, 4, 5, 0, 6, 7, 255, 256, 257, 65_537, 0x800
 
 // What must come up in a run of a million: every letter, lane count and refusal of a line.
 const OUTCOMES: [&str; 26] = [
-    "A", "B", "C", "D", "E", "F", "2", "3", "4", "5", "6", "7", "8", "X1", "X2", "X3", "X4", "X5", "X6", "X8", "X9", "X10", "X14", "X15", "X16",
-    "X17",
+    "A", "B", "C", "D", "E", "F", "2", "3", "4", "5", "6", "7", "8", "X1", "X2", "X3", "X4", "X5", "X6", "X8", "X9", "X10", "X14", "X15",
+    "X16", "X17",
 ];
 const LEAST_OF_EACH: u64 = 1_000;
 

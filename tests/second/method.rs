@@ -291,9 +291,7 @@ impl Method {
         let width = lane_width_adjustment(case.width);
         match case.kind {
             Kind::Freeway => width + right_clearance_adjustment(case.right, case.lanes) + self.ramp_terms[case.access as usize],
-            Kind::Multilane => {
-                width + total_clearance_adjustment(case) + median_adjustment(case.median) + access_adjustment(case.access)
-            }
+            Kind::Multilane => width + total_clearance_adjustment(case) + median_adjustment(case.median) + access_adjustment(case.access),
         }
     }
 
