@@ -1,5 +1,5 @@
-// What document 01 says by figures, checked against both implementations. Lines are written with blanks for tabs; a - stands for a figure
-// that the document does not give there.
+// What document 01 says by figures, and figures worked out by hand from its rules, checked against both implementations. Lines are written
+// with blanks for tabs; a - stands for a figure that is not checked there by itself.
 
 use super::engine;
 use super::tally::Tally;
