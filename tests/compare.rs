@@ -1,0 +1,131 @@
+// Compares the engine, linked as an archive, with the second implementation of document 01 (tests/second).
+//
+//   compare quick         the document's figures, its traps, the manual's examples, curves by a stride, random cases, floats, the laws
+//   compare full-curves   every free-flow speed with every flow rate up to capacity and one more
+//   compare full-floats   every float in both units
+//   compare los PATH      random lines through the program los
+//
+// Prints the checks of each group and up to 20 differences; ends with 1 if there is any. The same seed gives the same run.
+
+mod compare {
+    pub mod curves;
+    pub mod draw;
+    pub mod engine;
+    pub mod floats;
+    pub mod laws;
+    pub mod los;
+    pub mod paper;
+    pub mod random;
+    pub mod tally;
+    pub mod traps;
+}
+mod second;
+
+use compare::draw::Draw;
+use compare::paper::Paper;
+use compare::random::Random;
+use compare::tally::Tally;
+use compare::{curves, floats, laws, los, traps};
+use second::method::{Kind, Method};
+use second::survey::Unit;
+use std::collections::BTreeMap;
+use std::process::exit;
+use std::time::Instant;
+
+const SEED: u64 = 20_260_101;
+const RANDOM_CASES: u64 = 1_000_000;
+const EVERY_DEMAND_CASES: u64 = 500;
+const LAW_CASES: u64 = 50_000;
+
+// Runs a group and prints its count of checks and differences.
+fn group(total: &mut Tally, name: &str, run: impl FnOnce() -> Tally) {
+    let begun = Instant::now();
+    let tally = run();
+    println!("{name}: {} checks, {} differences, {:.1} s", tally.checks, tally.differences, begun.elapsed().as_secs_f64());
+    total.add(tally);
+}
+
+// The tally of a group that fills one it is lent.
+fn filled(fill: impl FnOnce(&mut Tally)) -> Tally {
+    let mut tally = Tally::default();
+    fill(&mut tally);
+    tally
+}
+
+fn random_cases(method: &Method) -> Tally {
+    let mut random = Random { method, draw: Draw(SEED), tally: Tally::default(), outcomes: BTreeMap::new() };
+    random.cases(RANDOM_CASES);
+    random.coverage();
+    let seen: Vec<String> = random.outcomes.iter().map(|(outcome, count)| format!("{outcome} {count}")).collect();
+    println!("outcomes: {}", seen.join(", "));
+    random.tally
+}
+
+fn every_demand(method: &Method) -> Tally {
+    let mut random = Random { method, draw: Draw(SEED + 1), tally: Tally::default(), outcomes: BTreeMap::new() };
+    random.every_demand(EVERY_DEMAND_CASES);
+    random.tally
+}
+
+fn boundary_sections(method: &Method) -> Tally {
+    let mut paper = Paper { method, tally: Tally::default() };
+    paper.boundary_sections();
+    paper.tally
+}
+
+fn examples(method: &Method) -> Tally {
+    let mut paper = Paper { method, tally: Tally::default() };
+    paper.examples();
+    paper.tally
+}
+
+fn quick(total: &mut Tally) {
+    let method = &Method::new();
+    println!("seed {SEED}");
+    group(total, "figures of document 01", || boundary_sections(method));
+    group(total, "traps", || filled(|tally| traps::traps(method, tally)));
+    group(total, "examples of chapter 26", || examples(method));
+    group(total, "curves by a stride", || filled(|tally| curves::by_stride(method, tally)));
+    group(total, "table entries", || filled(|tally| curves::table_entries(method, tally)));
+    group(total, "random cases", || random_cases(method));
+    group(total, "service volumes by every demand", || every_demand(method));
+    group(total, "floats", || filled(|tally| floats::by_stride(tally, &mut Draw(SEED + 2))));
+    group(total, "laws", || filled(|tally| laws::sample(method, &mut Draw(SEED + 3), tally, LAW_CASES)));
+}
+
+fn full_curves(total: &mut Tally) {
+    let method = &Method::new();
+    for kind in [Kind::Freeway, Kind::Multilane] {
+        group(total, &format!("curves, {kind:?}"), || curves::full(method, kind));
+    }
+}
+
+fn full_floats(total: &mut Tally) {
+    for unit in [Unit::MilesPerHour, Unit::KilometresPerHour] {
+        group(total, &format!("floats, {unit:?}"), || {
+            let counts = floats::full(unit);
+            println!("{unit:?}: {} accepted, {} refused", counts.accepted, counts.refused);
+            counts.tally
+        });
+    }
+}
+
+fn main() {
+    let arguments: Vec<String> = std::env::args().skip(1).collect();
+    let mut total = Tally::default();
+    match arguments.iter().map(String::as_str).collect::<Vec<_>>()[..] {
+        ["quick"] => quick(&mut total),
+        ["full-curves"] => full_curves(&mut total),
+        ["full-floats"] => full_floats(&mut total),
+        ["los", path] => {
+            let method = &Method::new();
+            group(&mut total, "lines through los", || filled(|tally| los::random_lines(method, &mut Draw(SEED + 4), tally, path)));
+        }
+        _ => {
+            println!("usage: compare quick | full-curves | full-floats | los PATH");
+            exit(2);
+        }
+    }
+    println!("compare: {} checks, {} differences", total.checks, total.differences);
+    exit(i32::from(total.differences > 0));
+}

@@ -1,0 +1,117 @@
+// Whole curves: a given free-flow speed with each flow rate. On two lanes with H = 1,000 and P = 0 the demand 2v has the flow rate v.
+
+use super::draw::append_line;
+use super::engine;
+use super::tally::Tally;
+use crate::second::lines;
+use crate::second::method::{density, millionths, speed_at_weight, Case, Kind, Median, Method, Service, Terrain, Way};
+use std::fmt::Write;
+use std::thread;
+
+// Strides that share no factor with 10, 45 or the steps of the tables.
+const SPEED_STRIDE: usize = 97;
+const FLOW_STRIDE: usize = 7;
+const THREADS: u64 = 2;
+
+fn case(kind: Kind, free_flow_speed: u64) -> Case {
+    Case {
+        kind,
+        way: Way::Given,
+        speed: free_flow_speed,
+        width: 120,
+        right: 60,
+        left: 60,
+        median: Median::Divided,
+        access: 0,
+        lanes: 2,
+        demand: 0,
+        factor: 1_000,
+        share: 0,
+        terrain: Terrain::Level,
+    }
+}
+
+// One curve. The service volumes do not change with the demand and are searched for once.
+fn curve(method: &Method, tally: &mut Tally, kind: Kind, free_flow_speed: u64, flow_rates: impl Iterator<Item = u64>) {
+    let road = case(kind, free_flow_speed);
+    let capacity = kind.capacity(free_flow_speed);
+    let volumes = method.service_volumes(&road, free_flow_speed).map(|volume| volume.to_string()).join("\t");
+    let (mut line, mut expected, mut buffer) = (String::new(), String::new(), [0u8; 64]);
+    for flow_rate in flow_rates {
+        line.clear();
+        append_line(&mut line, &Case { demand: 2 * flow_rate, ..road });
+        let Service { letter, speed, density } = method.service(kind, free_flow_speed, flow_rate);
+        let letter = lines::letter_name(letter);
+        expected.clear();
+        let written = writeln!(expected, "{letter}\t{free_flow_speed}\t{capacity}\t{flow_rate}\t{speed}\t{density}\t{volumes}");
+        written.expect("a string can be written to");
+        let result = engine::answer(line.as_bytes(), &mut buffer);
+        let same = result == expected.len() as i32 && buffer[..expected.len()] == *expected.as_bytes();
+        tally.check(same, || format!("{line:?}: engine {:?}, second {expected:?}", engine::text(result, &buffer)));
+    }
+}
+
+// The flow rates around the breakpoint, each change of letter and capacity.
+fn telling_flow_rates(method: &Method, kind: Kind, free_flow_speed: u64) -> Vec<u64> {
+    let mut centres = method.service_volumes(&case(kind, free_flow_speed), free_flow_speed).map(|volume| volume / 2).to_vec();
+    centres.extend([kind.breakpoint(free_flow_speed) / 100, kind.capacity(free_flow_speed) / 100]);
+    centres.iter().flat_map(|&centre| centre - 1..=centre + 2).collect()
+}
+
+// Some speeds of each kind, the ends and what is beside them included, with some flow rates of each.
+pub fn by_stride(method: &Method, tally: &mut Tally) {
+    for kind in [Kind::Freeway, Kind::Multilane] {
+        let (low, high) = (*kind.free_flow_speeds().start(), *kind.free_flow_speeds().end());
+        for (place, speed) in (low..=high).step_by(SPEED_STRIDE).chain([low + 1, high - 1, high, 60_000, 65_000]).enumerate() {
+            let most = kind.capacity(speed) / 100 + 1;
+            curve(method, tally, kind, speed, (place as u64 % FLOW_STRIDE as u64..=most).step_by(FLOW_STRIDE));
+            curve(method, tally, kind, speed, telling_flow_rates(method, kind, speed).into_iter());
+        }
+    }
+}
+
+// What is shown of a flow rate on kind M with a table entry t.
+fn shown(free_flow_speed: u64, flow_rate: u64, t: u64) -> (u64, u64) {
+    let speed = speed_at_weight(Kind::Multilane, free_flow_speed, millionths(t));
+    (speed.rounded_down(), density(speed, flow_rate).rounded_up())
+}
+
+// Flow rates on kind M that show the entries of the table: two for each, at one of which a greater entry, at the other a smaller one, would
+// be seen. Two entries lack one: T(1), which no whole flow rate looks up, and T(1,000), where one millionth less cannot be seen.
+pub fn table_entries(method: &Method, tally: &mut Tally) {
+    let mut seen = [[false; 2]; 1_001];
+    for speed in Kind::Multilane.free_flow_speeds().rev() {
+        let (b, c) = (Kind::Multilane.breakpoint(speed), Kind::Multilane.capacity(speed));
+        for flow_rate in b / 100 + 1..=c / 100 {
+            let i = (1_000 * (100 * flow_rate - b)).div_ceil(c - b);
+            let t = method.power(i);
+            for (seen, other) in seen[i as usize].iter_mut().zip([t + 1, t - 1]) {
+                if !*seen && shown(speed, flow_rate, other) != shown(speed, flow_rate, t) {
+                    *seen = true;
+                    curve(method, tally, Kind::Multilane, speed, [flow_rate].into_iter());
+                }
+            }
+        }
+    }
+    let unseen: Vec<usize> = (1..=1_000).filter(|&i| seen[i] != [true, true]).collect();
+    tally.equal(unseen, vec![1, 1_000], || "entries that no flow rate shows".to_string());
+}
+
+// Every speed of a kind with every flow rate up to capacity and the first above it.
+pub fn full(method: &Method, kind: Kind) -> Tally {
+    let part = |remainder: u64| {
+        let mut tally = Tally::default();
+        for speed in kind.free_flow_speeds().filter(|speed| speed % THREADS == remainder) {
+            curve(method, &mut tally, kind, speed, 0..=kind.capacity(speed) / 100 + 1);
+        }
+        tally
+    };
+    thread::scope(|scope| {
+        let threads: Vec<_> = (0..THREADS).map(|remainder| scope.spawn(move || part(remainder))).collect();
+        let mut total = Tally::default();
+        for thread in threads {
+            total.add(thread.join().expect("a part ends"));
+        }
+        total
+    })
+}

@@ -1,0 +1,53 @@
+// The four calls of include/marehour.h.
+
+use crate::second::survey::Unit;
+
+extern "C" {
+    fn marehour_answer(line: *const u8, line_length: usize, answer: *mut u8, answer_length: usize) -> i32;
+    fn marehour_lanes(line: *const u8, line_length: usize, letter: u32, answer: *mut u8, answer_length: usize) -> i32;
+    fn marehour_survey_mph(speed: f32, cars: u32, flow: u32) -> i32;
+    fn marehour_survey_kmh(speed: f32, cars: u32, flow: u32) -> i32;
+}
+
+pub fn answer(line: &[u8], buffer: &mut [u8]) -> i32 {
+    // Safety: both pointers come with the lengths of what they point to.
+    unsafe { marehour_answer(line.as_ptr(), line.len(), buffer.as_mut_ptr(), buffer.len()) }
+}
+
+pub fn lanes(line: &[u8], letter: u32, buffer: &mut [u8]) -> i32 {
+    // Safety: as above.
+    unsafe { marehour_lanes(line.as_ptr(), line.len(), letter, buffer.as_mut_ptr(), buffer.len()) }
+}
+
+pub fn survey(bits: u32, unit: Unit, cars: u32, flow: u32) -> i32 {
+    let speed = f32::from_bits(bits);
+    // Safety: no memory is lent.
+    unsafe {
+        match unit {
+            Unit::MilesPerHour => marehour_survey_mph(speed, cars, flow),
+            Unit::KilometresPerHour => marehour_survey_kmh(speed, cars, flow),
+        }
+    }
+}
+
+// The answer to a line as text without its newline, or X and the refusal, as los prints it.
+pub fn answer_text(line: &[u8]) -> String {
+    let mut buffer = [0; 64];
+    let result = answer(line, &mut buffer);
+    text(result, &buffer)
+}
+
+pub fn lanes_text(line: &[u8], letter: u32) -> String {
+    let mut buffer = [0; 64];
+    let result = lanes(line, letter, &mut buffer);
+    text(result, &buffer)
+}
+
+// What a call handed back and wrote, in the form of los.
+pub fn text(result: i32, buffer: &[u8]) -> String {
+    if result < 0 {
+        return format!("X\t{}", -i64::from(result));
+    }
+    let written = buffer.get(..result as usize).unwrap_or(b"more than the buffer\n");
+    String::from_utf8_lossy(written.strip_suffix(b"\n").unwrap_or(b"no newline")).into_owned()
+}

@@ -1,0 +1,438 @@
+// What document 01 says by figures, and figures worked out by hand from its rules, checked against both implementations. Lines are written
+// with blanks for tabs; a - stands for a figure that is not checked there by itself.
+
+use super::engine;
+use super::tally::Tally;
+use crate::second::lines;
+use crate::second::method::Method;
+use crate::second::survey::{self, Unit};
+
+const LINE: &str = "F E 75400 110 20 0 D 24 2 2000 920 50 R";
+
+// Lines and the first fields of their answers.
+const ANSWERS: &[(&str, &str)] = &[
+    // The line above.
+    (LINE, "C 60783 230783 1196 60783 197 1117 1829 2642 3360 3858"),
+    // Ramp terms 3,220, 10,317 and 0, seen through F.
+    ("F E 70000 120 60 60 D 6 2 0 1000 0 L", "A 66780"),
+    ("F E 70000 120 60 60 D 24 2 0 1000 0 L", "A 59683"),
+    ("F E 70000 120 60 60 D 0 2 0 1000 0 L", "A 70000"),
+    // v = 825 gives density 110, A; 826 gives 111, B.
+    ("F G 75000 120 60 60 D 0 2 1650 1000 0 L", "A 75000 - 825 - 110"),
+    ("F G 75000 120 60 60 D 0 2 1652 1000 0 L", "B 75000 - 826 - 111"),
+    // V = 4,500 gives speed 50,000, density 450, E; V = 4,501 gives F; 54,999 is refused with 10.
+    ("F G 55000 120 60 60 D 0 2 4500 1000 0 L", "E 55000 - - 50000 450"),
+    ("F G 55000 120 60 60 D 0 2 4501 1000 0 L", "F 55000 - - 0 0"),
+    ("F G 54999 120 60 60 D 0 2 4500 1000 0 L", "X 10"),
+    // v = 1,400 gives 60,000, 234, C; v = 1,800 gives speed 55,518, density 325, D.
+    ("M G 60000 120 60 60 D 0 2 2800 1000 0 L", "C 60000 - 1400 60000 234"),
+    ("M G 60000 120 60 60 D 0 2 3600 1000 0 L", "D 60000 - 1800 55518 325"),
+    // Median D gives F = 54,300, U gives 53,600.
+    ("M E 60000 110 40 20 D 10 2 0 1000 0 L", "A 54300"),
+    ("M E 60000 110 40 20 U 10 2 0 1000 0 L", "A 53600"),
+    // Right clearance 59, F kind, 2 lanes: 600 off.
+    ("F E 70000 120 59 60 D 0 2 0 1000 0 L", "A 69400"),
+    // V = 0: density 0, A.
+    ("F E 75400 110 20 0 D 24 2 0 920 50 R", "A 60783 - 0 60783 0"),
+    ("M G 45000 100 0 0 U 200 3 0 250 1000 R", "A 45000 - 0 45000 0"),
+    // A value above the upper end is taken as that end; below the lower end, refusal 10.
+    ("F G 75001 120 60 60 D 0 2 0 1000 0 L", "A 75000"),
+    ("F G 90000 120 60 60 D 0 2 0 1000 0 L", "A 75000"),
+    ("F E 75001 120 60 60 D 0 2 0 1000 0 L", "A 75000"),
+    ("F G 55000 120 60 60 D 0 2 0 1000 0 L", "A 55000"),
+    ("F E 55000 120 60 60 D 0 2 0 1000 0 L", "A 55000"),
+    ("F E 54999 120 60 60 D 0 2 0 1000 0 L", "X 10"),
+    ("M G 70001 120 60 60 D 0 2 0 1000 0 L", "A 70000"),
+    ("M E 90000 120 60 60 D 0 2 0 1000 0 L", "A 70000"),
+    ("M G 45000 120 60 60 D 0 2 0 1000 0 L", "A 45000"),
+    ("M G 44999 120 60 60 D 0 2 0 1000 0 L", "X 10"),
+    ("M E 44999 120 60 60 D 0 2 0 1000 0 L", "X 10"),
+    // Given: fields for the road are not used.
+    ("F G 60000 100 0 0 D 48 2 0 1000 0 L", "A 60000"),
+    ("M G 60000 100 0 0 U 200 2 0 1000 0 L", "A 60000"),
+    // Capacity.
+    ("F G 55000 120 60 60 D 0 2 0 1000 0 L", "A 55000 225000"),
+    ("F G 69999 120 60 60 D 0 2 0 1000 0 L", "A 69999 239999"),
+    ("F G 70000 120 60 60 D 0 2 0 1000 0 L", "A 70000 240000"),
+    ("F G 75000 120 60 60 D 0 2 0 1000 0 L", "A 75000 240000"),
+    ("M G 45000 120 60 60 D 0 2 0 1000 0 L", "A 45000 190000"),
+    ("M G 64999 120 60 60 D 0 2 0 1000 0 L", "A 64999 229998"),
+    ("M G 65000 120 60 60 D 0 2 0 1000 0 L", "A 65000 230000"),
+    ("M G 70000 120 60 60 D 0 2 0 1000 0 L", "A 70000 230000"),
+    // Up to the breakpoint S = F, and not past it: 1,600 at F = 60,000 on kind F.
+    ("F G 60000 120 60 60 D 0 2 3200 1000 0 L", "D 60000 230000 1600 60000 267"),
+    ("F G 60000 120 60 60 D 0 2 3202 1000 0 L", "D 60000 230000 1601 59999 267"),
+    // Flow rates are rounded up: 999 × 1.05 / (0.92 × 2) = 570.08, 999 × 1.1 / (0.92 × 2) = 597.2.
+    ("F G 60000 120 60 60 D 0 2 999 920 50 L", "A 60000 230000 571"),
+    ("F G 60000 120 60 60 D 0 2 999 920 50 R", "A 60000 230000 598"),
+    // The greatest flow rate.
+    ("F G 60000 120 60 60 D 0 2 99999 250 1000 R", "F 60000 230000 599994 0 0"),
+];
+
+// The lanes question: letter, line, answer.
+const LANES: &[(u32, &str, &str)] = &[
+    (3, LINE, "2"),
+    (3, "F E 75400 110 20 0 D 24 2 2643 920 50 R", "3"),
+    (3, "F E 75400 110 20 0 D 24 2 2642 920 50 R", "2"),
+    (3, "F E 75400 110 20 0 D 24 2 99999 920 50 R", "X 14"),
+    // The answer does not rest on the lanes of the case.
+    (3, "F E 75400 110 20 0 D 24 8 2000 920 50 R", "2"),
+    // It checks 1 to 9, not 10. One missing foot takes off 600, 400, 200: F is below 55,000 with one count, two counts, every count.
+    (5, "F E 55600 120 59 0 D 0 2 0 1000 0 L", "2"),
+    (5, "F E 55599 120 59 0 D 0 2 0 1000 0 L", "3"),
+    (5, "F E 55400 120 59 0 D 0 2 0 1000 0 L", "3"),
+    (5, "F E 55399 120 59 0 D 0 2 0 1000 0 L", "4"),
+    (5, "F E 55099 120 59 0 D 0 2 0 1000 0 L", "X 14"),
+    (5, "F G 54999 120 60 60 D 0 2 0 1000 0 L", "X 14"),
+    (5, "M G 44999 120 60 60 D 0 2 0 1000 0 L", "X 14"),
+    // The least and the greatest count of each kind: 825 a lane is A at F = 75,000 on kind F, 2,200 is E at 60,000 on kind M.
+    (1, "F G 75000 120 60 60 D 0 2 1650 1000 0 L", "2"),
+    (1, "F G 75000 120 60 60 D 0 2 6600 1000 0 L", "8"),
+    (1, "F G 75000 120 60 60 D 0 2 6601 1000 0 L", "X 14"),
+    (5, "M G 60000 120 60 60 D 0 2 4400 1000 0 L", "2"),
+    (5, "M G 60000 120 60 60 D 0 2 6600 1000 0 L", "3"),
+    (5, "M G 60000 120 60 60 D 0 2 6601 1000 0 L", "X 14"),
+];
+
+// Chapter 26 of the manual, its examples 1 to 3. The first is the document's line. The second and third are from memory, not from the book.
+// Example 2: 3 lanes for D, F of about 67.3 mi/h. Example 3: D, and E with 5,600 vehicles.
+const EXAMPLE_2: &str = "F E 75400 120 60 60 D 18 3 4000 850 150 L";
+const EXAMPLES: &[(&str, &str)] = &[
+    (LINE, "C 60783 230783 1196 60783 197 1117 1829 2642 3360 3858"),
+    (EXAMPLE_2, "D"),
+    ("F G 70000 120 60 60 D 0 3 5000 950 100 L", "D"),
+    ("F G 70000 120 60 60 D 0 3 5600 950 100 L", "E"),
+];
+
+// Width, and what it takes off.
+const WIDTHS: [(u64, u64); 6] = [(100, 6_600), (109, 6_600), (110, 1_900), (119, 1_900), (120, 0), (200, 0)];
+
+// Right clearance, and the missing feet; lanes, and what a missing foot takes off.
+const MISSING_FEET: [(u64, u64); 12] =
+    [(0, 6), (9, 6), (10, 5), (19, 5), (20, 4), (39, 3), (40, 2), (50, 1), (59, 1), (60, 0), (61, 0), (400, 0)];
+const PER_FOOT: [(u64, u64); 7] = [(2, 600), (3, 400), (4, 200), (5, 100), (6, 100), (7, 100), (8, 100)];
+
+// Right and left clearance of a divided highway, and the even feet of their sum.
+const EVEN_FEET: [(u64, u64, u64); 18] = [
+    (60, 60, 12),
+    (400, 61, 12),
+    (60, 59, 10),
+    (59, 60, 10),
+    (40, 60, 10),
+    (60, 39, 8),
+    (20, 60, 8),
+    (60, 19, 6),
+    (60, 0, 6),
+    (0, 400, 6),
+    (59, 0, 4),
+    (20, 20, 4),
+    (20, 19, 2),
+    (19, 19, 2),
+    (10, 10, 2),
+    (0, 20, 2),
+    (19, 0, 0),
+    (0, 0, 0),
+];
+// Even feet, and what they take off with 2 and with 3 lanes.
+const TOTAL_CLEARANCE: [(u64, u64, u64); 7] =
+    [(12, 0, 0), (10, 400, 400), (8, 900, 900), (6, 1_300, 1_300), (4, 1_800, 1_700), (2, 3_600, 2_800), (0, 5_400, 3_900)];
+
+// Access points, and what they take off.
+const ACCESS: [(u64, u64); 6] = [(0, 0), (1, 250), (39, 9_750), (40, 10_000), (41, 10_000), (200, 10_000)];
+
+// Surveys: unit, speed, cars, flow, answer.
+const SURVEYS: &[(Unit, f32, u32, u32, i32)] = &[
+    (Unit::KilometresPerHour, 100.0, 100, 999, 62_137),
+    (Unit::MilesPerHour, 60.0, 100, 999, 60_000),
+    (Unit::MilesPerHour, 60.5, u32::MAX, 0, 60_500),
+    // 30 and the float below it; the float nearest to 90.001, which lies below it, and the next.
+    (Unit::MilesPerHour, 30.0, 100, 0, 30_000),
+    (Unit::MilesPerHour, 29.999_998, 100, 0, -13),
+    (Unit::MilesPerHour, 90.001, 100, 0, 90_000),
+    (Unit::MilesPerHour, 90.001_01, 100, 0, -13),
+    // The floats on both sides of 48.28032 km/h, which is 30 mi/h, and of 144.842569344 km/h, which is 90.001 mi/h.
+    (Unit::KilometresPerHour, 48.280_323, 100, 0, 30_000),
+    (Unit::KilometresPerHour, 48.280_319, 100, 0, -13),
+    (Unit::KilometresPerHour, 144.842_56, 100, 0, 90_000),
+    (Unit::KilometresPerHour, 144.842_58, 100, 0, -13),
+    (Unit::MilesPerHour, f32::INFINITY, 100, 0, -13),
+    (Unit::KilometresPerHour, f32::NAN, 100, 0, -13),
+    (Unit::MilesPerHour, -60.0, 100, 0, -13),
+    (Unit::MilesPerHour, 0.0, 100, 0, -13),
+    // In this order: 11, 12, 13.
+    (Unit::MilesPerHour, 0.0, 99, 1_000, -11),
+    (Unit::MilesPerHour, 60.0, 99, 999, -11),
+    (Unit::MilesPerHour, 60.0, 0, 0, -11),
+    (Unit::MilesPerHour, 0.0, 100, 1_000, -12),
+    (Unit::KilometresPerHour, 100.0, 100, 1_000, -12),
+    (Unit::KilometresPerHour, 100.0, 100, u32::MAX, -12),
+];
+
+// The refusals 1 to 10 of each kind: number, field (the first is 0), least and greatest value that it does not refuse. Where no value is
+// too small, the least is 0. 7 cannot be put on a line.
+const FREEWAY_LIMITS: [(i32, usize, u64, u64); 9] = [
+    (1, 2, 55_000, 90_000),
+    (2, 3, 100, 200),
+    (3, 4, 0, 400),
+    (3, 5, 0, 400),
+    (5, 7, 0, 48),
+    (6, 8, 2, 8),
+    (8, 10, 250, 1_000),
+    (9, 11, 0, 1_000),
+    (10, 2, 55_000, 90_000),
+];
+const MULTILANE_LIMITS: [(i32, usize, u64, u64); 9] = [
+    (1, 2, 45_000, 90_000),
+    (2, 3, 100, 200),
+    (3, 4, 0, 400),
+    (3, 5, 0, 400),
+    (5, 7, 0, 200),
+    (6, 8, 2, 3),
+    (8, 10, 250, 1_000),
+    (9, 11, 0, 1_000),
+    (10, 2, 45_000, 90_000),
+];
+
+// A fault for each refusal: number, field, value.
+const FREEWAY_FAULTS: [(i32, usize, &str); 9] = [
+    (1, 2, "29999"),
+    (2, 3, "99"),
+    (3, 5, "401"),
+    (4, 6, "T"),
+    (5, 7, "49"),
+    (6, 8, "9"),
+    (8, 10, "249"),
+    (9, 11, "1001"),
+    (10, 2, "54999"),
+];
+const MULTILANE_FAULTS: [(i32, usize, &str); 8] =
+    [(1, 2, "90001"), (2, 3, "201"), (3, 4, "401"), (5, 7, "201"), (6, 8, "4"), (8, 10, "1001"), (9, 11, "99999"), (10, 2, "44999")];
+const FREEWAY: &str = "F G 60000 120 60 60 D 0 2 1000 1000 0 L";
+const MULTILANE: &str = "M G 60000 120 60 60 D 0 2 1000 1000 0 L";
+
+// Malformed lines. A ~ stands for a tab beside one.
+const MALFORMED: &[&str] = &[
+    "",
+    "~",
+    "F",
+    "F G 60000 120 60 60 D 0 2 1000 1000 0",
+    "F G 60000 120 60 60 D 0 2 1000 1000 0 L ",
+    "F G 60000 120 60 60 D 0 2 1000 1000 0 L L",
+    " F G 60000 120 60 60 D 0 2 1000 1000 0 L",
+    "F G 60000 ~120 60 60 D 0 2 1000 1000 0 L",
+    "F G 60000  60 60 D 0 2 1000 1000 0 L",
+    "f G 60000 120 60 60 D 0 2 1000 1000 0 L",
+    "FF G 60000 120 60 60 D 0 2 1000 1000 0 L",
+    "G G 60000 120 60 60 D 0 2 1000 1000 0 L",
+    "F F 60000 120 60 60 D 0 2 1000 1000 0 L",
+    "F e 60000 120 60 60 D 0 2 1000 1000 0 L",
+    "F G 060000 120 60 60 D 0 2 1000 1000 0 L",
+    "F G 60000 0120 60 60 D 0 2 1000 1000 0 L",
+    "F G 60000 120 00 60 D 0 2 1000 1000 0 L",
+    "F G 60000 120 60 6O D 0 2 1000 1000 0 L",
+    "F G 60000 120 60 -1 D 0 2 1000 1000 0 L",
+    "F G 60000 120 60 60 X 0 2 1000 1000 0 L",
+    "F G 60000 120 60 60 d 0 2 1000 1000 0 L",
+    "F G 60000 120 60 60 D +0 2 1000 1000 0 L",
+    "F G 60000 120 60 60 D 0 2.0 1000 1000 0 L",
+    "F G 60000 120 60 60 D 0 2 100000 1000 0 L",
+    "F G 60000 120 60 60 D 0 2 4294968296 1000 0 L",
+    "F G 60000 120 60 60 D 0 2 1000 1e3 0 L",
+    "F G 60000 120 60 60 D 0 2 1000 1000 : L",
+    "F G 60000 120 60 60 D 0 2 1000 1000 / L",
+    "F G 60000 120 60 60 D 0 2 1000 1000 0 l",
+    "F G 60000 120 60 60 D 0 2 1000 1000 0 M",
+    "F G 60000 120 60 60 D 0 2 1000 1000 0 L\r",
+    "F G 60000 120 60 60 D 0 2 1000 1000 0 L\n",
+    "F G 60000 120 60 60 D 0 2 1000 1000 0 L\0",
+    // 80 and 81 bytes.
+    "F G 60000 120 60 60 D 0 2 1000 1000 00000000000000000000000000000000000000000000 L",
+    "F G 60000 120 60 60 D 0 2 1000 1000 000000000000000000000000000000000000000000000 L",
+];
+
+fn tabbed(line: &str) -> Vec<u8> {
+    line.replace(' ', "\t").replace('~', "\t").into_bytes()
+}
+
+fn with_field(line: &str, field: usize, value: &str) -> String {
+    let mut fields: Vec<&str> = line.split(' ').collect();
+    fields[field] = value;
+    fields.join(" ")
+}
+
+// Whether a text begins with the expected fields, of which - fits any.
+fn begins(text: &str, expected: &str) -> bool {
+    let mut fields = text.split('\t');
+    expected.split(' ').all(|wanted| fields.next().is_some_and(|field| wanted == "-" || wanted == field))
+}
+
+pub struct Paper<'a> {
+    pub method: &'a Method,
+    pub tally: Tally,
+}
+
+impl Paper<'_> {
+    // Both implementations must answer a line alike, and as the document says.
+    fn answer(&mut self, line: &str, expected: &str) {
+        let bytes = tabbed(line);
+        let (theirs, ours) = (engine::answer_text(&bytes), lines::los_line(self.method, &bytes));
+        let ours = ours.trim_end_matches('\n');
+        self.both(line, &theirs, ours, expected);
+    }
+
+    fn lanes(&mut self, letter: u32, line: &str, expected: &str) {
+        let bytes = tabbed(line);
+        let mut buffer = [0; 64];
+        let result = lines::lanes(self.method, &bytes, letter, &mut buffer);
+        let ours = engine::text(result, &buffer);
+        self.both(&format!("lanes for letter {letter}, {line}"), &engine::lanes_text(&bytes, letter), &ours, expected);
+    }
+
+    fn both(&mut self, what: &str, theirs: &str, ours: &str, expected: &str) {
+        self.tally.check(begins(theirs, expected), || format!("{what}: engine {theirs:?}, document {expected:?}"));
+        self.tally.check(begins(ours, expected), || format!("{what}: second {ours:?}, document {expected:?}"));
+        self.tally.check(theirs == ours, || format!("{what}: engine {theirs:?}, second {ours:?}"));
+    }
+
+    fn free_flow_speed(&mut self, line: &str, expected: u64) {
+        self.answer(line, &format!("A {expected}"));
+    }
+
+    fn adjustments(&mut self) {
+        for (width, off) in WIDTHS {
+            self.free_flow_speed(&format!("F E 70000 {width} 60 60 D 0 2 0 1000 0 L"), 70_000 - off);
+            self.free_flow_speed(&format!("M E 70000 {width} 60 60 D 0 2 0 1000 0 L"), 70_000 - off);
+        }
+        for (right, missing) in MISSING_FEET {
+            for (lanes, per_foot) in PER_FOOT {
+                self.free_flow_speed(&format!("F E 70000 120 {right} 0 D 0 {lanes} 0 1000 0 L"), 70_000 - missing * per_foot);
+            }
+        }
+        for (right, left, feet) in EVEN_FEET {
+            let (_, two, three) = TOTAL_CLEARANCE.into_iter().find(|row| row.0 == feet).expect("each count has its row");
+            for (lanes, off) in [(2, two), (3, three)] {
+                self.free_flow_speed(&format!("M E 70000 120 {right} {left} D 0 {lanes} 0 1000 0 L"), 70_000 - off);
+            }
+        }
+        // Left counts as 60 for medians U and T; U takes 1,600 off.
+        for (left, right, off) in [(0, 60, 0), (60, 60, 0), (400, 59, 400), (0, 0, 1_300), (0, 39, 900)] {
+            self.free_flow_speed(&format!("M E 70000 120 {right} {left} U 0 2 0 1000 0 L"), 70_000 - off - 1_600);
+            self.free_flow_speed(&format!("M E 70000 120 {right} {left} T 0 2 0 1000 0 L"), 70_000 - off);
+        }
+        for (points, off) in ACCESS {
+            self.free_flow_speed(&format!("M E 70000 120 60 60 D {points} 2 0 1000 0 L"), 70_000 - off);
+        }
+        // Every count of ramps and of access points, for which the document gives the rule alone.
+        for ramps in 0..=48 {
+            self.answer(&format!("F E 75000 120 60 60 D {ramps} 2 0 1000 0 L"), "A");
+        }
+        for points in 0..=200 {
+            self.answer(&format!("M E 70000 120 60 60 D {points} 2 0 1000 0 L"), "A");
+        }
+    }
+
+    // The values at a limit are accepted, those past it refused with its number.
+    fn limits(&mut self) {
+        for (line, limits) in [(FREEWAY, FREEWAY_LIMITS), (MULTILANE, MULTILANE_LIMITS)] {
+            for (number, field, least, most) in limits {
+                for value in [least, most] {
+                    self.accepted(&with_field(line, field, &value.to_string()));
+                }
+                if number != 10 {
+                    self.answer(&with_field(line, field, &(most + 1).to_string()), &format!("X {number}"));
+                }
+                if number != 1 && least > 0 {
+                    self.answer(&with_field(line, field, &(least - 1).to_string()), &format!("X {number}"));
+                }
+            }
+            self.answer(&with_field(line, 2, "29999"), "X 1");
+            self.answer(&with_field(line, 2, "30000"), "X 10");
+        }
+        for median in ["U", "T"] {
+            self.answer(&with_field(FREEWAY, 6, median), "X 4");
+            self.accepted(&with_field(MULTILANE, 6, median));
+        }
+    }
+
+    fn accepted(&mut self, line: &str) {
+        self.answer(line, "-");
+        let text = engine::answer_text(&tabbed(line));
+        self.tally.check(!text.starts_with('X'), || format!("{line}: engine {text:?}, the document accepts it"));
+    }
+
+    // Of two faults the one with the smaller number is refused. The lanes question passes over 10.
+    fn order(&mut self) {
+        for (line, faults) in [(FREEWAY, &FREEWAY_FAULTS[..]), (MULTILANE, &MULTILANE_FAULTS[..])] {
+            for (place, &(number, field, value)) in faults.iter().enumerate() {
+                for &(_, other_field, other_value) in &faults[place..] {
+                    let faulty = with_field(&with_field(line, other_field, other_value), field, value);
+                    self.answer(&faulty, &format!("X {number}"));
+                    self.lanes(5, &faulty, &format!("X {}", if number == 10 { 14 } else { number }));
+                    self.lanes(0, &faulty, "X 16");
+                    self.lanes(6, &faulty, "X 16");
+                    self.answer(&format!("{faulty} "), "X 15");
+                    self.lanes(0, &format!("{faulty} "), "X 15");
+                }
+            }
+        }
+        for line in MALFORMED {
+            self.answer(line, "X 15");
+            self.lanes(1, line, "X 15");
+            self.lanes(0, line, "X 15");
+        }
+        for letter in [0, 6, 7, 256, 257, 65_537, u32::MAX] {
+            self.lanes(letter, LINE, "X 16");
+        }
+    }
+
+    // An answer buffer under 64 bytes, first of all. Everything else here lends 64.
+    fn buffer_length(&mut self) {
+        for line in [LINE, "", &with_field(LINE, 2, "0")] {
+            let (line, method) = (tabbed(line), self.method);
+            for length in 0..64 {
+                let buffer = &mut [0; 64][..length];
+                let results = [
+                    engine::answer(&line, buffer),
+                    engine::lanes(&line, 0, buffer),
+                    lines::answer(method, &line, buffer),
+                    lines::lanes(method, &line, 0, buffer),
+                ];
+                self.tally.equal(results, [-17; 4], || format!("both calls of engine and second, buffer of {length}"));
+            }
+        }
+    }
+
+    fn surveys(&mut self) {
+        for &(unit, speed, cars, flow, expected) in SURVEYS {
+            let bits = speed.to_bits();
+            let what = || format!("{speed} {unit:?}, {cars} cars, flow {flow}");
+            self.tally.equal(engine::survey(bits, unit, cars, flow), expected, || format!("engine, {}", what()));
+            self.tally.equal(survey::speed(bits, unit, cars, flow), expected, || format!("second, {}", what()));
+        }
+    }
+
+    pub fn boundary_sections(&mut self) {
+        for (line, expected) in ANSWERS {
+            self.answer(line, expected);
+        }
+        for &(letter, line, expected) in LANES {
+            self.lanes(letter, line, expected);
+        }
+        self.tally.equal(self.method.power(500), 403_321, || "T(500)".to_string());
+        self.adjustments();
+        self.limits();
+        self.order();
+        self.buffer_length();
+        self.surveys();
+    }
+
+    pub fn examples(&mut self) {
+        for (line, expected) in EXAMPLES {
+            self.answer(line, expected);
+        }
+        self.lanes(4, EXAMPLE_2, "3");
+        let text = engine::answer_text(&tabbed(EXAMPLE_2));
+        let free_flow_speed: u64 = text.split('\t').nth(1).and_then(|field| field.parse().ok()).unwrap_or(0);
+        self.tally.equal((free_flow_speed + 50) / 100, 673, || format!("tenths of mi/h of F, {EXAMPLE_2}"));
+    }
+}

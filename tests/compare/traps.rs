@@ -1,0 +1,133 @@
+// The traps that document 01 names. Each is written out as a formula, with an input at which it answers something else: both
+// implementations must give the right answer there, and the trap its wrong one.
+
+use super::engine;
+use super::tally::Tally;
+use crate::second::lines;
+use crate::second::method::{density, flow_rate, millionths, passenger_cars, speed_at_weight, Case, Kind, Method, LETTER_F};
+
+struct Trap {
+    name: &'static str,
+    // The letter of a lanes question, or 0 to ask for the answer.
+    letter: u32,
+    line: &'static str,
+    right: &'static str,
+    wrong: &'static str,
+    formula: fn(&Method, &Case) -> String,
+}
+
+const TRAPS: &[Trap] = &[
+    Trap {
+        name: "dividing by the share instead of multiplying",
+        letter: 0,
+        line: "F E 75400 110 20 0 D 24 2 2000 920 50 R",
+        right: "C 60783 230783 1196 60783 197",
+        wrong: "B 60783 230783 989 60783 163",
+        formula: divided_by_share,
+    },
+    Trap {
+        name: "a letter taken from the shown speed",
+        letter: 0,
+        line: "F G 59000 120 60 60 D 0 2 3970 1000 0 L",
+        right: "D 59000 229000 1985 56714 350",
+        wrong: "E 59000 229000 1985 56714 351",
+        formula: letter_from_shown_speed,
+    },
+    Trap {
+        name: "rounding F to 5 mi/h",
+        letter: 0,
+        line: "F G 62400 120 60 60 D 0 2 2246 1000 0 L",
+        right: "B 62400 232400 1123 62400 180",
+        wrong: "C 60000 230000 1123 60000 188",
+        formula: rounded_to_five,
+    },
+    Trap {
+        name: "keeping F while trying another lane count",
+        letter: 1,
+        line: "F E 70000 120 0 0 D 0 2 3000 1000 0 L",
+        right: "4",
+        wrong: "5",
+        formula: kept_free_flow_speed,
+    },
+    Trap {
+        name: "the freeway breakpoint on kind M",
+        letter: 0,
+        line: "M G 60000 120 60 60 D 0 2 3066 1000 0 L",
+        right: "D 60000 220000 1533 58934 261",
+        wrong: "C 60000 220000 1533 60000 256",
+        formula: freeway_breakpoint,
+    },
+];
+
+// The first six fields of an answer, with blanks.
+fn fields(case: &Case, letter: u32, free_flow_speed: u64, flow_rate: u64, speed: u64, density: u64) -> String {
+    let capacity = case.kind.capacity(free_flow_speed);
+    format!("{} {free_flow_speed} {capacity} {flow_rate} {speed} {density}", lines::letter_name(letter))
+}
+
+fn letter_of(density: u64) -> u32 {
+    [110, 180, 260, 350, 450].iter().position(|&limit| density <= limit).map_or(LETTER_F, |place| place as u32 + 1)
+}
+
+fn free_flow_speed(method: &Method, case: &Case) -> u64 {
+    method.free_flow_speed(case).expect("10 does not refuse the case")
+}
+
+fn divided_by_share(method: &Method, case: &Case) -> String {
+    let speed = free_flow_speed(method, case);
+    let wrong = (case.demand * 1_000 * 1_000).div_ceil(case.factor * case.lanes * passenger_cars(case));
+    let service = method.service(case.kind, speed, wrong);
+    fields(case, service.letter, speed, wrong, service.speed, service.density)
+}
+
+fn letter_from_shown_speed(method: &Method, case: &Case) -> String {
+    let (speed, flow) = (free_flow_speed(method, case), flow_rate(case));
+    let shown = method.service(case.kind, speed, flow).speed;
+    let wrong = (10_000 * flow).div_ceil(shown);
+    fields(case, letter_of(wrong), speed, flow, shown, wrong)
+}
+
+fn rounded_to_five(method: &Method, case: &Case) -> String {
+    let wrong = (free_flow_speed(method, case) + 2_500) / 5_000 * 5_000;
+    let service = method.service(case.kind, wrong, flow_rate(case));
+    fields(case, service.letter, wrong, flow_rate(case), service.speed, service.density)
+}
+
+fn kept_free_flow_speed(method: &Method, case: &Case) -> String {
+    let wrong = free_flow_speed(method, case);
+    let meets = |&lanes: &u64| method.letter(case.kind, wrong, flow_rate(&Case { lanes, ..*case })) <= 1;
+    case.kind.lane_counts().find(meets).map_or("X 14".to_string(), |lanes| lanes.to_string())
+}
+
+fn freeway_breakpoint(method: &Method, case: &Case) -> String {
+    let (speed, flow) = (free_flow_speed(method, case), flow_rate(case));
+    let (wrong, c) = (Kind::Freeway.breakpoint(speed), case.kind.capacity(speed));
+    let i = (1_000 * (100 * flow).saturating_sub(wrong)).div_ceil(c - wrong);
+    let exact = speed_at_weight(case.kind, speed, millionths(method.power(i)));
+    let density = density(exact, flow).rounded_up();
+    fields(case, letter_of(density), speed, flow, exact.rounded_down(), density)
+}
+
+// Blanks for tabs, and no more fields than there are wanted.
+fn cut(text: &str, like: &str) -> String {
+    let count = like.split(' ').count();
+    text.trim_end_matches('\n').split('\t').take(count).collect::<Vec<_>>().join(" ")
+}
+
+pub fn traps(method: &Method, tally: &mut Tally) {
+    for trap in TRAPS {
+        let line = trap.line.replace(' ', "\t").into_bytes();
+        let case = lines::parse(&line).expect("the line is well-formed");
+        let (theirs, ours) = if trap.letter == 0 {
+            (engine::answer_text(&line), lines::los_line(method, &line))
+        } else {
+            let lanes = method.lanes(&case, trap.letter).map_or_else(|number| format!("X\t{number}"), |lanes| lanes.to_string());
+            (engine::lanes_text(&line, trap.letter), lanes)
+        };
+        let wrong = (trap.formula)(method, &case);
+        tally.equal(cut(&theirs, trap.right), trap.right.to_string(), || format!("engine, {}", trap.name));
+        tally.equal(cut(&ours, trap.right), trap.right.to_string(), || format!("second, {}", trap.name));
+        tally.equal(wrong.clone(), trap.wrong.to_string(), || format!("trap, {}", trap.name));
+        tally.check(wrong != trap.right, || format!("{}: the trap gives the right answer", trap.name));
+    }
+}

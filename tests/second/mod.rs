@@ -1,0 +1,10 @@
+// The method of document 01 a second time, to compare the proved engine with. It is written from the document's text alone and shares
+// nothing with the engine: its tables come from the whole powers of their rules, its searches are plain.
+//   big      whole numbers of any size
+//   method   the answer to a case, and the lanes question
+//   lines    cases and answers as text, and the program's input and output
+//   survey   surveyed speeds
+pub mod big;
+pub mod lines;
+pub mod method;
+pub mod survey;
