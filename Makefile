@@ -1,6 +1,6 @@
 # make run      answers the lines of examples/sections.tsv with the program los
-# make test     checks the committed tables, the documents' references, the calls from C and the program's reading and writing, then proves
-#               and tries everything: rt ci
+# make test     checks the committed tables, the documents' references, the calls from C, the program's reading and writing, and its answers
+#               beside published figures, then proves and tries everything: rt ci
 # make tables   writes the constant tables anew
 BUILD = build
 RUSTC = rustc --edition 2021 -O
@@ -14,12 +14,13 @@ run: target/bin/los
 	@target/bin/los < examples/sections.tsv
 
 # rt ci begins by removing target, so what needs the library or the program comes before it.
-test: $(BUILD)/tables $(BUILD)/references $(BUILD)/calls $(BUILD)/widening $(BUILD)/stream target/bin/los
+test: $(BUILD)/tables $(BUILD)/references $(BUILD)/calls $(BUILD)/widening $(BUILD)/stream $(BUILD)/published target/bin/los
 	$(BUILD)/tables check
 	$(BUILD)/references
 	$(BUILD)/calls
 	$(BUILD)/widening "$$(head -n 1 examples/sections.tsv)" 30 C 12 | cmp - examples/widening.out
 	$(BUILD)/stream target/bin/los
+	$(BUILD)/published target/bin/los
 	rt fmt --check
 	rt ci
 
