@@ -484,7 +484,7 @@ fn section_5001() -> Vec<Row> {
         ("k", number("k").whole(100) == section.peak_share()),
         ("D", number("D").whole(100) == DIRECTION),
         ("PHF", number("PHF").whole(1000) == FACTOR),
-        ("V", number("V").up(1, 1) == section.demand().up(1, 1)),
+        ("V", number("V").whole(100) == section.demand().nearest(100, 1)),
         ("BFFS", number("BFFS").nearest(10, 1) == Decimal { digits: i128::from(BASE_SPEED), unit: 1000 }.nearest(10 * MILE, MILLION)),
         ("the count of rows", rows.len() == names.len()),
     ];
