@@ -1,6 +1,7 @@
 # make run      answers the lines of examples/sections.tsv with the program los
 # make test     checks the committed tables, the documents' references, the calls from C and the program's reading and writing, compares the
-#               calls and the program with a second implementation of the method, then proves and tries everything: rt ci
+#               calls and the program with a second implementation of the method and with published figures, then proves and tries
+#               everything: rt ci
 # make full     compares every curve and every float with the second implementation
 # make tables   writes the constant tables anew
 BUILD = build
@@ -15,7 +16,7 @@ run: target/bin/los
 	@target/bin/los < examples/sections.tsv
 
 # rt ci begins by removing target, so what needs the library or the program comes before it.
-test: $(BUILD)/tables $(BUILD)/references $(BUILD)/calls $(BUILD)/widening $(BUILD)/stream $(BUILD)/compare target/bin/los
+test: $(BUILD)/tables $(BUILD)/references $(BUILD)/calls $(BUILD)/widening $(BUILD)/stream $(BUILD)/compare $(BUILD)/published target/bin/los
 	$(BUILD)/tables check
 	$(BUILD)/references
 	$(BUILD)/calls
@@ -23,6 +24,7 @@ test: $(BUILD)/tables $(BUILD)/references $(BUILD)/calls $(BUILD)/widening $(BUI
 	$(BUILD)/stream target/bin/los
 	$(BUILD)/compare quick
 	$(BUILD)/compare los target/bin/los
+	$(BUILD)/published target/bin/los
 	rt fmt --check
 	rt ci
 
