@@ -17,20 +17,21 @@ check() { # PROGRAM
 # Instructions a line, with what starting takes.
 instructions() { # PROGRAM
     total=$(valgrind --tool=callgrind --callgrind-out-file="$build/callgrind.out" "$1" <"$few" 2>&1 >"$build/few.out" | sed -n 's/.*Collected : //p')
-    printf '%-24s %10d\n' "$1" $((total / $(wc -l <"$few")))
+    printf '%-24s %17d\n' "$1" $((total / $(wc -l <"$few")))
 }
 
 "$los" <"$lines" >"$build/answers.tsv"
 for program in "$los" "$@"; do check "$program"; done
-echo "$count lines: los and plain C print the same bytes. Best of $runs runs, in turn."
+echo "$count lines: los and plain C print the same bytes. Best of $runs runs, in turn; ratio: the first over the row's."
+for program in "$@"; do echo "$program: $("${program##*-}" --version | head -n 1), -O3"; done
 echo
 "$build/race" "$lines" "$count" "$runs" "$los" "$@"
 echo
 "$build/calls" "$lines" "$runs"
 echo
-if command -v valgrind >"$build/valgrind.path"; then
+if command -v valgrind >/dev/null; then
     head -n 20000 "$lines" >"$few"
-    printf '%-24s %10s\n' program "instructions/line"
+    printf '%-24s %17s\n' program instructions/line
     for program in "$los" "$@"; do instructions "$program"; done
 else
     echo "valgrind is not installed: instructions are not counted."
