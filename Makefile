@@ -4,13 +4,20 @@
 #               everything: rt ci
 # make full     compares every curve and every float with the second implementation
 # make tables   writes the constant tables anew
+# make bench    times los and the calls against plain C on a million made lines; RUNS=n sets how often
 BUILD = build
 RUSTC = rustc --edition 2021 -O
 CFLAGS = -std=c11 -Wall -Wextra -Werror -O2
 SOURCES = $(shell find crates -name "*.rt" -o -name "*.antt") crates.txt
 LIBRARY = target/staticlib/libmarehour.a
 
-.PHONY: run test full tables clean
+# Plain C is compiled by gcc, and by clang too where it is installed.
+BENCH = $(BUILD)/bench
+PLAIN = $(patsubst %,$(BENCH)/plain-%,gcc $(if $(shell command -v clang),clang))
+PLAINFLAGS = -std=c11 -Wall -Wextra -Werror -O3 -I$(BENCH)
+TABLES = $(BENCH)/powers.inc $(BENCH)/ramps.inc
+
+.PHONY: run test full tables bench clean
 
 run: target/bin/los
 	@target/bin/los < examples/sections.tsv
@@ -58,6 +65,29 @@ $(BUILD)/compare: tests/compare.rs $(wildcard tests/compare/*.rs tests/second/*.
 $(BUILD)/%: tests/%.rs
 	@mkdir -p $(BUILD)
 	$(RUSTC) -o $@ $<
+
+bench: target/bin/los $(PLAIN) $(BENCH)/race $(BENCH)/calls $(BENCH)/lines.tsv
+	@bench/run.sh $(BENCH) target/bin/los $(PLAIN)
+
+$(BENCH)/plain-%: bench/plain.c bench/section.c bench/section.h $(TABLES)
+	$* $(PLAINFLAGS) -o $@ $(filter %.c,$^)
+
+$(BENCH)/calls: bench/calls.c bench/section.c bench/section.h include/marehour.h $(TABLES) $(LIBRARY)
+	gcc $(PLAINFLAGS) -Iinclude -o $@ $(filter %.c %.a,$^)
+
+$(BENCH)/lines.tsv: $(BENCH)/generate
+	$< > $@
+
+# The engine's own tables, as C reads them.
+$(BENCH)/powers.inc: crates/powers/src/table.rt
+$(BENCH)/ramps.inc: crates/method/src/ramp_table.rt
+$(TABLES):
+	@mkdir -p $(BENCH)
+	@grep -E '^ *[0-9]+,$$' $< > $@
+
+$(BENCH)/%: bench/%.c
+	@mkdir -p $(BENCH)
+	$(CC) $(CFLAGS) -o $@ $<
 
 clean:
 	rm -rf $(BUILD) target

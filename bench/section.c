@@ -1,0 +1,363 @@
+/* The engine in plain C: a line read, its case worked out, the answer written. */
+#include "section.h"
+#include <stdbool.h>
+
+enum { LONGEST_LINE = 80, GREATEST_DEMAND = 99999 };
+
+enum refusal { NO_LANE_COUNT = 14, LINE_MALFORMED = 15, LETTER_UNKNOWN = 16, BUFFER_TOO_SHORT = 17 };
+
+enum number { SPEED, WIDTH, RIGHT, LEFT, ACCESS, LANES, DEMAND, FACTOR, SHARE, NUMBERS };
+
+struct section {
+    bool freeway, estimated, rolling;
+    uint8_t median;
+    uint64_t numbers[NUMBERS];
+};
+
+struct curve {
+    bool freeway;
+    uint64_t speed, capacity, breakpoint;
+    uint64_t most_flow;             /* the greatest flow rate up to capacity */
+    uint64_t span;                  /* c - b */
+    uint64_t whole, free, fall;     /* the denominator of w, 9F times that, 9F - 2c */
+};
+
+struct load {
+    uint64_t heavy_factor, divisor;
+};
+
+struct speed {
+    uint64_t numerator, denominator;
+};
+
+static const uint32_t powers[1001] = {
+#include "powers.inc"
+};
+
+static const uint32_t ramp_terms[49] = {
+#include "ramps.inc"
+};
+
+static const uint64_t limits[5] = {110, 180, 260, 350, 450};
+
+/* Reading */
+
+/* Where a field is read, and where its line ends. */
+struct cursor {
+    const uint8_t *at, *end;
+};
+
+/* Passes the tab after a field. */
+static bool pass_tab(struct cursor *line)
+{
+    if (line->at == line->end || *line->at != '\t') {
+        return false;
+    }
+    line->at++;
+    return true;
+}
+
+static bool read_letter(struct cursor *line, uint8_t *letter)
+{
+    if (line->at == line->end) {
+        return false;
+    }
+    *letter = *line->at++;
+    return true;
+}
+
+/* One to five digits with no leading zero. */
+static bool read_number(struct cursor *line, uint64_t *number)
+{
+    const uint8_t *start = line->at;
+    uint64_t n = 0;
+    while (line->at < line->end && line->at - start < 6 && (uint8_t)(*line->at - '0') < 10) {
+        n = 10 * n + (uint8_t)(*line->at++ - '0');
+    }
+    ptrdiff_t digits = line->at - start;
+    *number = n;
+    return digits >= 1 && digits <= 5 && (digits == 1 || *start != '0');
+}
+
+static bool read_numbers(struct cursor *line, uint64_t *numbers, int count)
+{
+    for (int i = 0; i < count; i++) {
+        if (!read_number(line, &numbers[i]) || !pass_tab(line)) {
+            return false;
+        }
+    }
+    return true;
+}
+
+static bool read_section(const uint8_t *bytes, size_t length, struct section *section)
+{
+    struct cursor line = {bytes, bytes + length};
+    uint8_t kind, way, terrain;
+    if (length > LONGEST_LINE) {
+        return false;
+    }
+    if (!read_letter(&line, &kind) || !pass_tab(&line) || !read_letter(&line, &way) || !pass_tab(&line)
+        || !read_numbers(&line, section->numbers, 4) || !read_letter(&line, &section->median) || !pass_tab(&line)
+        || !read_numbers(&line, section->numbers + 4, 5) || !read_letter(&line, &terrain) || line.at != line.end) {
+        return false;
+    }
+    section->freeway = kind == 'F';
+    section->estimated = way == 'E';
+    section->rolling = terrain == 'R';
+    return (kind == 'F' || kind == 'M') && (way == 'E' || way == 'G') && (terrain == 'L' || terrain == 'R')
+        && (section->median == 'U' || section->median == 'D' || section->median == 'T');
+}
+
+/* Refusals 1 to 9, 0 where none holds */
+
+static int32_t field_refusal(const struct section *s)
+{
+    const uint64_t *n = s->numbers;
+    if (n[SPEED] < 30000 || n[SPEED] > 90000) {
+        return 1;
+    }
+    if (n[WIDTH] < 100 || n[WIDTH] > 200) {
+        return 2;
+    }
+    if (n[RIGHT] > 400 || n[LEFT] > 400) {
+        return 3;
+    }
+    if (s->freeway && s->median != 'D') {
+        return 4;
+    }
+    if (n[ACCESS] > (s->freeway ? 48u : 200u)) {
+        return 5;
+    }
+    if (n[LANES] < 2 || n[LANES] > (s->freeway ? 8u : 3u)) {
+        return 6;
+    }
+    if (n[FACTOR] < 250 || n[FACTOR] > 1000) {
+        return 8;
+    }
+    return n[SHARE] > 1000 ? 9 : 0;
+}
+
+/* Free-flow speed */
+
+static uint64_t lesser(uint64_t a, uint64_t b)
+{
+    return a < b ? a : b;
+}
+
+static uint64_t width_term(uint64_t width)
+{
+    return width >= 120 ? 0 : width >= 110 ? 1900 : 6600;
+}
+
+static uint64_t freeway_estimate(const uint64_t *n, uint64_t lanes)
+{
+    static const uint64_t per_foot[4] = {600, 400, 200, 100};
+    uint64_t missing = 6 - lesser(6, n[RIGHT] / 10);
+    return n[SPEED] - width_term(n[WIDTH]) - missing * per_foot[lesser(lanes, 5) - 2] - ramp_terms[n[ACCESS]];
+}
+
+static uint64_t multilane_estimate(const uint64_t *n, uint8_t median, uint64_t lanes)
+{
+    static const uint64_t clearance[2][7] = {{5400, 3600, 1800, 1300, 900, 400, 0}, {3900, 2800, 1700, 1300, 900, 400, 0}};
+    uint64_t left = median == 'D' ? lesser(60, n[LEFT]) : 60;
+    uint64_t total = lesser(60, n[RIGHT]) + left;
+    return n[SPEED] - width_term(n[WIDTH]) - clearance[lanes - 2][total / 20] - (median == 'U' ? 1600 : 0)
+        - lesser(10000, 250 * n[ACCESS]);
+}
+
+static uint64_t free_flow_speed(const struct section *s, uint64_t lanes)
+{
+    uint64_t speed = s->numbers[SPEED];
+    if (s->estimated) {
+        speed = s->freeway ? freeway_estimate(s->numbers, lanes) : multilane_estimate(s->numbers, s->median, lanes);
+    }
+    return lesser(s->freeway ? 75000 : 70000, speed);
+}
+
+/* The curve, with what its speeds have in common; false where F is below its lower end. */
+static bool make_curve(const struct section *s, uint64_t lanes, struct curve *curve)
+{
+    uint64_t speed = free_flow_speed(s, lanes);
+    if (speed < (s->freeway ? 55000u : 45000u)) {
+        return false;
+    }
+    curve->freeway = s->freeway;
+    curve->speed = speed;
+    curve->capacity = s->freeway ? lesser(240000, 170000 + speed) : lesser(230000, 100000 + 2 * speed);
+    curve->breakpoint = s->freeway ? 400000 - 4 * speed : 140000;
+    curve->most_flow = curve->capacity / 100;
+    curve->span = curve->capacity - curve->breakpoint;
+    curve->whole = s->freeway ? curve->span * curve->span : 1000000;
+    curve->free = 9 * speed * curve->whole;
+    curve->fall = 9 * speed - 2 * curve->capacity;
+    return true;
+}
+
+/* Flow, speed, density, letter */
+
+static uint64_t div_up(uint64_t a, uint64_t b)
+{
+    return (a + b - 1) / b;
+}
+
+static struct load load_of(const struct section *s, uint64_t lanes)
+{
+    uint64_t share = s->numbers[SHARE];
+    return (struct load){1000 + (s->rolling ? 2 * share : share), s->numbers[FACTOR] * lanes};
+}
+
+static uint64_t flow_rate(const struct load *load, uint64_t demand)
+{
+    return div_up(demand * load->heavy_factor, load->divisor);
+}
+
+/* F - (F - 2c/9) x w at a flow rate up to capacity. */
+static struct speed speed_at(const struct curve *curve, uint64_t v)
+{
+    uint64_t flow = 100 * v, fallen;
+    uint64_t beyond = flow > curve->breakpoint ? flow - curve->breakpoint : 0;
+    if (curve->freeway) {
+        fallen = beyond * beyond;
+    } else {
+        fallen = powers[div_up(1000 * beyond, curve->span)];
+    }
+    return (struct speed){curve->free - curve->fall * fallen, 9 * curve->whole};
+}
+
+static bool meets_limit(const struct curve *curve, uint64_t v, uint64_t limit)
+{
+    if (v > curve->most_flow) {
+        return false;
+    }
+    struct speed speed = speed_at(curve, v);
+    return 10000 * v * speed.denominator <= limit * speed.numerator;
+}
+
+static uint8_t density_letter(uint64_t density)
+{
+    int i = 0;
+    while (i < 5 && density > limits[i]) {
+        i++;
+    }
+    return (uint8_t)('A' + i);
+}
+
+/* The greatest demand that keeps to a density, by halving. */
+static uint64_t service_volume(const struct curve *curve, const struct load *load, uint64_t limit)
+{
+    uint64_t low = 0, high = GREATEST_DEMAND + 1;
+    while (high - low > 1) {
+        uint64_t middle = low + (high - low) / 2;
+        if (meets_limit(curve, flow_rate(load, middle), limit)) {
+            low = middle;
+        } else {
+            high = middle;
+        }
+    }
+    return low;
+}
+
+/* Writing */
+
+static uint8_t *put_number(uint8_t *at, uint64_t n)
+{
+    uint8_t digits[20];
+    int count = 0;
+    do {
+        digits[count++] = (uint8_t)('0' + n % 10);
+        n /= 10;
+    } while (n > 0);
+    while (count > 0) {
+        *at++ = digits[--count];
+    }
+    return at;
+}
+
+static uint8_t *put_figure(uint8_t *at, uint64_t n)
+{
+    *at++ = '\t';
+    return put_number(at, n);
+}
+
+/* Letter, F, c, v, speed, density. */
+static uint8_t *put_measures(uint8_t *at, const struct curve *curve, uint64_t v)
+{
+    uint8_t letter = 'F';
+    uint64_t shown = 0, density = 0;
+    if (v <= curve->most_flow) {
+        struct speed speed = speed_at(curve, v);
+        shown = speed.numerator / speed.denominator;
+        density = div_up(10000 * v * speed.denominator, speed.numerator);
+        letter = density_letter(density);
+    }
+    *at++ = letter;
+    at = put_figure(at, curve->speed);
+    at = put_figure(at, curve->capacity);
+    at = put_figure(at, v);
+    at = put_figure(at, shown);
+    return put_figure(at, density);
+}
+
+/* The calls */
+
+int32_t plain_answer(const uint8_t *line, size_t line_length, uint8_t *answer, size_t answer_length)
+{
+    struct section section;
+    struct curve curve;
+    if (answer_length < LONGEST_ANSWER) {
+        return -BUFFER_TOO_SHORT;
+    }
+    if (!read_section(line, line_length, &section)) {
+        return -LINE_MALFORMED;
+    }
+    int32_t refusal = field_refusal(&section);
+    if (refusal != 0) {
+        return -refusal;
+    }
+    if (!make_curve(&section, section.numbers[LANES], &curve)) {
+        return -10;
+    }
+    struct load load = load_of(&section, section.numbers[LANES]);
+    uint8_t *at = put_measures(answer, &curve, flow_rate(&load, section.numbers[DEMAND]));
+    for (int i = 0; i < 5; i++) {
+        at = put_figure(at, service_volume(&curve, &load, limits[i]));
+    }
+    *at++ = '\n';
+    return (int32_t)(at - answer);
+}
+
+static bool meets_with(const struct section *section, uint64_t lanes, uint64_t limit)
+{
+    struct curve curve;
+    if (!make_curve(section, lanes, &curve)) {
+        return false;
+    }
+    struct load load = load_of(section, lanes);
+    return meets_limit(&curve, flow_rate(&load, section->numbers[DEMAND]), limit);
+}
+
+int32_t plain_lanes(const uint8_t *line, size_t line_length, uint32_t letter, uint8_t *answer, size_t answer_length)
+{
+    struct section section;
+    if (answer_length < LONGEST_ANSWER) {
+        return -BUFFER_TOO_SHORT;
+    }
+    if (!read_section(line, line_length, &section)) {
+        return -LINE_MALFORMED;
+    }
+    if (letter < 1 || letter > 5) {
+        return -LETTER_UNKNOWN;
+    }
+    int32_t refusal = field_refusal(&section);
+    if (refusal != 0) {
+        return -refusal;
+    }
+    for (uint64_t lanes = 2, most = section.freeway ? 8 : 3; lanes <= most; lanes++) {
+        if (meets_with(&section, lanes, limits[letter - 1])) {
+            answer[0] = (uint8_t)('0' + lanes);
+            answer[1] = '\n';
+            return 2;
+        }
+    }
+    return -NO_LANE_COUNT;
+}

@@ -1,0 +1,13 @@
+/* The engine in plain C, for comparison: the same answers by the same searches as the proved one. Results as in include/marehour.h. */
+#ifndef SECTION_H
+#define SECTION_H
+
+#include <stddef.h>
+#include <stdint.h>
+
+enum { LONGEST_ANSWER = 64 };
+
+int32_t plain_answer(const uint8_t *line, size_t line_length, uint8_t *answer, size_t answer_length);
+int32_t plain_lanes(const uint8_t *line, size_t line_length, uint32_t letter, uint8_t *answer, size_t answer_length);
+
+#endif
