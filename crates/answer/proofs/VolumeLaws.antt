@@ -5,12 +5,13 @@
 --   meets-keepsTo        what the search tries at a demand is meeting the letter with that demand
 --   serviceVolume-eq     the service volume of an accepted case is the greatest demand that the search's test passes
 --   serviceVolume-iff    a demand meets a letter exactly when it is at most the service volume
---   volume-ready         what the search asks of an accepted case's terms and load
+--   volume-ready         what the search asks of an accepted case's terms, table and load
 --   volume-eq            the service volume from a curve's terms and a load
 -- Assumes nothing.
 use mathlib.Core.Path.{_≡_, sym, ap, _∙_}
 use mathlib.Core.Bool.{false}
 use mathlib.Core.Logic.{_↔_}
+use mathlib.Core.List.{List}
 use Prim.Native.Nat.{ℕ, _*_, _≤_, _<_}
 use native.Mathlib.Omega.{arith}
 use native.Mathlib.Nat.{mul-le-mul-right, zero-mul, le-refl}
@@ -28,7 +29,7 @@ use Rattle.method.specs.declared.assess.Assessment.the-variants as Assessment
 use Rattle.method.specs.Refusals.{greatestDemand, refusal, Accepted}
 use Rattle.method.specs.Curves.{WellFormed, curveOf}
 use Rattle.method.specs.Flow.{heavyFactor, flowRate}
-use Rattle.method.specs.Terms.{curveTerms, Prepared}
+use Rattle.method.specs.Terms.{curveTerms, Prepared, TableFor}
 use Rattle.method.specs.Service.{letterAt, letterNumber, performance, meetsLimit, densityLimit}
 use Rattle.method.specs.Assess.{measures}
 use Rattle.method.proofs.RefusalLaws.{accepted-parts}
@@ -107,10 +108,12 @@ unfolding curveTerms
 volume-eq case terms load l a t d h k = rw (t, d) (sym (serviceVolume-eq case l a h k))
 
 -- what the search asks of an accepted case's terms and load
-pub volume-ready : (case : Case) (terms : CurveTerms) (load : Load) → Accepted case → terms ≡ curveTerms (curveOf (case .road) (case .lanes))
-    → load ≡ loadOf case → Prepared terms × ((0 < load .divisor) × (load .«heavy_factor» ≤ 3000))
-volume-ready case terms load a t d =
+pub volume-ready : (case : Case) (terms : CurveTerms) (load : Load) (table : List ℕ) → Accepted case → terms ≡ curveTerms (curveOf (case .road) (case .lanes))
+    → load ≡ loadOf case → TableFor (curveOf (case .road) (case .lanes) .kind) table
+    → Prepared terms × (TableFor (terms .curve .kind) table × ((0 < load .divisor) × (load .«heavy_factor» ≤ 3000)))
+unfolding curveTerms
+volume-ready case terms load table a t d f =
     let parts = flowRate-parts case (accepted-parts case a .0) in (
       rw t (curveTerms-prepared (curveOf (case .road) (case .lanes)) (curveOf-wellFormed case a) (curveOf-sized case a)),
-      rw d (parts .divisor-pos, heavyFactor-le case (parts .share-le)),
+      (rw t f, rw d (parts .divisor-pos, heavyFactor-le case (parts .share-le))),
     )

@@ -8,6 +8,7 @@ use method::assess::Assessment;
 use method::assess::Measures;
 use method::case::Case;
 use method::flow;
+use method::kind::Kind;
 use method::refusal;
 use method::service;
 use method::service::Letter;
@@ -19,7 +20,7 @@ ghost use Rattle.numbers.specs.Search.{greatest};
 ghost use Rattle.method.specs.Refusals.{firstRefusal, fieldRefusals, greatestDemand, Accepted};
 ghost use Rattle.method.specs.Service.{densityLimit};
 ghost use Rattle.method.specs.Assess as assess;
-ghost use Rattle.method.specs.Terms.{Prepared};
+ghost use Rattle.method.specs.Terms.{Prepared, TableFor};
 ghost use Rattle.answer.specs.Search.{loadOf, keepsTo};
 ghost use Rattle.answer.specs.Answers.{graded, answerTo};
 
@@ -49,27 +50,28 @@ pub struct Load {
 }
 
 // Whether a demand keeps to capacity and to a density.
-fn keeps_to(terms: CurveTerms, load: Load, limit: u64, demand: u64) -> bool
-    requires { ⌜ Prepared terms × ((limit ≤ 450) × ((0 < load .divisor) × ((load .«heavy_factor» ≤ 3000) × (demand ≤ greatestDemand)))) ⌝ }
+fn keeps_to(terms: CurveTerms, table: &[u32], load: Load, limit: u64, demand: u64) -> bool
+    requires { ⌜ Prepared terms × (TableFor (terms .curve .kind) (now table) × ((limit ≤ 450) × ((0 < load .divisor) × ((load .«heavy_factor» ≤ 3000) × (demand ≤ greatestDemand))))) ⌝ }
     ensures { λ r. ⌜ r ≡ keepsTo (terms .curve) load limit demand ⌝ }
 {
-    service::meets_limit(
+    service::keeps_limit(
         terms,
+        table,
         numbers::div_up(demand * load.heavy_factor, load.divisor),
         limit,
     )
 }
 
 // The greatest demand up to the end that keeps to a density, by halving.
-fn service_volume(terms: CurveTerms, load: Load, limit: u64, end: u64) -> u64
-    requires { ⌜ Prepared terms × ((limit ≤ 450) × ((0 < load .divisor) × ((load .«heavy_factor» ≤ 3000) × (end ≤ greatestDemand)))) ⌝ }
+fn service_volume(terms: CurveTerms, table: &[u32], load: Load, limit: u64, end: u64) -> u64
+    requires { ⌜ Prepared terms × (TableFor (terms .curve .kind) (now table) × ((limit ≤ 450) × ((0 < load .divisor) × ((load .«heavy_factor» ≤ 3000) × (end ≤ greatestDemand))))) ⌝ }
     ensures { λ r. ⌜ r ≡ greatest (keepsTo (terms .curve) load limit) end ⌝ }
 {
     let mut low = 0;
     let mut high = end + 1;
     while 1 < high - low {
         let middle = low + (high - low) / 2;
-        if keeps_to(terms, load, limit, middle) {
+        if keeps_to(terms, table, load, limit, middle) {
             low = middle;
         } else {
             high = middle;
@@ -89,20 +91,21 @@ fn load_of(case: Case) -> Load
 }
 
 // The service volume of a letter number.
-fn volume_of(terms: CurveTerms, load: Load, letter: u64) -> u64
-    requires { ⌜ Prepared terms × ((0 < load .divisor) × (load .«heavy_factor» ≤ 3000)) ⌝ }
+fn volume_of(terms: CurveTerms, table: &[u32], load: Load, letter: u64) -> u64
+    requires { ⌜ Prepared terms × (TableFor (terms .curve .kind) (now table) × ((0 < load .divisor) × (load .«heavy_factor» ≤ 3000))) ⌝ }
     ensures { λ r. ⌜ r ≡ greatest (keepsTo (terms .curve) load (densityLimit letter)) greatestDemand ⌝ }
 {
     service_volume(
         terms,
+        table,
         load,
         service::density_limit(letter),
         refusal::GREATEST_DEMAND,
     )
 }
 
-fn graded(case: Case, measures: Measures) -> Grade
-    requires { ⌜ Accepted case × (measures ≡ assess.measures case) ⌝ }
+fn graded_with(case: Case, measures: Measures, table: &[u32]) -> Grade
+    requires { ⌜ Accepted case × ((measures ≡ assess.measures case) × TableFor (measures .curve .kind) (now table)) ⌝ }
     ensures { λ r. ⌜ r ≡ graded case ⌝ }
 {
     let curve = measures.curve;
@@ -117,11 +120,27 @@ fn graded(case: Case, measures: Measures) -> Grade
         flow_rate: measures.flow_rate,
         speed: performance.speed,
         density: performance.density,
-        volume_a: volume_of(terms, load, 1),
-        volume_b: volume_of(terms, load, 2),
-        volume_c: volume_of(terms, load, 3),
-        volume_d: volume_of(terms, load, 4),
-        volume_e: volume_of(terms, load, 5),
+        volume_a: volume_of(terms, table, load, 1),
+        volume_b: volume_of(terms, table, load, 2),
+        volume_c: volume_of(terms, table, load, 3),
+        volume_d: volume_of(terms, table, load, 4),
+        volume_e: volume_of(terms, table, load, 5),
+    }
+}
+
+// The table of powers is made once a case, where the kind reads it.
+fn graded(case: Case, measures: Measures) -> Grade
+    requires { ⌜ Accepted case × (measures ≡ assess.measures case) ⌝ }
+    ensures { λ r. ⌜ r ≡ graded case ⌝ }
+{
+    let curve = measures.curve;
+    let kind = curve.kind;
+    match kind {
+        Kind::Freeway => graded_with(case, measures, &[]),
+        Kind::Multilane => {
+            let table = powers::power_table();
+            graded_with(case, measures, &table)
+        }
     }
 }
 

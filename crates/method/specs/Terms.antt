@@ -2,10 +2,13 @@
 -- table of powers. It is no part of the method.
 --   fallWhole kind s   the denominator of w, where c − b is s
 --   curveTerms curve   a curve with its terms
+--   TableFor kind ts   ts is the table of powers that the kind reads
 --   Prepared terms     terms of a curve that is well formed and within the sizes
 -- Assumes nothing.
 use mathlib.Core.Path.{_≡_}
+use mathlib.Core.List.{List}
 use Prim.Native.Nat.{ℕ, _*_, _-_, _/_}
+use Rattle.powers.specs.Power.{PowerTable}
 use Rattle.method.specs.declared.kind.Kind.{Kind}
 use Rattle.method.specs.declared.kind.Kind.the-variants as Kind
 use Rattle.method.specs.declared.curve.Curve.{Curve}
@@ -29,6 +32,11 @@ curveTerms curve =
       free = 9 * curve .«free_flow_speed» * fallWhole (curve .kind) (spanToCapacity curve);
       fall = 9 * curve .«free_flow_speed» - 2 * curve .capacity;
     }
+
+-- the table of powers that a kind reads: kind F reads none
+abbrev pub TableFor : Kind → List ℕ → Type 0
+TableFor Kind.Freeway table = Unit {0}
+TableFor Kind.Multilane table = PowerTable table
 
 pub record Prepared (terms : CurveTerms) : Type 0 where
   pub made : terms ≡ curveTerms (terms .curve)

@@ -2,13 +2,16 @@
 //   Letter           A to F
 //   Performance      speed and density as they are shown, and the letter
 //   performance_at   the three at a flow rate
-//   meets_limit      whether a flow rate keeps to capacity and to a density
+//   keeps_limit      whether a flow rate keeps to capacity and to a density, with a lent table of powers
+//   meets_limit      the same with a table of its own
 //   density_limit    the greatest density of a letter
 use crate::speed::CurveTerms;
+use crate::kind::Kind;
 use crate::speed::exact_speed;
+use crate::speed::speed_at;
 ghost use mathlib.Core.Path.{_≡_};
 ghost use Prim.Native.Nat.{_≤_};
-ghost use Rattle.method.specs.Terms.{Prepared};
+ghost use Rattle.method.specs.Terms.{Prepared, TableFor};
 ghost use Rattle.method.specs.Service.{densityLetter, performance, meetsLimit, densityLimit};
 
 pub enum Letter {
@@ -53,7 +56,7 @@ pub fn performance_at(terms: CurveTerms, v: u64) -> Performance
             letter: Letter::F,
         };
     }
-    let exact = exact_speed(terms, v);
+    let exact = speed_at(terms, v);
     let density = numbers::div_up(10_000 * v * exact.denominator, exact.numerator);
     Performance {
         speed: exact.numerator / exact.denominator,
@@ -62,16 +65,33 @@ pub fn performance_at(terms: CurveTerms, v: u64) -> Performance
     }
 }
 
-// The same question as a letter's, with no division on kind F: up to capacity, with a density of at most the limit.
-pub fn meets_limit(terms: CurveTerms, v: u64, limit: u64) -> bool
-    requires { ⌜ Prepared terms × (limit ≤ 450) ⌝ }
+// The same question as a letter's, with no division on kind F: up to capacity, with a density of at most the limit. The table of powers is
+// lent, for a search that asks often.
+pub fn keeps_limit(terms: CurveTerms, table: &[u32], v: u64, limit: u64) -> bool
+    requires { ⌜ Prepared terms × (TableFor (terms .curve .kind) (now table) × (limit ≤ 450)) ⌝ }
     ensures { λ r. ⌜ r ≡ meetsLimit (terms .curve) v limit ⌝ }
 {
     if terms.most_flow < v {
         return false;
     }
-    let exact = exact_speed(terms, v);
+    let exact = exact_speed(terms, table, v);
     10_000 * v * exact.denominator <= limit * exact.numerator
+}
+
+// The same asked once.
+pub fn meets_limit(terms: CurveTerms, v: u64, limit: u64) -> bool
+    requires { ⌜ Prepared terms × (limit ≤ 450) ⌝ }
+    ensures { λ r. ⌜ r ≡ meetsLimit (terms .curve) v limit ⌝ }
+{
+    let curve = terms.curve;
+    let kind = curve.kind;
+    match kind {
+        Kind::Freeway => keeps_limit(terms, &[], v, limit),
+        Kind::Multilane => {
+            let table = powers::power_table();
+            keeps_limit(terms, &table, v, limit)
+        }
+    }
 }
 
 // The greatest density that gets a letter or a better one, A to D by their numbers 1 to 4; any other number has E's.

@@ -1,28 +1,31 @@
--- `powers::power` meets its contract: the constant is the list of proofs/PowerTable, whose rule is one test over all entries.
+-- `powers::power` meets its contract: the entry of the lent table at i is T(i).
 -- Assumes nothing.
-use mathlib.Core.Path.{sym}
 use native.Mathlib.Nat.{lt-of-le-of-lt}
-use borrow.Author.Needs.{needs}
 use lib.Dec.{lit<}
-use Rattle.powers.proofs.PowerTable.{powerTable}
-use Rattle.powers.proofs.PowerLaws.{powerTable-at, power-le}
+use Rattle.powers.proofs.PowerLaws.{power-le}
+use borrow.Author.Needs.{needs}
 use Rattle.powers.proofs.power.Statement.{statement}
 use Rattle.powers.proofs.power.Tie as tie
+use Rattle.powers.proofs.power.Reads as reads
+use Rattle.powers.proofs.power.Lts as lts
 
+-- src/lib.rt:23:5
 mul-result : tie.Need-mul-result
 mul-result c = search needs
 
-array-read-result : tie.Need-array-read-result
-array-read-result c = search needs
+-- src/lib.rt:23:5
+shared-slice-read-result : tie.Need-shared-slice-read-result
+shared-slice-read-result c = search needs
 
+-- src/lib.rt:23:5
 cast-result : tie.Need-cast-result
-unfolding powerTable
 cast-result c =
-    record { fits = lt-of-le-of-lt (rw (powerTable-at (c .args .i) (c .pre)) at (power-le (c .args .i) (c .pre))) (lit< tt) }
+    let i = c .before .args .i in
+    record { fits = lt-of-le-of-lt {m = 1000000} (rw (c .before .pre .0 .1 i (c .before .pre .1)) (power-le i (c .before .pre .1))) (lit< tt) }
 
+-- src/lib.rt:18:1
 returns : tie.Need-returns
-unfolding powerTable
-returns c = sym (powerTable-at (c .args .i) (c .pre))
+returns c = c .before .pre .0 .1 (c .before .args .i) (c .before .pre .1)
 
 pub power-spec : {M : Type 1} → statement M
-power-spec = tie.close (tie.spec mul-result array-read-result cast-result returns)
+power-spec = tie.close (tie.spec mul-result shared-slice-read-result cast-result returns)

@@ -1,77 +1,59 @@
--- `answer::evaluate::graded` meets its contract: each field is the definition's; a volume is the search's by proofs/VolumeLaws.
--- Assumes nothing.
-use mathlib.Core.Path.{_≡_, ap, _∙_}
-use Prim.Native.Nat.{ℕ, _≤_}
-use Rattle.numbers.specs.Search.{greatest}
-use Rattle.method.specs.Refusals.{greatestDemand}
-use Rattle.method.specs.Curves.{curveOf}
-use Rattle.method.specs.Terms.{curveTerms}
-use Rattle.method.specs.Service.{densityLimit}
-use Rattle.method.specs.Assess.{measures}
-use Rattle.answer.specs.Volumes.{serviceVolume}
-use Rattle.answer.specs.Search.{keepsTo}
-use Rattle.method.proofs.RefusalLaws.{accepted-parts}
-use Rattle.method.proofs.CurveLaws.{curveOf-wellFormed, curveOf-sized}
-use Rattle.answer.specs.Answers.{graded}
-use Rattle.answer.proofs.VolumeLaws.{volume-eq, volume-ready}
-use native.Mathlib.Omega.{arith}
+use mathlib.Core.Path.{sym, subst}
+use Rattle.method.specs.Terms.{TableFor}
+use borrow.Author.Needs.{needs}
 use Rattle.answer.proofs.evaluate.graded.Statement.{statement}
 use Rattle.answer.proofs.evaluate.graded.Tie as tie
+use Rattle.answer.proofs.evaluate.graded.Reads as reads
+use Rattle.answer.proofs.evaluate.graded.Lts as lts
+use Rattle.answer.proofs.evaluate.graded_with.Reads as graded-with-reads
+use Rattle.powers.proofs.power_table.Reads as power-table-reads
 
-terms-of-requires : tie.Need-terms-of-requires
-unfolding measures
-terms-of-requires c κs =
-    let case = c .before .before .args .case in
-    rw (c .before .before .pre .1) (curveOf-wellFormed case (c .before .before .pre .0), curveOf-sized case (c .before .before .pre .0))
+-- src/evaluate.rt:139:54
+enum-told : tie.Need-enum-told
+enum-told c = search needs
 
-load-of-requires : tie.Need-load-of-requires
-load-of-requires c κs = accepted-parts (c .before .before .before .args .case) (c .before .before .before .pre .0) .0
+-- src/evaluate.rt:139:54
+slice-aggregate-graded-with : tie.Need-slice-aggregate-graded-with
+slice-aggregate-graded-with c = search needs
 
-volume-of-requires : tie.Need-volume-of-requires
-unfolding measures
-volume-of-requires c κs = volume-ready (c .before .before .before .before .args .case) (c .before .terms-of .result) (c .load-of .result) (c .before .before .before .before .pre .0) (c .before .terms-of .ensures ∙ ap (λ m. curveTerms (m .curve)) (c .before .before .before .before .pre .1)) (c .load-of .ensures)
+-- src/evaluate.rt:139:26
+graded-with-requires : tie.Need-graded-with-requires
+graded-with-requires c κs = (c .before .before .before .before .pre .0, (c .before .before .before .before .pre .1, subst (λ kind. TableFor kind _) (sym (c .before .enum-told .given .1)) tt))
 
-volume-of-requires-2 : tie.Need-volume-of-requires-2
-unfolding measures
-volume-of-requires-2 c κs = volume-ready (c .before .before .before .before .before .args .case) (c .before .before .terms-of .result) (c .before .load-of .result) (c .before .before .before .before .before .pre .0) (c .before .before .terms-of .ensures ∙ ap (λ m. curveTerms (m .curve)) (c .before .before .before .before .before .pre .1)) (c .before .load-of .ensures)
+-- src/evaluate.rt:141:25
+enum-told-2 : tie.Need-enum-told-2
+enum-told-2 c = search needs
 
-volume-of-requires-3 : tie.Need-volume-of-requires-3
-unfolding measures
-volume-of-requires-3 c κs = volume-ready (c .before .before .before .before .before .before .args .case) (c .before .before .before .terms-of .result) (c .before .before .load-of .result) (c .before .before .before .before .before .before .pre .0) (c .before .before .before .terms-of .ensures ∙ ap (λ m. curveTerms (m .curve)) (c .before .before .before .before .before .before .pre .1)) (c .before .before .load-of .ensures)
+-- src/evaluate.rt:141:25
+power-table-requires : tie.Need-power-table-requires
+power-table-requires c κs = search needs
 
-volume-of-requires-4 : tie.Need-volume-of-requires-4
-unfolding measures
-volume-of-requires-4 c κs = volume-ready (c .before .before .before .before .before .before .before .args .case) (c .before .before .before .before .terms-of .result) (c .before .before .before .load-of .result) (c .before .before .before .before .before .before .before .pre .0) (c .before .before .before .before .terms-of .ensures ∙ ap (λ m. curveTerms (m .curve)) (c .before .before .before .before .before .before .before .pre .1)) (c .before .before .before .load-of .ensures)
+-- src/evaluate.rt:142:41
+slice-aggregate-graded-with-2 : tie.Need-slice-aggregate-graded-with-2
+slice-aggregate-graded-with-2 c = search needs
 
-volume-of-requires-5 : tie.Need-volume-of-requires-5
-unfolding measures
-volume-of-requires-5 c κs = volume-ready (c .before .before .before .before .before .before .before .before .args .case) (c .before .before .before .before .before .terms-of .result) (c .before .before .before .before .load-of .result) (c .before .before .before .before .before .before .before .before .pre .0) (c .before .before .before .before .before .terms-of .ensures ∙ ap (λ m. curveTerms (m .curve)) (c .before .before .before .before .before .before .before .before .pre .1)) (c .before .before .before .before .load-of .ensures)
+-- src/evaluate.rt:142:13
+graded-with-requires-2 : tie.Need-graded-with-requires-2
+graded-with-requires-2 c κs = (c .before .before .before .before .before .pre .0, (c .before .before .before .before .before .pre .1, subst (λ kind. TableFor kind (c .before .power-table .result)) (sym (c .before .before .enum-told2 .given .1)) (c .before .power-table .ensures)))
 
+-- src/evaluate.rt:132:1
 returns : tie.Need-returns
-unfolding measures graded
-returns c =
-    let case = c .before .before .before .before .before .before .before .before .before .args .case in
-    let own : c .before .before .before .before .before .before .terms-of .result ≡ curveTerms (curveOf (case .road) (case .lanes)) = c .before .before .before .before .before .before .terms-of .ensures ∙ ap (λ m. curveTerms (m .curve)) (c .before .before .before .before .before .before .before .before .before .pre .1) in
-    let volume : (l : ℕ) → 1 ≤ l → l ≤ 5 → greatest (keepsTo (c .before .before .before .before .before .before .terms-of .result .curve) (c .before .before .before .before .before .load-of .result) (densityLimit l)) greatestDemand ≡ serviceVolume case l =
-    λ l low high. volume-eq case (c .before .before .before .before .before .before .terms-of .result) (c .before .before .before .before .before .load-of .result) l (c .before .before .before .before .before .before .before .before .before .pre .0) own (c .before .before .before .before .before .load-of .ensures) low high in
-    simp (
-      c .before .before .before .before .before .before .before .before .before .pre .1,
-      c .before .before .before .before .volume-of .ensures ∙ volume 1 (omega arith) (omega arith),
-      c .before .before .before .volume-of2 .ensures ∙ volume 2 (omega arith) (omega arith),
-      c .before .before .volume-of3 .ensures ∙ volume 3 (omega arith) (omega arith),
-      c .before .volume-of4 .ensures ∙ volume 4 (omega arith) (omega arith),
-      c .volume-of5 .ensures ∙ volume 5 (omega arith) (omega arith),
-    )
+returns c = search needs
+
+-- src/evaluate.rt:132:1
+returns-2 : tie.Need-returns-2
+returns-2 c = search needs
 
 pub graded-spec : {M : Type 1} → statement M
 graded-spec =
     tie.close
     (tie.spec
-    terms-of-requires
-    load-of-requires
-    volume-of-requires
-    volume-of-requires-2
-    volume-of-requires-3
-    volume-of-requires-4
-    volume-of-requires-5
-    returns)
+    enum-told
+    slice-aggregate-graded-with
+    graded-with-requires
+    enum-told-2
+    power-table-requires
+    slice-aggregate-graded-with-2
+    graded-with-requires-2
+    returns
+    returns-2)

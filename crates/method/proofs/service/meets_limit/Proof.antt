@@ -1,41 +1,59 @@
--- `method::service::meets_limit` meets its contract: the limit is tested on a fraction of the value of S.
--- Assumes nothing.
-use Prim.Native.Nat.{_*_, _≤_}
-use borrow.Author.Tests.{lt-leb}
-use Rattle.numbers.proofs.ProductLaws.{product-fits}
-use Rattle.method.specs.Service.{meetsLimit}
-use Rattle.method.proofs.TermsLaws.{terms-facts}
-use Rattle.method.proofs.ServiceLaws.{limit-exact}
-use native.Mathlib.Omega.{arith}
+use mathlib.Core.Path.{sym, subst}
+use Rattle.method.specs.Terms.{TableFor}
+use borrow.Author.Needs.{needs}
 use Rattle.method.proofs.service.meets_limit.Statement.{statement}
 use Rattle.method.proofs.service.meets_limit.Tie as tie
+use Rattle.method.proofs.service.meets_limit.Reads as reads
+use Rattle.method.proofs.service.meets_limit.Lts as lts
+use Rattle.method.proofs.service.keeps_limit.Reads as keeps-limit-reads
+use Rattle.powers.proofs.power_table.Reads as power-table-reads
 
+-- src/service.rt:89:45
+enum-told : tie.Need-enum-told
+enum-told c = search needs
+
+-- src/service.rt:89:45
+slice-aggregate-keeps-limit : tie.Need-slice-aggregate-keeps-limit
+slice-aggregate-keeps-limit c = search needs
+
+-- src/service.rt:89:26
+keeps-limit-requires : tie.Need-keeps-limit-requires
+keeps-limit-requires c κs = (c .before .before .before .before .pre .0, (subst (λ kind. TableFor kind _) (sym (c .before .enum-told .given .1)) tt, c .before .before .before .before .pre .1))
+
+-- src/service.rt:91:25
+enum-told-2 : tie.Need-enum-told-2
+enum-told-2 c = search needs
+
+-- src/service.rt:91:25
+power-table-requires : tie.Need-power-table-requires
+power-table-requires c κs = search needs
+
+-- src/service.rt:92:32
+slice-aggregate-keeps-limit-2 : tie.Need-slice-aggregate-keeps-limit-2
+slice-aggregate-keeps-limit-2 c = search needs
+
+-- src/service.rt:92:13
+keeps-limit-requires-2 : tie.Need-keeps-limit-requires-2
+keeps-limit-requires-2 c κs = (c .before .before .before .before .before .pre .0, (subst (λ kind. TableFor kind (c .before .power-table .result)) (sym (c .before .before .enum-told2 .given .1)) (c .before .power-table .ensures), c .before .before .before .before .before .pre .1))
+
+-- src/service.rt:82:1
 returns : tie.Need-returns
-unfolding meetsLimit
-returns c =
-    let terms = c .before .before .args .terms in
-    simp (lt-leb (100 * c .before .before .args .v) (terms .curve .capacity) (omega (arith, terms-facts terms (c .before .before .pre .0) .most-eq)))
+returns c = search needs
 
-exact-speed-requires : tie.Need-exact-speed-requires
-exact-speed-requires c κs = (c .before .before .pre .0, omega (arith, terms-facts (c .before .before .args .terms) (c .before .before .pre .0) .most-eq))
-
-mul-result : tie.Need-mul-result
-mul-result c = omega (arith, terms-facts (c .before .before .before .args .terms) (c .before .before .before .pre .0) .most-eq, c .before .before .before .pre .0 .sized .capacity-le)
-
-mul-result-2 : tie.Need-mul-result-2
-mul-result-2 c = record { fits = product-fits 24000000 176400000000 (omega (arith, terms-facts (c .before .before .before .before .args .terms) (c .before .before .before .before .pre .0) .most-eq, c .before .before .before .before .pre .0 .sized .capacity-le)) (c .before .exact-speed .ensures .denominator-le) tt }
-
-mul-result-3 : tie.Need-mul-result-3
-mul-result-3 c = record { fits = product-fits 450 13230000000000000 (c .before .before .before .before .before .pre .1) (c .before .before .exact-speed .ensures .numerator-le) tt }
-
+-- src/service.rt:82:1
 returns-2 : tie.Need-returns-2
-returns-2 c =
-    let terms = c .before .before .before .before .before .args .terms in
-    let ready = c .before .before .before .before .before .pre .0 in
-    let up : 100 * c .before .before .before .before .before .args .v ≤ terms .curve .capacity = omega (arith, terms-facts terms ready .most-eq) in
-    limit-exact (terms .curve) (c .before .before .before .before .before .args .v) (c .before .before .before .before .before .args .limit) (c .before .before .exact-speed .result) (ready .well-formed) up (c .before .before .exact-speed .ensures)
+returns-2 c = search needs
 
 pub meets-limit-spec : {M : Type 1} → statement M
 meets-limit-spec =
     tie.close
-    (tie.spec returns exact-speed-requires mul-result mul-result-2 mul-result-3 returns-2)
+    (tie.spec
+    enum-told
+    slice-aggregate-keeps-limit
+    keeps-limit-requires
+    enum-told-2
+    power-table-requires
+    slice-aggregate-keeps-limit-2
+    keeps-limit-requires-2
+    returns
+    returns-2)

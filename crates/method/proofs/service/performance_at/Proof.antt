@@ -21,14 +21,14 @@ returns c =
     let terms = c .before .before .args .terms in
     simp (lt-leb (100 * c .before .before .args .v) (terms .curve .capacity) (omega (arith, terms-facts terms (c .before .before .pre) .most-eq)))
 
-exact-speed-requires : tie.Need-exact-speed-requires
-exact-speed-requires c κs = (c .before .before .pre, omega (arith, terms-facts (c .before .before .args .terms) (c .before .before .pre) .most-eq))
+speed-at-requires : tie.Need-speed-at-requires
+speed-at-requires c κs = (c .before .before .pre, omega (arith, terms-facts (c .before .before .args .terms) (c .before .before .pre) .most-eq))
 
 mul-div-up : tie.Need-mul-div-up
 mul-div-up c = omega (arith, terms-facts (c .before .before .before .args .terms) (c .before .before .before .pre) .most-eq, c .before .before .before .pre .sized .capacity-le)
 
 mul-div-up-2 : tie.Need-mul-div-up-2
-mul-div-up-2 c = record { fits = product-fits 24000000 176400000000 (omega (arith, terms-facts (c .before .before .before .before .args .terms) (c .before .before .before .before .pre) .most-eq, c .before .before .before .before .pre .sized .capacity-le)) (c .before .exact-speed .ensures .denominator-le) tt }
+mul-div-up-2 c = record { fits = product-fits 24000000 176400000000 (omega (arith, terms-facts (c .before .before .before .before .args .terms) (c .before .before .before .before .pre) .most-eq, c .before .before .before .before .pre .sized .capacity-le)) (c .before .speed-at .ensures .denominator-le) tt }
 
 div-up-requires : tie.Need-div-up-requires
 div-up-requires c κs = search needs
@@ -44,7 +44,7 @@ unfolding performance shownSpeed shownDensity letterAt
 returns-2 c =
     let curve = c .before .before .before .before .before .before .before .args .terms .curve in
     let v = c .before .before .before .before .before .before .before .args .v in
-    let exact = c .before .before .before .before .exact-speed in
+    let exact = c .before .before .before .before .speed-at in
     let ok = c .before .before .before .before .before .before .before .pre .well-formed in
     let up : 100 * v ≤ curve .capacity = omega (arith, terms-facts (c .before .before .before .before .before .before .before .args .terms) (c .before .before .before .before .before .before .before .pre) .most-eq) in
     let dense : c .before .before .div-up .result ≡ density curve v = c .before .before .div-up .ensures ∙ density-exact curve v (exact .result) ok up (exact .ensures) in
@@ -60,7 +60,7 @@ performance-at-spec =
     tie.close
     (tie.spec
     returns
-    exact-speed-requires
+    speed-at-requires
     mul-div-up
     mul-div-up-2
     div-up-requires
