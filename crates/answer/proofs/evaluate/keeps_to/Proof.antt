@@ -1,3 +1,5 @@
+-- `answer::evaluate::keeps_to` meets its contract: the flow rate of the demand, tried at the limit.
+-- Assumes nothing.
 use Rattle.method.specs.Refusals.{greatestDemand}
 use Rattle.numbers.proofs.ProductLaws.{product-fits}
 use Rattle.answer.specs.Search.{keepsTo}

@@ -1,3 +1,5 @@
+-- `answer::evaluate::volume_of` meets its contract: no letter has a density above 450.
+-- Assumes nothing.
 use native.Mathlib.Omega.{arith}
 use Rattle.method.proofs.ServiceLaws.{densityLimit-le}
 use borrow.Author.Needs.{needs}

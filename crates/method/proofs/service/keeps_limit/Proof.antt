@@ -1,3 +1,5 @@
+-- `method::service::keeps_limit` meets its contract: the limit is tested on a fraction of the value of S.
+-- Assumes nothing.
 use Prim.Native.Nat.{_*_, _≤_}
 use native.Mathlib.Omega.{arith}
 use borrow.Author.Tests.{lt-leb}

@@ -1,3 +1,5 @@
+-- `method::service::meets_limit` meets its contract: kind F reads no table, and kind M gets the table of powers.
+-- Assumes nothing.
 use mathlib.Core.Path.{sym, subst}
 use Rattle.method.specs.Terms.{TableFor}
 use borrow.Author.Needs.{needs}

@@ -1,3 +1,5 @@
+-- `method::speed::exact_speed` meets its contract: it is the speed of proofs/TermsLaws, whose value is S.
+-- Assumes nothing.
 use native.Mathlib.Nat.{le-trans}
 use native.Mathlib.Omega.{arith}
 use Rattle.numbers.proofs.ProductLaws.{product-fits}

@@ -1,3 +1,5 @@
+-- `method::speed::fallen` meets its contract: by kind; the place in the table of powers is at most 1,000 up to capacity.
+-- Assumes nothing.
 use mathlib.Core.Path.{subst}
 use native.Mathlib.Omega.{arith}
 use Rattle.numbers.proofs.ProductLaws.{product-fits}
