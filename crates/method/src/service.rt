@@ -5,8 +5,8 @@
 //   keeps_limit      whether a flow rate keeps to capacity and to a density, with a lent table of powers
 //   meets_limit      the same with a table of its own
 //   density_limit    the greatest density of a letter
-use crate::speed::CurveTerms;
 use crate::kind::Kind;
+use crate::speed::CurveTerms;
 use crate::speed::exact_speed;
 use crate::speed::speed_at;
 ghost use mathlib.Core.Path.{_≡_};

@@ -1,6 +1,8 @@
 -- Text written piece by piece, and the digits of a number (specs/Decimal, specs/Buffer).
 --   decimal-small, decimal-more, length-small, length-more   a number of one digit; of more
 --   length-written, none-written   a buffer keeps its length; no text leaves it as it was
+--   length-decimal   a number from 10 ^ k up to before 10 ^ (k + 1) has k + 1 digits
+--   Filling, nothing-filled, one-filled, digits-left, all-filled, number-written   digits written from the last to the first
 --   first-byte, then, then-byte    pieces written one after the other
 --   next-number, row-written       a turn of put_figures; a whole row
 --   next-room, rowText-length, rowText-one   the room that figures and rows take
@@ -11,7 +13,7 @@ use mathlib.Core.Path.{_≡_, refl, sym, ap, _∙_}
 use mathlib.Core.Bool.{Bool, true, false, cond}
 use mathlib.Core.List.{List, [], _∷_, _++_, append-assoc, append-nil}
 use Prim.Native.Nat.{ℕ, zero, suc, _+_, _-_, _*_, _/_, _%_, _^_, _≤_, _<_}
-use native.Mathlib.Nat.{add-assoc, pow-suc, div-lt-iff-lt-mul, add-zero}
+use native.Mathlib.Nat.{add-assoc, pow-suc, div-lt-iff-lt-mul, le-div-iff-mul-le, add-zero}
 use native.Mathlib.Numerals.{add-one}
 use native.Mathlib.Decide.{decLt}
 use native.Mathlib.Omega.{arith}
@@ -86,6 +88,80 @@ length-small n h = rw (decimal-small n h)
 
 pub length-more : (n : ℕ) → 10 ≤ n → n < 2 ^ 64 → length (decimal n) ≡ length (decimal (n / 10)) + 1
 length-more n h k = rw (decimal-more n h k) (length-append (decimal (n / 10)) ((48 + n % 10) ∷ []))
+
+-- a number from 10 ^ k up to before 10 ^ (k + 1) has k + 1 digits
+pub length-decimal : (k n : ℕ) → 10 ^ k ≤ n → n < 10 ^ suc k → n < 2 ^ 64 → length (decimal n) ≡ suc k
+length-decimal zero n l h f = length-small n (omega (arith, pow-suc 10 0))
+length-decimal (suc k) n l h f =
+    let p : 10 ^ suc k ≡ 10 ^ k * 10 = pow-suc 10 k in
+    let q : 10 ^ suc (suc k) ≡ 10 ^ suc k * 10 = pow-suc 10 (suc k) in
+    length-more n (omega (arith, pow-pos-ten k)) f
+    ∙ ap (λ (x : ℕ). x + 1) (length-decimal k (n / 10) (le-div-iff-mul-le (omega arith) .1 (omega arith)) (div-lt-iff-lt-mul (omega arith) .1 (omega arith)) (omega arith))
+    ∙ add-one (suc k)
+  where
+    pow-pos-ten : (i : ℕ) → 1 ≤ 10 ^ i
+    pow-pos-ten zero = omega arith
+    pow-pos-ten (suc i) = omega (arith, pow-suc 10 i, pow-pos-ten i)
+
+-- a byte before text that was written behind its place
+pub set-before : (b : ℕ) (s : List ℕ) (at : ℕ) (old : List ℕ) → at + 1 + length s ≤ length old → set (written s (at + 1) old) at b ≡ written (b ∷ s) at old
+unfolding written
+set-before b s at old h =
+    let rest : List ℕ = s ++ drop (at + 1 + length s) old in
+    let e : at + suc (length s) ≡ at + 1 + length s = omega arith in
+    let t : take (at + 1) old ≡ take at old ++ (getD old at 0 ∷ []) = ap (λ (x : ℕ). take x old) (add-one at) ∙ take-suc old at 0 (omega arith) in
+    rw (e, t) (ap (λ (l : List ℕ). set l at b) (append-assoc (take at old) (getD old at 0 ∷ []) rest) ∙ set-at (take at old) (getD old at 0) rest b at (length-take-le at old (omega arith)))
+
+-- the digits of n behind those of rest are written
+pub record Filling (n end : ℕ) (old new : List ℕ) (rest p : ℕ) : Type 0 where
+  pub later : List ℕ
+  pub all : decimal n ≡ decimal rest ++ later
+  pub place : p + length later ≡ end
+  pub content : new ≡ written later p old
+
+pub nothing-filled : (n end : ℕ) (old : List ℕ) → Filling n end old old n end
+nothing-filled n end old = record {
+  later = [];
+  all = sym (append-nil (decimal n));
+  place = add-zero end;
+  content = sym (none-written end old);
+}
+
+module _ (n end : ℕ) (old new : List ℕ) (rest p : ℕ) (f : Filling n end old new rest p) (room : end ≤ length old) where
+  -- one digit more, before those that are written
+  pub one-filled : (q : ℕ) → 10 ≤ rest → rest < 2 ^ 64 → p ≡ q + 1 → Filling n end old (set new q (48 + rest % 10)) (rest / 10) q
+  one-filled q h k e = record {
+    later = (48 + rest % 10) ∷ f .later;
+    all = f .all ∙ ap (λ (l : List ℕ). l ++ f .later) (decimal-more rest h k) ∙ append-assoc (decimal (rest / 10)) ((48 + rest % 10) ∷ []) (f .later);
+    place = omega (arith, f .place);
+    content = ap (λ (l : List ℕ). set l q (48 + rest % 10)) (f .content ∙ ap (λ (x : ℕ). written (f .later) x old) e) ∙ set-before (48 + rest % 10) (f .later) q old (omega (arith, f .place));
+  }
+
+  -- the digits of rest still have room
+  pub digits-left : length (decimal n) ≤ end → length (decimal rest) ≤ p
+  digits-left h = omega (arith, f .place, ap length (f .all), length-append (decimal rest) (f .later))
+
+  pub all-filled : rest < 10 → (decimal n ≡ (48 + rest) ∷ drop 1 (decimal n)) × (new ≡ written (drop 1 (decimal n)) (end - length (drop 1 (decimal n))) old)
+  all-filled h =
+      let whole : decimal n ≡ (48 + rest) ∷ f .later = f .all ∙ ap (λ (l : List ℕ). l ++ f .later) (decimal-small rest h) in
+      let later : drop 1 (decimal n) ≡ f .later = ap (drop 1) whole in
+      let at : end - length (f .later) ≡ p = omega (arith, f .place) in
+      rw later (whole, rw at (f .content))
+
+-- the first digit, before the others
+pub number-written : (n at end first : ℕ) (old mid : List ℕ) → at + length (decimal n) ≤ length old → end ≡ at + length (decimal n)
+    → decimal n ≡ (48 + first) ∷ drop 1 (decimal n) → mid ≡ written (drop 1 (decimal n)) (end - length (drop 1 (decimal n))) old
+    → Wrote (decimal n) at old (set mid at (48 + first)) end
+number-written n at end first old mid room ends whole content =
+    let long : length (decimal n) ≡ suc (length (drop 1 (decimal n))) = ap length whole in
+    let behind : end - length (drop 1 (decimal n)) ≡ at + 1 = omega arith in
+    record {
+      content =
+          ap (λ (l : List ℕ). set l at (48 + first)) (content ∙ ap (λ (x : ℕ). written (drop 1 (decimal n)) x old) behind)
+          ∙ set-before (48 + first) (drop 1 (decimal n)) at old (omega arith)
+          ∙ ap (λ (l : List ℕ). written l at old) (sym whole);
+      ends = ends;
+    }
 
 pub first-byte : (old : List ℕ) (at b : ℕ) → at < length old → Wrote (b ∷ []) at old (set old at b) (at + 1)
 first-byte old at b h = record { content = set-written old at b h; ends = refl }

@@ -43,11 +43,10 @@ div-up-requires c κs = omega (arith, terms-facts (c .before .before .before .be
 -- src/speed.rt:77:28
 power-requires : tie.Need-power-requires
 power-requires c κs =
-    let args = c .before .before .before .before .before .before .args in
-    (
+    let args = c .before .before .before .before .before .before .args in (
       subst (λ kind. TableFor kind (args .table .now)) (c .before .enum-told2 .given .1) (c .before .before .before .before .before .before .pre .1 .0),
       rw (c .div-up .ensures, c .before .before .before .beyond-breakpoint .ensures, terms-facts (args .terms) (c .before .before .before .before .before .before .pre .0) .span-eq)
-      (place-le (args .terms .curve) (args .v) (c .before .before .before .before .before .before .pre .0 .well-formed) (c .before .before .before .before .before .before .pre .1 .1)),
+          (place-le (args .terms .curve) (args .v) (c .before .before .before .before .before .before .pre .0 .well-formed) (c .before .before .before .before .before .before .pre .1 .1)),
     )
 
 -- src/speed.rt:68:1
