@@ -1,7 +1,6 @@
 -- `answer::evaluate::graded_with` meets its contract: each field is the definition's; a volume is the search's by proofs/VolumeLaws.
 -- Assumes nothing.
 use mathlib.Core.Path.{_≡_, ap, _∙_, subst}
-use mathlib.Core.List.{List}
 use Prim.Native.Nat.{ℕ, _≤_}
 use native.Mathlib.Omega.{arith}
 use Rattle.numbers.specs.Search.{greatest}

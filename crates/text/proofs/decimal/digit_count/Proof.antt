@@ -1,3 +1,5 @@
+-- `text::decimal::digit_count` meets its contract: the ranges are those between powers of ten.
+-- Assumes nothing.
 use mathlib.Core.Path.{sym}
 use native.Mathlib.Omega.{arith}
 use Rattle.text.proofs.WritingLaws.{length-small, length-decimal}

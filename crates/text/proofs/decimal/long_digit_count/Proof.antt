@@ -1,4 +1,6 @@
-use mathlib.Core.Path.{_≡_, sym}
+-- `text::decimal::long_digit_count` meets its contract: each division by ten takes one digit off.
+-- Assumes nothing.
+use mathlib.Core.Path.{_≡_}
 use Prim.Native.Nat.{_+_, _≤_}
 use native.Mathlib.Omega.{arith}
 use lib.ListN.{length}

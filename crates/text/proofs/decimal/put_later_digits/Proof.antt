@@ -1,8 +1,10 @@
+-- `text::decimal::put_later_digits` meets its contract: the digits written so far are those behind the digits of the rest.
+-- Assumes nothing.
 use mathlib.Core.Path.{_≡_, refl}
 use Prim.Native.Nat.{_-_, _≤_}
 use native.Mathlib.Omega.{arith}
 use lib.ListN.{length, length-set}
-use Rattle.text.proofs.WritingLaws.{length-more, length-small, Filling, nothing-filled, one-filled, digits-left, all-filled}
+use Rattle.text.proofs.WritingLaws.{length-more, Filling, nothing-filled, one-filled, digits-left, all-filled}
 use borrow.Author.Needs.{needs}
 use Rattle.text.proofs.decimal.put_later_digits.Statement.{statement}
 use Rattle.text.proofs.decimal.put_later_digits.Tie as tie

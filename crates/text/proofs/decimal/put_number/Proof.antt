@@ -1,4 +1,6 @@
-use mathlib.Core.Path.{ap, _∙_}
+-- `text::decimal::put_number` meets its contract: the digits behind the first are written, and the first before them.
+-- Assumes nothing.
+use mathlib.Core.Path.{ap}
 use native.Mathlib.Omega.{arith}
 use lib.ListN.{length}
 use Rattle.text.proofs.WritingLaws.{number-written}
