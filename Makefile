@@ -1,10 +1,10 @@
 # make run      answers the lines of examples/sections.tsv with the program los
-# make test     checks the committed tables, the documents' references, the calls from C and the program's reading and writing, compares the
-#               calls and the program with a second implementation of the method and with published figures, then proves and tries
-#               everything: rt ci
+# make test     proves everything and tries every must-fail edit (rt ci), then tests the library and the program that were proved
 # make full     compares every curve and every float with the second implementation
 # make tables   writes the constant tables anew
 # make bench    times los and the calls against plain C on a million made lines; RUNS=n sets how often
+SHELL = /bin/bash
+.SHELLFLAGS = -o pipefail -c
 BUILD = build
 RUSTC = rustc --edition 2021 -O
 CFLAGS = -std=c11 -Wall -Wextra -Werror -O2
@@ -17,23 +17,33 @@ PLAIN = $(patsubst %,$(BENCH)/plain-%,gcc $(if $(shell command -v clang),clang))
 PLAINFLAGS = -std=c11 -Wall -Wextra -Werror -O3 -I$(BENCH)
 TABLES = $(BENCH)/powers.inc $(BENCH)/ramps.inc
 
-.PHONY: run test full tables bench clean
+.PHONY: run test prove tests full tables bench clean
 
 run: target/bin/los
 	@target/bin/los < examples/sections.tsv
 
-# rt ci begins by removing target, so what needs the library or the program comes before it.
-test: $(BUILD)/tables $(BUILD)/references $(BUILD)/calls $(BUILD)/widening $(BUILD)/stream $(BUILD)/compare $(BUILD)/published target/bin/los
+# The last line is the verdict of rt ci, shown only where every test has passed.
+test:
+	rt fmt --check
+	@$(MAKE) --no-print-directory prove
+	@$(MAKE) --no-print-directory tests
+	@tail -n 1 $(BUILD)/ci.log
+
+# rt ci removes target and proves everything from nothing. What it prints is shown as it comes, all but the last line, which is shown here
+# where rt ci fails.
+prove:
+	@mkdir -p $(BUILD)
+	rt ci 2>&1 | tee $(BUILD)/ci.log | sed -u '$$d' || { tail -n 1 $(BUILD)/ci.log; exit 1; }
+
+tests: $(addprefix $(BUILD)/,tables references calls widening widening-test stream compare published) target/bin/los
 	$(BUILD)/tables check
 	$(BUILD)/references
 	$(BUILD)/calls
-	$(BUILD)/widening "$$(head -n 1 examples/sections.tsv)" 30 C 12 | cmp - examples/widening.out
+	$(BUILD)/widening-test $(BUILD)/widening
 	$(BUILD)/stream target/bin/los
 	$(BUILD)/compare quick
 	$(BUILD)/compare los target/bin/los
 	$(BUILD)/published target/bin/los
-	rt fmt --check
-	rt ci
 
 full: $(BUILD)/compare
 	$(BUILD)/compare full-curves
@@ -42,13 +52,18 @@ full: $(BUILD)/compare
 tables: $(BUILD)/tables
 	$(BUILD)/tables write
 
+# What is proved already is not proved again. Each crate is told as it is proved.
+define rt
+@mkdir -p $(BUILD)
+@echo "rt $(1)" >&2
+@rt $(1) 2>&1 | tee $(BUILD)/rt.log | sed -un '/^rt: /p' >&2 || { cat $(BUILD)/rt.log; exit 1; }
+endef
+
 target/bin/%: $(SOURCES)
-	@mkdir -p $(BUILD)
-	@rt check $* > $(BUILD)/check.log 2>&1 || { cat $(BUILD)/check.log; exit 1; }
+	$(call rt,check $*)
 
 $(LIBRARY): $(SOURCES)
-	@mkdir -p $(BUILD)
-	@rt staticlib marehour > $(BUILD)/staticlib.log 2>&1 || { cat $(BUILD)/staticlib.log; exit 1; }
+	$(call rt,staticlib marehour)
 
 $(BUILD)/calls: tests/calls.c tests/overrun.c tests/calls.h include/marehour.h $(LIBRARY)
 	@mkdir -p $(BUILD)
@@ -62,7 +77,15 @@ $(BUILD)/compare: tests/compare.rs $(wildcard tests/compare/*.rs tests/second/*.
 	@mkdir -p $(BUILD)
 	$(RUSTC) -o $@ $< -L $(dir $(LIBRARY)) -l static=marehour
 
+$(BUILD)/%-test: tests/%.rs
+	@mkdir -p $(BUILD)
+	$(RUSTC) -o $@ $<
+
 $(BUILD)/%: tests/%.rs
+	@mkdir -p $(BUILD)
+	$(RUSTC) -o $@ $<
+
+$(BUILD)/%: tools/%.rs
 	@mkdir -p $(BUILD)
 	$(RUSTC) -o $@ $<
 
@@ -80,7 +103,7 @@ $(BENCH)/lines.tsv: $(BENCH)/generate
 
 # The engine's own tables, as C reads them.
 $(BENCH)/powers.inc: crates/powers/src/table.rt
-$(BENCH)/ramps.inc: crates/method/src/ramp_table.rt
+$(BENCH)/ramps.inc: crates/road/src/ramp_table.rt
 $(TABLES):
 	@mkdir -p $(BENCH)
 	@grep -E '^ *[0-9]+,$$' $< > $@

@@ -1,16 +1,30 @@
-/* widening: the first year in which a section must be wider.
+/* widening: the first year in which a section must be wider, and the first in which no widening suffices.
 
      widening LINE GROWTH LETTER YEARS
 
    LINE is a section's line (13 fields parted by tabs), GROWTH the yearly growth of its demand in thousandths, LETTER the target, A to E,
    YEARS how many years to look ahead. For each year, from 0 for the section as given, a row: year, demand, letter, and the lanes that the
-   target needs, or 'none'. The last line tells the first year in which the section has fewer lanes than that.
+   target needs, or 'none' where no lane count meets it. The rows end before a demand above 99,999, which no line can hold.
+
+   The last lines, each where it holds:
+
+     demand passes 99999 in year N        the first year without a row
+     must be wider in year N              the first year in which more lanes than the section has meet the target, and its own do not
+     need not be wider in years 0 to N    the section meets the target in these years
+     no widening suffices from year N     no lane count meets the target in that year or in a later one
+
+   The demand never falls, so once no lane count meets the target, none does later. None does with a demand above 99,999 either: no service
+   volume is above 19,200.
 
    widening.out is what it prints for the first line of sections.tsv, 30, C and 12.
 
-   Exit status: 0; 1 where a call refuses the section, with the refusal's number on standard error; 2 for bad arguments. */
+   Exit status:
+
+     0  everything is printed
+     1  a call refuses the section: the refusal's number is on standard error
+     2  bad arguments
+     3  standard output can't be written */
 #include "marehour.h"
-#include <limits.h>
 #include <stdbool.h>
 #include <stdio.h>
 #include <stdlib.h>
@@ -22,6 +36,8 @@ enum {
     GREATEST_DEMAND = 99999,
     LINE_SIZE = 81 /* 80 bytes and the zero byte */
 };
+
+enum { DONE = 0, REFUSED = 1, BAD_ARGUMENTS = 2, NOT_WRITTEN = 3 };
 
 struct plan {
     const char *line;
@@ -35,11 +51,18 @@ struct year {
     unsigned long lanes_needed; /* 0: no lane count meets the target */
 };
 
+/* The first year of each sort, or the year after the last one looked at. */
+struct first_years {
+    unsigned long passed; /* the demand is above GREATEST_DEMAND */
+    unsigned long narrow; /* some lane count meets the target, and it is more than the section has */
+    unsigned long unmet;  /* no lane count meets the target */
+};
+
 static int usage(void)
 {
     fprintf(stderr, "usage: widening LINE GROWTH LETTER YEARS\n"
                     "LINE: 13 fields parted by tabs; GROWTH: thousandths a year, 0 to 99999; LETTER: A to E; YEARS: 0 to 99999\n");
-    return 2;
+    return BAD_ARGUMENTS;
 }
 
 /* One to five digits. */
@@ -122,9 +145,11 @@ static void print_year(unsigned long number, unsigned long demand, const struct 
     }
 }
 
-static bool too_narrow(unsigned long lanes, const struct year *year)
+static void keep_earlier(unsigned long *first, unsigned long number)
 {
-    return year->lanes_needed == 0 || lanes < year->lanes_needed;
+    if (number < *first) {
+        *first = number;
+    }
 }
 
 /* The demand of the next year, rounded up. */
@@ -136,28 +161,29 @@ static unsigned long grown(unsigned long demand, unsigned long growth)
 static int refused(int32_t result)
 {
     fprintf(stderr, "widening: the section is refused with %d\n", (int)-result);
-    return 1;
+    return REFUSED;
 }
 
-/* The last lines, after as many rows. */
-static void print_verdict(const struct plan *plan, unsigned long rows, unsigned long first_narrow)
+static void print_verdict(const struct plan *plan, const struct first_years *first)
 {
-    if (rows <= plan->years) {
-        printf("demand passes %d in year %lu\n", GREATEST_DEMAND, rows);
+    if (first->passed <= plan->years) {
+        printf("demand passes %d in year %lu\n", GREATEST_DEMAND, first->passed);
     }
-    if (first_narrow < rows) {
-        printf("must be wider in year %lu\n", first_narrow);
-    } else {
-        printf("need not be wider in years 0 to %lu\n", rows - 1);
+    if (first->narrow <= plan->years) {
+        printf("must be wider in year %lu\n", first->narrow);
+    } else if (first->unmet > 0) {
+        printf("need not be wider in years 0 to %lu\n", first->unmet - 1);
+    }
+    if (first->unmet <= plan->years) {
+        printf("no widening suffices from year %lu\n", first->unmet);
     }
 }
 
-/* Prints the years of a section that is accepted, until its demand is more than a line can hold. */
-static int print_years(const struct plan *plan)
+/* Prints the rows of a section that is accepted; 0, or minus a refusal's number. */
+static int32_t print_rows(const struct plan *plan, struct first_years *first)
 {
     unsigned long lanes = field_number(plan->line, LANES_FIELD);
     unsigned long demand = field_number(plan->line, DEMAND_FIELD);
-    unsigned long first_narrow = ULONG_MAX;
     unsigned long number;
     printf("year\tdemand\tletter\tlanes\n");
     for (number = 0; number <= plan->years && demand <= GREATEST_DEMAND; number++) {
@@ -166,16 +192,42 @@ static int print_years(const struct plan *plan)
         with_demand(plan->line, demand, line);
         int32_t result = ask(line, plan->target, &year);
         if (result < 0) {
-            return refused(result);
+            return result;
         }
         print_year(number, demand, &year);
-        if (first_narrow > number && too_narrow(lanes, &year)) {
-            first_narrow = number;
+        if (year.lanes_needed == 0) {
+            keep_earlier(&first->unmet, number);
+        } else if (year.lanes_needed > lanes) {
+            keep_earlier(&first->narrow, number);
         }
         demand = grown(demand, plan->growth);
     }
-    print_verdict(plan, number, first_narrow);
+    first->passed = number; /* the year after the last, where all have a row */
+    keep_earlier(&first->unmet, number);
     return 0;
+}
+
+/* Whether all that was printed is written. What is still held is written here, so a full disk may show only now. */
+static bool all_written(void)
+{
+    bool sound = !ferror(stdout);
+    return fclose(stdout) == 0 && sound;
+}
+
+static int print_years(const struct plan *plan)
+{
+    unsigned long after = plan->years + 1;
+    struct first_years first = {after, after, after};
+    int32_t result = print_rows(plan, &first);
+    if (result < 0) {
+        return refused(result);
+    }
+    print_verdict(plan, &first);
+    if (!all_written()) {
+        fprintf(stderr, "widening: standard output can't be written\n");
+        return NOT_WRITTEN;
+    }
+    return DONE;
 }
 
 int main(int count, char **arguments)

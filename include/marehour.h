@@ -7,17 +7,19 @@
      marehour_survey_mph   a surveyed speed, from miles per hour
      marehour_survey_kmh   a surveyed speed, from kilometres per hour
 
-   Results. Each call hands back one number: what it answers, which is above 0, or minus the number of a refusal. 0 is never handed back.
+   Results. Each call hands back one number: what it answers, which is above 0, or minus the number
+   of a refusal. 0 is never handed back.
 
-   Units. Speeds are in thousandths of mi/h, capacities in hundredths of passenger cars per hour per lane, flow rates in passenger cars per
-   hour per lane, densities in tenths of a passenger car per mile per lane, lengths in tenths of a foot, the peak-hour factor and the heavy
-   share in thousandths, demands and service volumes in vehicles per hour.
+   Units. Speeds are in thousandths of mi/h, capacities in hundredths of passenger cars per hour per
+   lane, flow rates in passenger cars per hour per lane, densities in tenths of a passenger car per
+   mile per lane, lengths in tenths of a foot, the peak-hour factor and the heavy share in
+   thousandths, demands and service volumes in vehicles per hour.
 
    A line describes one section: 13 fields parted by single tabs, without a newline at its end.
 
      1  kind: F freeway, M multilane highway
-     2  E: the speed is the base speed, from which the free-flow speed is estimated; G: it is the free-flow speed itself, and fields 4
-        to 8 are checked and not used
+     2  E: the speed is the base speed, from which the free-flow speed is estimated; G: it is the
+        free-flow speed itself, and fields 4 to 8 are checked and not used
      3  speed
      4  lane width
      5  right clearance
@@ -32,11 +34,13 @@
 
    A number has one to five digits and no leading zero, save 0 itself.
 
-   Memory. A call reads line[0] to line[line_length - 1] and nothing else, and keeps no pointer. It writes into answer[0] to
-   answer[answer_length - 1] only. A pointer may be NULL when its length is 0. The line and the answer buffer must not overlap. Text is not
-   ended by a zero byte, neither the line nor the answer.
+   Memory. A call reads line[0] to line[line_length - 1] and nothing else, and keeps no pointer. It
+   writes into answer[0] to answer[answer_length - 1] only. A pointer may be NULL when its length is
+   0. The line and the answer buffer must not overlap. Text is not ended by a zero byte, neither the
+   line nor the answer.
 
-   Threads. The calls keep no state and share nothing: any number of threads may make them at once, each with its own buffer.
+   Threads. The calls keep no state and share nothing: any number of threads may make them at once,
+   each with its own buffer.
 */
 #ifndef MAREHOUR_H
 #define MAREHOUR_H
@@ -62,52 +66,59 @@ enum {
 
 /* Refusals. A call hands back minus the number. A number is never reused. */
 enum {
-    MAREHOUR_SPEED_OUT_OF_RANGE = 1,           /* speed not 30,000 to 90,000 */
-    MAREHOUR_WIDTH_OUT_OF_RANGE = 2,           /* lane width not 100 to 200 */
-    MAREHOUR_CLEARANCE_TOO_LARGE = 3,          /* right or left clearance above 400 */
-    MAREHOUR_MEDIAN_UNFIT = 4,                 /* median other than D on kind F */
-    MAREHOUR_ACCESS_TOO_LARGE = 5,             /* ramps above 48 (F), access points above 200 (M) */
-    MAREHOUR_LANES_NOT_OF_THE_KIND = 6,        /* lanes not 2 to 8 (F), not 2 to 3 (M) */
-    MAREHOUR_DEMAND_TOO_LARGE = 7,             /* demand above 99,999: no line can hold it, so no call hands it back */
-    MAREHOUR_FACTOR_OUT_OF_RANGE = 8,          /* peak-hour factor not 250 to 1,000 */
-    MAREHOUR_SHARE_TOO_LARGE = 9,              /* heavy share above 1,000 */
-    MAREHOUR_SPEED_BELOW_LOWER_END = 10,       /* free-flow speed F below 55,000 (F), below 45,000 (M) */
-    MAREHOUR_CARS_TOO_FEW = 11,                /* fewer than 100 cars counted */
-    MAREHOUR_FLOW_TOO_LARGE = 12,              /* flow of 1,000 or more */
-    MAREHOUR_SURVEYED_SPEED_OUT_OF_RANGE = 13, /* not a finite number, or rounded down not 30,000 to 90,000 */
-    MAREHOUR_NO_LANE_COUNT = 14,               /* no lane count of the kind meets the letter */
-    MAREHOUR_LINE_MALFORMED = 15,              /* not a line as above, or longer than 80 bytes */
-    MAREHOUR_LETTER_UNKNOWN = 16,              /* letter number not 1 to 5 */
-    MAREHOUR_BUFFER_TOO_SHORT = 17             /* answer buffer under MAREHOUR_ANSWER_SIZE bytes */
+    MAREHOUR_SPEED_OUT_OF_RANGE = 1,     /* speed not 30,000 to 90,000 */
+    MAREHOUR_WIDTH_OUT_OF_RANGE = 2,     /* lane width not 100 to 200 */
+    MAREHOUR_CLEARANCE_TOO_LARGE = 3,    /* right or left clearance above 400 */
+    MAREHOUR_MEDIAN_UNFIT = 4,           /* median other than D on kind F */
+    MAREHOUR_ACCESS_TOO_LARGE = 5,       /* ramps above 48 (F), access points above 200 (M) */
+    MAREHOUR_LANES_NOT_OF_THE_KIND = 6,  /* lanes not 2 to 8 (F), not 2 to 3 (M) */
+    MAREHOUR_DEMAND_TOO_LARGE = 7,       /* demand above 99,999: no line can hold it, so no call
+                                            hands it back */
+    MAREHOUR_FACTOR_OUT_OF_RANGE = 8,    /* peak-hour factor not 250 to 1,000 */
+    MAREHOUR_SHARE_TOO_LARGE = 9,        /* heavy share above 1,000 */
+    MAREHOUR_SPEED_BELOW_LOWER_END = 10, /* free-flow speed F below 55,000 (F), 45,000 (M) */
+    MAREHOUR_CARS_TOO_FEW = 11,          /* fewer than 100 cars counted */
+    MAREHOUR_FLOW_TOO_LARGE = 12,        /* flow of 1,000 or more */
+    MAREHOUR_SURVEYED_SPEED_OUT_OF_RANGE = 13, /* not a finite number, or rounded down not 30,000
+                                                  to 90,000 */
+    MAREHOUR_NO_LANE_COUNT = 14,         /* no lane count of the kind meets the letter */
+    MAREHOUR_LINE_MALFORMED = 15,        /* not a line as above, or longer than 80 bytes */
+    MAREHOUR_LETTER_UNKNOWN = 16,        /* letter number not 1 to 5 */
+    MAREHOUR_BUFFER_TOO_SHORT = 17       /* answer buffer under MAREHOUR_ANSWER_SIZE bytes */
 };
 
-int32_t marehour_answer(const uint8_t *line, size_t line_length, uint8_t *answer, size_t answer_length);
+int32_t marehour_answer(const uint8_t *line, size_t line_length, uint8_t *answer,
+                        size_t answer_length);
 /* Answers a section: 11 fields parted by tabs, and a newline.
 
      letter A to F; free-flow speed; capacity; flow rate; speed; density; service volumes A to E
 
-   A free-flow speed above 75,000 (kind F) or 70,000 (kind M) is taken as that end. Flow rate and density are rounded up, speed down; the
-   letter rests on the speed before it is rounded. Above capacity the letter is F, and speed and density are 0. A service volume is the greatest demand from 0 to 99,999 that gets its
-   letter or a better one.
+   A free-flow speed above 75,000 (kind F) or 70,000 (kind M) is taken as that end. Flow rate and
+   density are rounded up, speed down; the letter rests on the speed before it is rounded. Above
+   capacity the letter is F, and speed and density are 0. A service volume is the greatest demand
+   from 0 to 99,999 that gets its letter or a better one.
 
-   The result is the count of bytes written, newline included, at most MAREHOUR_ANSWER_SIZE; or minus the first of these refusals that
-   holds, in this order:
+   The result is the count of bytes written, newline included, at most MAREHOUR_ANSWER_SIZE; or
+   minus the first of these refusals that holds, in this order:
 
      17  answer_length under MAREHOUR_ANSWER_SIZE; the line is not read
      15  malformed line
      1 to 6, 8, 9, 10  in the order of the numbers
 
-   Afterwards the first bytes of the buffer, as many as the result says, are the answer. Those past them keep their content. A refusal
-   changes no byte.
+   Afterwards the first bytes of the buffer, as many as the result says, are the answer. Those past
+   them keep their content. A refusal changes no byte.
 */
 
-int32_t marehour_lanes(const uint8_t *line, size_t line_length, uint32_t letter, uint8_t *answer, size_t answer_length);
-/* Answers the least lane count, 2 to 8 on kind F and 2 to 3 on kind M, with which the section gets the letter or a better one, all other
-   fields kept: one digit and a newline. The letter is given by its number, MAREHOUR_LETTER_A to MAREHOUR_LETTER_E; any number may be
-   passed. With E the free-flow speed is estimated anew for each count. A count with which F is below its lower end (10) is passed over, the
-   section's own too: 10 is never the result.
+int32_t marehour_lanes(const uint8_t *line, size_t line_length, uint32_t letter, uint8_t *answer,
+                       size_t answer_length);
+/* Answers the least lane count, 2 to 8 on kind F and 2 to 3 on kind M, with which the section gets
+   the letter or a better one, all other fields kept: one digit and a newline. The letter is given
+   by its number, MAREHOUR_LETTER_A to MAREHOUR_LETTER_E; any number may be passed. With E the
+   free-flow speed is estimated anew for each count. A count with which F is below its lower end
+   (10) is passed over, the section's own too: 10 is never the result.
 
-   The result is 2, the count of bytes written; or minus the first of these refusals that holds, in this order:
+   The result is 2, the count of bytes written; or minus the first of these refusals that holds, in
+   this order:
 
      17  answer_length under MAREHOUR_ANSWER_SIZE; the line is not read
      15  malformed line
@@ -115,16 +126,21 @@ int32_t marehour_lanes(const uint8_t *line, size_t line_length, uint32_t letter,
      1 to 6, 8, 9  in the order of the numbers; 6 looks at the section's own lanes
      14  no lane count meets the letter
 
-   Afterwards the first two bytes of the buffer are the answer. Those past them keep their content. A refusal changes no byte.
+   Afterwards the first two bytes of the buffer are the answer. Those past them keep their content.
+   A refusal changes no byte.
 */
 
 int32_t marehour_survey_mph(float speed, uint32_t cars, uint32_t flow);
 int32_t marehour_survey_kmh(float speed, uint32_t cars, uint32_t flow);
-/* Answer a surveyed speed: the exact value of the float, in miles per hour or in kilometres per hour (1 mi = 1.609344 km), rounded down to
-   thousandths of mi/h. cars is the count of cars, flow the flow rate in passenger cars per hour per lane. Any bits may be passed as the
-   float, and any numbers as the two others. The rounding mode of the processor has no part in it.
+/* Answer a surveyed speed: the exact value of the float, in miles per hour or in kilometres per
+   hour (1 mi = 1.609344 km), rounded down to thousandths of mi/h. cars is the count of cars, flow
+   the flow rate in passenger cars per hour per lane. Any bits may be passed as the float, and any
+   numbers as the two others. The rounding mode of the processor has no part in it. A signalling NaN
+   is refused as every NaN is, and raises the processor's invalid-operation flag, as a comparison
+   with it does in C: a host that traps on that flag tests the float before.
 
-   The result is the speed, 30000 to 90000; or minus the first of these refusals that holds, in this order:
+   The result is the speed, 30000 to 90000; or minus the first of these refusals that holds, in this
+   order:
 
      11  cars under 100
      12  flow of 1,000 or more

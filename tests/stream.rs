@@ -2,12 +2,16 @@
 //   - crates/los/stdin gets crates/los/stdout, written at once and in pieces, with and without a last newline;
 //   - many lines of varied length get what each gets by itself, and so do lines around the end of a block;
 //   - an empty input prints nothing, and a line of ten million bytes is one malformed line;
-//   - when nobody reads its output, it ends and says nothing;
-//   - when its input can't be read, it says so and answers no half line.
+//   - when its output can't be written, in the middle or at the end, it says so once and ends;
+//   - when nobody reads its output, SIGPIPE ends it and it says nothing; with SIGPIPE ignored, it says that it can't write;
+//   - when its input can't be read, from the first read on or in the middle of a line, it says so and answers no half line.
 
+use std::fs::File;
 use std::io::{BufRead, BufReader, Read, Write};
+use std::os::fd::OwnedFd;
+use std::os::unix::net::UnixStream;
 use std::os::unix::process::ExitStatusExt;
-use std::process::{exit, Child, Command, ExitStatus, Stdio};
+use std::process::{exit, Child, ChildStdin, Command, ExitStatus, Stdio};
 use std::sync::Arc;
 use std::thread;
 use std::time::{Duration, Instant};
@@ -15,6 +19,7 @@ use std::time::{Duration, Instant};
 const LIMIT: Duration = Duration::from_secs(120);
 const MALFORMED: &[u8] = b"X\t15\n";
 const UNREADABLE: &[u8] = b"los: standard input can't be read\n";
+const UNWRITABLE: &[u8] = b"los: standard output can't be written\n";
 const SIGPIPE: i32 = 13;
 
 struct Outcome {
@@ -32,8 +37,13 @@ fn read_file(path: &str) -> Vec<u8> {
     std::fs::read(path).unwrap_or_else(|error| fail(&format!("{path}: {error}")))
 }
 
-fn start(mut command: Command) -> Child {
-    let started = command.stdin(Stdio::piped()).stdout(Stdio::piped()).stderr(Stdio::piped()).spawn();
+fn start(command: Command) -> Child {
+    start_with(command, Stdio::piped(), Stdio::piped())
+}
+
+// The command ends here, and with it this process's copies of the child's input and output.
+fn start_with(mut command: Command, input: Stdio, output: Stdio) -> Child {
+    let started = command.stdin(input).stdout(output).stderr(Stdio::piped()).spawn();
     started.unwrap_or_else(|error| fail(&format!("{command:?}: {error}")))
 }
 
@@ -48,6 +58,13 @@ fn feed(child: &mut Child, input: &Arc<Vec<u8>>, piece: usize) -> thread::JoinHa
             }
         }
     })
+}
+
+// Writes the input, which has to fit in a pipe, and does not close it.
+fn feed_without_end(child: &mut Child, input: &[u8]) -> ChildStdin {
+    let mut pipe = child.stdin.take().expect("piped");
+    pipe.write_all(input).ok();
+    pipe
 }
 
 fn collect(mut pipe: impl Read + Send + 'static) -> thread::JoinHandle<Vec<u8>> {
@@ -144,8 +161,24 @@ fn expect_around_blocks(los: &str, line: &[u8], answer: &[u8]) {
     }
 }
 
+// What los says when its output is always full; what gives it its input is held until it has ended.
+fn expect_full<Held>(what: &str, los: &str, give: impl FnOnce(&mut Child) -> Held, message: &[u8]) {
+    let full = File::options().write(true).open("/dev/full").unwrap_or_else(|error| fail(&format!("/dev/full: {error}")));
+    let mut child = start_with(Command::new(los), Stdio::piped(), Stdio::from(full));
+    let held = give(&mut child);
+    let errors = collect(child.stderr.take().expect("piped"));
+    let status = wait(&mut child);
+    drop(held);
+    if errors.join().expect("the reader ends") != message {
+        fail(&format!("{what}, output full: another message"));
+    }
+    if status.signal().is_some() {
+        fail(&format!("{what}, output full: {status}"));
+    }
+}
+
 // Reads one line of the output and closes it while the input goes on.
-fn expect_quiet_end(what: &str, command: Command, input: &Arc<Vec<u8>>, first: &[u8]) -> ExitStatus {
+fn expect_closed(what: &str, command: Command, input: &Arc<Vec<u8>>, first: &[u8], message: &[u8], signal: Option<i32>) {
     let mut child = start(command);
     let writer = feed(&mut child, input, 65_536);
     let errors = collect(child.stderr.take().expect("piped"));
@@ -156,21 +189,49 @@ fn expect_quiet_end(what: &str, command: Command, input: &Arc<Vec<u8>>, first: &
     if line != first {
         fail(&format!("{what}: the first line differs"));
     }
-    if !errors.join().expect("the reader ends").is_empty() {
-        fail(&format!("{what}: standard error is not empty"));
+    if errors.join().expect("the reader ends") != message {
+        fail(&format!("{what}: another message"));
     }
-    if status.signal().is_some_and(|signal| signal != SIGPIPE) {
+    if status.signal() != signal {
         fail(&format!("{what}: {status}"));
     }
-    status
 }
 
 // A folder can be opened and not read.
 fn expect_unreadable(los: &str) {
-    let folder = std::fs::File::open(".").unwrap_or_else(|error| fail(&error.to_string()));
+    let folder = File::open(".").unwrap_or_else(|error| fail(&error.to_string()));
     let outcome = Command::new(los).stdin(folder).output().unwrap_or_else(|error| fail(&error.to_string()));
     if !outcome.stdout.is_empty() || outcome.stderr != UNREADABLE {
         fail("an input that can't be read: another output or message");
+    }
+}
+
+// Reads as many bytes, closes the socket, and reads the rest.
+fn collect_with_reset(mut pipe: impl Read + Send + 'static, count: usize, socket: UnixStream) -> thread::JoinHandle<Vec<u8>> {
+    thread::spawn(move || {
+        let mut bytes = Vec::new();
+        pipe.by_ref().take(count as u64).read_to_end(&mut bytes).expect("a pipe can be read");
+        drop(socket);
+        pipe.read_to_end(&mut bytes).expect("a pipe can be read");
+        bytes
+    })
+}
+
+// The input is a socket. Its other end has a byte that nobody reads, so closing that end is a reset: after the bytes sent, reading fails.
+// It is closed when the answer has come. No other process has that end, since sockets are closed when a child's program starts.
+fn expect_reset(what: &str, los: &str, sent: &[u8], answer: &[u8]) {
+    let (mut ours, mut theirs) = UnixStream::pair().unwrap_or_else(|error| fail(&error.to_string()));
+    theirs.write_all(b"7").unwrap_or_else(|error| fail(&error.to_string()));
+    let mut child = start_with(Command::new(los), Stdio::from(OwnedFd::from(theirs)), Stdio::piped());
+    ours.write_all(sent).unwrap_or_else(|error| fail(&error.to_string()));
+    let output = collect_with_reset(child.stdout.take().expect("piped"), answer.len(), ours);
+    let errors = collect(child.stderr.take().expect("piped"));
+    let status = wait(&mut child);
+    if output.join().expect("the reader ends") != answer {
+        fail(&format!("{what}, then a reset: another output"));
+    }
+    if errors.join().expect("the reader ends") != UNREADABLE || status.signal().is_some() {
+        fail(&format!("{what}, then a reset: another message, or {status}"));
     }
 }
 
@@ -208,15 +269,24 @@ fn main() {
     expect("a line after a long one", &los, &Arc::new(long), 65_536, &[MALFORMED, answers[0]].concat());
 
     let first = many_expected.split_inclusive(|&b| b == b'\n').next().unwrap_or(b"");
-    let status = expect_quiet_end("output closed", Command::new(&los), &many, first);
-    if status.code().is_some_and(|code| code != 0) {
-        fail(&format!("output closed: {status}"));
-    }
+    expect_closed("output closed", Command::new(&los), &many, first, b"", Some(SIGPIPE));
     let mut ignoring = Command::new("sh");
     ignoring.args(["-c", "trap '' PIPE; exec \"$0\"", &los]);
-    expect_quiet_end("output closed, SIGPIPE ignored", ignoring, &many, first);
+    expect_closed("output closed, SIGPIPE ignored", ignoring, &many, first, UNWRITABLE, None);
+
+    expect_full("many lines", &los, |child| feed(child, &many, 65_536), UNWRITABLE);
+    expect_full("lines of an input without end", &los, |child| feed_without_end(child, &ended), UNWRITABLE);
+    let last = Arc::new(lines[0].to_vec());
+    expect_full("a last line without newline", &los, |child| feed(child, &last, last.len()), UNWRITABLE);
+    expect_full("an empty input", &los, |child| feed(child, &Arc::new(Vec::new()), 1), b"");
 
     expect_unreadable(&los);
+    let half = &lines[0][..lines[0].len() / 2];
+    expect_reset("a line and half a line", &los, &[lines[0], b"\n", half].concat(), answers[0]);
+    expect_reset("a line and a line without newline", &los, &[lines[0], b"\n", lines[0]].concat(), answers[0]);
+    expect_reset("half a line", &los, half, b"");
+    expect_reset("nothing", &los, b"", b"");
 
-    println!("stream: {} vectors in pieces, 200000 lines, a line of 10000000 bytes, closed output, unreadable input: all as expected", lines.len());
+    print!("stream: {} vectors in pieces, 200000 lines, a line of 10000000 bytes, ", lines.len());
+    println!("closed and full output, unreadable and reset input: all as expected");
 }

@@ -1,42 +1,51 @@
 -- The answer to a case (specs/Answers).
 --   answerTo-accepted   an accepted case gets its grade
---   answerTo-refused    a refused case gets its number
+--   answerTo-number     its number is the case's refusal
+--   answered, answerTo-checked   what is made of a case that was checked
 --   Meets-iff           an answer meets a letter exactly when the case does
 -- Assumes nothing.
-use mathlib.Core.Path.{_≡_, refl, ap}
+use mathlib.Core.Path.{_≡_, refl, sym, _∙_}
 use mathlib.Core.Logic.{_↔_}
-use Prim.Native.Nat.{ℕ, _≤_, _<_}
-use native.Mathlib.Omega.{arith}
-use native.Mathlib.Decide.{decLe}
+use Prim.Native.Nat.{ℕ}
 use lib.Dec.{T, leb→le, le→leb}
-use Rattle.numbers.proofs.ChoiceLaws.{T-false, cond-zero, cond-pos}
-use Rattle.method.specs.declared.case.Case.{Case}
+use Rattle.checks.proofs.RefusalLaws.{unlessRefused-none, unlessRefused-number, unlessRefused-map}
+use Rattle.curve.specs.Service.{letterNumber}
+use Rattle.road.specs.declared.Case.{Case}
+use Rattle.method.specs.declared.checked.Checked.{Checked}
+use Rattle.method.specs.declared.checked.Checked.the-variants as Checked
 use Rattle.method.specs.Refusals.{refusal, Accepted}
-use Rattle.method.specs.Service.{letterNumber}
+use Rattle.method.specs.Checked.{caseCurve, checked}
 use Rattle.method.specs.Assess.{measures}
-use Rattle.method.proofs.AssessLaws.{assessment-accepted}
+use Rattle.answer.specs.declared.evaluate.Answer.{Answer}
 use Rattle.answer.specs.declared.evaluate.Answer.the-variants as Answer
 use Rattle.answer.specs.Volumes.{meets}
 use Rattle.answer.specs.Promises.{Meets}
 use Rattle.answer.specs.Answers.{graded, answerTo, refusalNumber}
-use Rattle.answer.proofs.VolumeLaws.{meets-refused}
+use Rattle.answer.proofs.VolumeLaws.{meets-only-accepted}
 
-pub answerTo-accepted : (case : Case) → Accepted case → answerTo case ≡ Answer.Graded (graded case)
-answerTo-accepted case a = cond-zero (refusal case) (Answer.Graded (graded case)) (Answer.Refused (refusal case)) a
+module _ (case : Case) where
+  pub answerTo-accepted : Accepted case → answerTo case ≡ Answer.Graded (graded case)
+  answerTo-accepted a = unlessRefused-none (refusal case) (Answer.Graded (graded case)) Answer.Refused a
 
-pub answerTo-refused : (case : Case) → 0 < refusal case → answerTo case ≡ Answer.Refused (refusal case)
-answerTo-refused case p = cond-pos (refusal case) (Answer.Graded (graded case)) (Answer.Refused (refusal case)) p
+  pub answerTo-number : refusalNumber (answerTo case) ≡ refusal case
+  answerTo-number = unlessRefused-number (refusal case) (Answer.Graded (graded case)) Answer.Refused refusalNumber refl (λ k. refl)
 
-pub Meets-iff : (case : Case) (n : ℕ) → Meets case n ↔ T (meets case n)
-unfolding meets graded
-Meets-iff case n = go (decLe (refusal case) 0)
-  where
-    go : Dec (refusal case ≤ 0) → Meets case n ↔ T (meets case n)
-    go (yes h) =
-        let a : Accepted case = omega arith in
-        rw (answerTo-accepted case a, assessment-accepted case a)
-        (λ m. le→leb (letterNumber (measures case .performance .letter)) n (m .1), λ t. (refl, leb→le (letterNumber (measures case .performance .letter)) n t))
-    go (no h) =
-        let p : 0 < refusal case = omega arith in
-        let number : refusalNumber (answerTo case) ≡ refusal case = ap refusalNumber (answerTo-refused case p) in
-        (λ m. absurd (omega (arith, m .0)), λ t. absurd (T-false (meets case n) (meets-refused case n p) t))
+  abbrev pub answered : Checked → Answer
+  answered (Checked.Accepted curve) = Answer.Graded (graded case)
+  answered (Checked.Refused n) = Answer.Refused n
+
+  pub answerTo-checked : answered (checked case) ≡ answerTo case
+  answerTo-checked = unlessRefused-map (refusal case) (Checked.Accepted (caseCurve case)) Checked.Refused answered
+
+  pub Meets-iff : (n : ℕ) → Meets case n ↔ T (meets case n)
+  unfolding meets graded
+  Meets-iff n = (λ m. to (sym answerTo-number ∙ m .0) m, λ t. from (meets-only-accepted case n t) t)
+    where
+      letter : ℕ
+      letter = letterNumber (measures case .performance .letter)
+
+      to : Accepted case → Meets case n → T (meets case n)
+      to a m = rw a (le→leb letter n (rw (answerTo-accepted a) at (m .1)))
+
+      from : Accepted case → T (meets case n) → Meets case n
+      from a t = (answerTo-number ∙ a, rw (answerTo-accepted a) (leb→le letter n (rw a at t)))

@@ -1,98 +1,96 @@
 -- The laws of specs/Laws, proved.
 --   serviceVolume-le   no service volume is above 19,200
+--   lanesAnswer-number   the number of the answer to the lanes question is the first of its list
+--   figures-within-ends, refusals-within-ends, counts-are-digits
 -- Assumes nothing.
-use mathlib.Core.Path.{sym, ap, _∙_}
-use mathlib.Core.Logic.{⊎-elim}
-use Prim.Native.Nat.{ℕ, suc, _*_, _≤_, _<_}
+use mathlib.Core.Path.{_≡_, refl, ap}
+use mathlib.Core.List.{[], _∷_}
+use Prim.Native.Nat.{ℕ, suc, _*_, _≤_}
 use native.Mathlib.Omega.{arith}
 use native.Mathlib.Nat.{le-trans, mul-le-mul, mul-le-mul-left}
 use lib.Dec.{T, leb, leb→le}
 use lib.ListN.{length, getD}
-use Rattle.numbers.specs.Division.{divUp}
 use Rattle.numbers.specs.Search.{greatest}
 use Rattle.numbers.proofs.DivisionLaws.{divUp-le-iff, le-divUp}
 use Rattle.numbers.proofs.SearchLaws.{greatest-passes, least-le}
-use Rattle.numbers.proofs.TableLaws.{and-left}
-use Rattle.numbers.proofs.ChoiceLaws.{cond-cases}
-use Rattle.method.specs.declared.kind.Kind.{Kind}
-use Rattle.method.specs.declared.kind.Kind.the-variants as Kind
-use Rattle.method.specs.declared.case.Case.{Case}
-use Rattle.method.specs.declared.curve.Curve.{Curve}
-use Rattle.method.specs.Kinds.{highestSpeed, fewestLanes, mostLanes}
-use Rattle.method.specs.FreeFlowSpeed.{freeFlowSpeed}
-use Rattle.method.specs.Refusals.{firstRefusal, greatestDemand, roadRefusals, loadRefusals, fieldRefusals, refusal, Accepted}
-use Rattle.method.specs.Curves.{curveAt, curveOf}
-use Rattle.method.specs.Flow.{heavyFactor, flowRate}
-use Rattle.method.specs.Service.{density, meetsLimit, densityLimit, performance}
+use Rattle.numbers.proofs.BoolLaws.{and-left}
+use Rattle.checks.specs.Refusals.{firstRefusal}
+use Rattle.checks.proofs.RefusalLaws.{firstRefusal-le, unlessRefused-by, unlessRefused-number}
+use Rattle.curve.specs.declared.Curve.{Curve}
+use Rattle.curve.specs.Kinds.{mostLanes}
+use Rattle.curve.specs.Curves.{curveAt}
+use Rattle.curve.specs.Service.{density, meetsLimit, densityLimit, performance}
+use Rattle.curve.proofs.KindLaws.{kind-ends}
+use Rattle.curve.proofs.CurveLaws.{capacity-le}
+use Rattle.curve.proofs.ServiceLaws.{letterNumber-le, shownSpeed-le, shownDensity-le}
+use Rattle.road.specs.declared.Case.{Case}
+use Rattle.road.specs.FreeFlowSpeed.{freeFlowSpeed}
+use Rattle.road.specs.Refusals.{greatestDemand, roadRefusals, loadRefusals, fieldRefusals}
+use Rattle.road.proofs.RefusalLaws.{load-ends}
+use Rattle.road.proofs.FreeFlowSpeedLaws.{freeFlowSpeed-le}
+use Rattle.method.specs.declared.flow.Load.{Load}
+use Rattle.method.specs.Refusals.{Accepted}
+use Rattle.method.specs.Checked.{curveOf, caseCurve}
+use Rattle.method.specs.Flow.{loadOf, flowRate, caseFlowRate, LoadFits}
 use Rattle.method.specs.Assess.{measures}
-use Rattle.method.proofs.RefusalLaws.{LoadFits, loadFits, fields-parts, accepted-parts, firstRefusal-le, refusal-le}
-use Rattle.method.proofs.FreeFlowSpeedLaws.{freeFlowSpeed-le}
-use Rattle.method.proofs.CurveLaws.{capacity-le, curveOf-wellFormed}
-use Rattle.method.proofs.FlowLaws.{FlowParts, flowRate-parts}
-use Rattle.method.proofs.ServiceLaws.{letterNumber-le, shownSpeed-le, shownDensity-le}
-use Rattle.answer.specs.declared.evaluate.Load.{Load}
-use Rattle.answer.specs.declared.evaluate.Answer.the-variants as Answer
+use Rattle.method.proofs.RefusalLaws.{accepted-fields, refusal-le}
+use Rattle.method.proofs.CheckedLaws.{caseCurve-wellFormed}
+use Rattle.method.proofs.FlowLaws.{caseLoad-fits}
+use Rattle.answer.specs.declared.lanes.LanesAnswer.{LanesAnswer}
 use Rattle.answer.specs.declared.lanes.LanesAnswer.the-variants as LanesAnswer
-use Rattle.answer.specs.Cases.{withLanes}
-use Rattle.answer.specs.Volumes.{meets, serviceVolume}
-use Rattle.answer.specs.Answers as answers
+use Rattle.answer.specs.Volumes.{serviceVolume}
 use Rattle.answer.specs.Answers.{graded}
-use Rattle.answer.specs.Lanes as lanes
-use Rattle.answer.specs.Lanes.{lanesFound, lanesRefusals}
-use Rattle.answer.specs.Search.{loadOf, keepsTo}
+use Rattle.answer.specs.Lanes.{lanesMeet, lanesFound, lanesRefusals, lanesAnswer, refusalNumber, values}
+use Rattle.answer.specs.Search.{demandMeets}
 use Rattle.answer.specs.Laws.{FiguresWithinEnds, RefusalsWithinEnds, CountsAreDigits}
-use Rattle.answer.proofs.VolumeLaws.{keepsTo-zero, serviceVolume-eq}
-use Rattle.answer.proofs.AnswerLaws.{answerTo-accepted}
-use Rattle.answer.proofs.LanesLaws.{laneEnds}
+use Rattle.answer.proofs.VolumeLaws.{demandMeets-zero, serviceVolume-eq}
+use Rattle.answer.proofs.AnswerLaws.{answerTo-accepted, answerTo-number}
 
+-- ---- figures
 -- what keeps to a capacity of at most 240,000 is at most 19,200 vehicles, each at least a passenger car, on at most 8 lanes
-keepsTo-le : (curve : Curve) (load : Load) (limit demand : ℕ) → curve .capacity ≤ 240000 → 0 < load .divisor → load .divisor ≤ 8000 → 1000 ≤ load .«heavy_factor»
-    → T (keepsTo curve load limit demand) → demand ≤ 19200
-unfolding keepsTo meetsLimit
-keepsTo-le curve load limit demand c p d h t =
-    let v : ℕ = divUp (demand * load .«heavy_factor») (load .divisor) in
-    let fits : 100 * divUp (demand * load .«heavy_factor») (load .divisor) ≤ curve .capacity =
+demandMeets-le : (curve : Curve) (load : Load) (limit demand : ℕ) → curve .capacity ≤ 240000 → LoadFits load
+    → T (demandMeets curve load limit demand) → demand ≤ 19200
+unfolding demandMeets meetsLimit flowRate
+demandMeets-le curve load limit demand c fits t =
+    let v : ℕ = flowRate load demand in
+    let within : 100 * flowRate load demand ≤ curve .capacity =
     leb→le (100 * v) (curve .capacity) (and-left (leb (100 * v) (curve .capacity)) (leb (density curve v) limit) t) in
-    let cars : demand * load .«heavy_factor» ≤ divUp (demand * load .«heavy_factor») (load .divisor) * load .divisor = le-divUp (demand * load .«heavy_factor») (load .divisor) p in
-    let most : divUp (demand * load .«heavy_factor») (load .divisor) * load .divisor ≤ 2400 * 8000 = mul-le-mul {n₂ = 2400} {m₂ = 8000} (omega arith) d in
-    let least : demand * 1000 ≤ demand * load .«heavy_factor» = mul-le-mul-left demand h in
+    let cars : demand * load .«heavy_factor» ≤ flowRate load demand * load .divisor =
+    le-divUp (demand * load .«heavy_factor») (load .divisor) (fits .divisor-pos) in
+    let most : flowRate load demand * load .divisor ≤ 2400 * 8000 = mul-le-mul {n₂ = 2400} {m₂ = 8000} (omega arith) (fits .divisor-le) in
+    let least : demand * 1000 ≤ demand * load .«heavy_factor» = mul-le-mul-left demand (fits .heavy-ge) in
     omega arith
 
 pub serviceVolume-le : (case : Case) (n : ℕ) → Accepted case → 1 ≤ n → n ≤ 5 → serviceVolume case n ≤ 19200
-unfolding heavyFactor curveOf curveAt
+unfolding curveOf curveAt
 serviceVolume-le case n a h k =
-    let curve : Curve = curveOf (case .road) (case .lanes) in
-    let parts : FlowParts case = flowRate-parts case (accepted-parts case a .0) in
+    let fits : LoadFits (loadOf case (case .lanes)) = caseLoad-fits case (accepted-fields case a) in
+    let load : Load = loadOf case (case .lanes) in
     rw (serviceVolume-eq case n a h k)
-    (keepsTo-le curve (loadOf case) (densityLimit n) (greatest (keepsTo curve (loadOf case) (densityLimit n)) greatestDemand)
-    (capacity-le (case .road .kind) (freeFlowSpeed (case .road) (case .lanes))) (parts .divisor-pos) (parts .divisor-le) (omega arith)
-    (greatest-passes (keepsTo curve (loadOf case) (densityLimit n)) greatestDemand (keepsTo-zero curve (loadOf case) (densityLimit n) (curveOf-wellFormed case a) (parts .divisor-pos))))
-
-lanes-ge : (kind : Kind) (n : ℕ) → fewestLanes kind ≤ n → 2 ≤ n
-lanes-ge Kind.Freeway n h = h
-lanes-ge Kind.Multilane n h = h
+    (demandMeets-le (caseCurve case) load (densityLimit n) (greatest (demandMeets (caseCurve case) load (densityLimit n)) greatestDemand)
+    (capacity-le (case .road .kind) (freeFlowSpeed (case .road) (case .lanes))) fits
+    (greatest-passes (demandMeets (caseCurve case) load (densityLimit n)) greatestDemand
+    (demandMeets-zero (caseCurve case) load (densityLimit n) (caseCurve-wellFormed case a) (fits .divisor-pos))))
 
 -- H is at least 250, and there are at least 2 lanes
-flowRate-le : (case : Case) → Accepted case → flowRate case ≤ 6 * greatestDemand
+flowRate-le : (case : Case) → Accepted case → caseFlowRate case ≤ 6 * greatestDemand
 unfolding flowRate
 flowRate-le case a =
-    let parts : FlowParts case = flowRate-parts case (accepted-parts case a .0) in
-    let fits : LoadFits case = loadFits case (fields-parts case (accepted-parts case a .0) .1) in
-    let least : 250 * 2 ≤ case .«peak_hour_factor» * case .lanes = mul-le-mul {n₁ = 250} {m₁ = 2} (fits .factor-low) (lanes-ge (case .road .kind) (case .lanes) (fits .lanes-low)) in
-    divUp-le-iff (case .demand * heavyFactor case) (case .«peak_hour_factor» * case .lanes) (6 * greatestDemand) (parts .divisor-pos) .1
-    (le-trans (parts .cars-le) (omega (arith, mul-le-mul-left (6 * greatestDemand) least)))
-
-highest-le : (kind : Kind) → highestSpeed kind ≤ 75000
-highest-le Kind.Freeway = omega arith
-highest-le Kind.Multilane = omega arith
+    let fits : LoadFits (loadOf case (case .lanes)) = caseLoad-fits case (accepted-fields case a) in
+    let ends = load-ends case (accepted-fields case a) in
+    let least : 250 * 2 ≤ case .«peak_hour_factor» * case .lanes =
+    mul-le-mul {n₁ = 250} {m₁ = 2} (ends .factor-low) (omega (arith, ends .lanes-low, kind-ends (case .road .kind) .lanes-ge)) in
+    let cars = mul-le-mul {n₂ = greatestDemand} {m₂ = 3000} (ends .demand-high) (fits .heavy-le) in
+    divUp-le-iff _ _ (6 * greatestDemand) (fits .divisor-pos) .1 (le-trans cars (omega (arith, mul-le-mul-left (6 * greatestDemand) least)))
 
 speed-le : (case : Case) → freeFlowSpeed (case .road) (case .lanes) ≤ 75000
-speed-le case = le-trans (freeFlowSpeed-le (case .road) (case .lanes)) (highest-le (case .road .kind))
+speed-le case = le-trans (freeFlowSpeed-le (case .road) (case .lanes)) (kind-ends (case .road .kind) .speed-le)
 
 pub figures-within-ends : FiguresWithinEnds
 unfolding graded measures performance curveOf curveAt
 figures-within-ends case a =
-    let curve : Curve = curveOf (case .road) (case .lanes) in
+    let v : ℕ = caseFlowRate case in
+    let ok = caseCurve-wellFormed case a in
     let volume : (n : ℕ) → 1 ≤ n → n ≤ 5 → serviceVolume case n ≤ 19200 = λ n h k. serviceVolume-le case n a h k in
     rw (answerTo-accepted case a) (
       letterNumber-le (graded case .letter),
@@ -103,9 +101,9 @@ figures-within-ends case a =
           (
             flowRate-le case a,
             (
-              le-trans (shownSpeed-le curve (flowRate case) (curveOf-wellFormed case a)) (speed-le case),
+              le-trans (shownSpeed-le (caseCurve case) v ok) (speed-le case),
               (
-                shownDensity-le curve (flowRate case) (curveOf-wellFormed case a),
+                shownDensity-le (caseCurve case) v ok,
                 (
                   volume 1 (omega arith) (omega arith),
                   (
@@ -123,20 +121,29 @@ figures-within-ends case a =
       ),
     )
 
+-- ---- refusals and counts
+pub lanesAnswer-number : (case : Case) (n : ℕ) → refusalNumber (lanesAnswer case n) ≡ firstRefusal (lanesRefusals case n)
+lanesAnswer-number case n =
+    unlessRefused-number (firstRefusal (lanesRefusals case n))
+    (LanesAnswer.Lanes (lanesFound case n)) LanesAnswer.Refused refusalNumber refl (λ k. refl)
+
 pub refusals-within-ends : RefusalsWithinEnds
 unfolding roadRefusals loadRefusals fieldRefusals lanesRefusals
 refusals-within-ends case n = (
-  ⊎-elim (λ z. omega (arith, ap answers.refusalNumber (z .1))) (λ p. omega (arith, ap answers.refusalNumber (p .1), refusal-le case))
-      (cond-cases (refusal case) (Answer.Graded (graded case)) (Answer.Refused (refusal case))),
-  ⊎-elim (λ z. omega (arith, ap lanes.refusalNumber (z .1)))
-      (λ p. omega (arith, ap lanes.refusalNumber (p .1), firstRefusal-le 16 (lanesRefusals case n) tt))
-      (cond-cases (firstRefusal (lanesRefusals case n)) (LanesAnswer.Lanes (lanesFound case n)) (LanesAnswer.Refused (firstRefusal (lanesRefusals case n)))),
+  omega (arith, answerTo-number case, refusal-le case),
+  omega (arith, lanesAnswer-number case n, firstRefusal-le 16 (lanesRefusals case n) tt),
 )
 
 pub counts-are-digits : CountsAreDigits
 unfolding lanesFound
 counts-are-digits case n count e =
-    ⊎-elim
-    (λ z. omega (arith, ap (λ l. getD l 0 0) (sym (ap lanes.values (z .1)) ∙ e), least-le (λ k. meets (withLanes case k) n) (suc (mostLanes (case .road .kind))), laneEnds (case .road .kind)))
-    (λ p. absurd (omega (arith, ap length (sym (ap lanes.values (p .1)) ∙ e))))
-    (cond-cases (firstRefusal (lanesRefusals case n)) (LanesAnswer.Lanes (lanesFound case n)) (LanesAnswer.Refused (firstRefusal (lanesRefusals case n))))
+    unlessRefused-by (firstRefusal (lanesRefusals case n)) (LanesAnswer.Lanes (lanesFound case n)) LanesAnswer.Refused
+    (λ a. values a ≡ count ∷ [] → count ≤ 9)
+    (λ z l. omega (
+      arith,
+      ap (λ vs. getD vs 0 0) l,
+      least-le (lanesMeet case n) (suc (mostLanes (case .road .kind))),
+      kind-ends (case .road .kind) .lanes-le,
+    ))
+    (λ p l. absurd (omega (arith, ap length l)))
+    e

@@ -1,5 +1,4 @@
 -- The laws of the definitions in specs/, a file for each, and demand 3 proved.
-pub mod CaseLaws
 pub mod VolumeLaws
 pub mod AnswerLaws
 pub mod LanesLaws

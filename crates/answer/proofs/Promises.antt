@@ -3,6 +3,7 @@
 --   meets-up-to-the-service-volume   part 2
 --   least-accepted-count             part 3
 --   demand-three                     the three together
+--   volumeIn-accepted                the volume in an accepted case's answer is its service volume
 -- Assumes nothing.
 use mathlib.Core.Path.{_≡_, refl, sym, ap, _∙_}
 use mathlib.Core.Logic.{_↔_}
@@ -12,34 +13,37 @@ use native.Mathlib.Omega.{arith}
 use native.Mathlib.Decide.{decLe}
 use lib.Dec.{T}
 use lib.ListN.{length, getD}
-use Rattle.method.specs.declared.case.Terrain.{Terrain}
-use Rattle.method.specs.declared.case.Terrain.the-variants as Terrain
-use Rattle.method.specs.declared.case.Case.{Case}
-use Rattle.method.specs.Kinds.{mostLanes}
-use Rattle.method.specs.FreeFlowSpeed.{freeFlowSpeed}
-use Rattle.method.specs.Refusals.{firstRefusal, fieldRefusals, Accepted}
-use Rattle.method.specs.Curves.{curveOf}
-use Rattle.method.specs.Flow.{truckEquivalent, flowRate}
-use Rattle.method.specs.Service.{letterAt, letterNumber, performance}
+use Rattle.curve.specs.Kinds.{mostLanes}
+use Rattle.curve.specs.Service.{letterAt, letterNumber, performance}
+use Rattle.curve.proofs.ServiceLaws.{letterAt-mono}
+use Rattle.road.specs.declared.Terrain.{Terrain}
+use Rattle.road.specs.declared.Terrain.the-variants as Terrain
+use Rattle.road.specs.declared.Case.{Case}
+use Rattle.road.specs.Cases.{withDemand, withLanes}
+use Rattle.road.specs.FreeFlowSpeed.{freeFlowSpeed}
+use Rattle.road.specs.Refusals.{FieldsFit}
+use Rattle.road.proofs.FreeFlowSpeedLaws.{freeFlowSpeed-mono, freeFlowSpeed-le}
+use Rattle.method.specs.Refusals.{Accepted}
+use Rattle.method.specs.Checked.{curveOf, caseCurve}
+use Rattle.method.specs.Flow.{truckEquivalent, caseFlowRate}
 use Rattle.method.specs.Assess.{measures}
-use Rattle.method.proofs.RefusalLaws.{accepted-parts, speed-accepted}
-use Rattle.method.proofs.FreeFlowSpeedLaws.{freeFlowSpeed-mono, freeFlowSpeed-le}
-use Rattle.method.proofs.FlowLaws.{flowRate-mono, flowRate-parts}
-use Rattle.method.proofs.ServiceLaws.{letterAt-mono}
+use Rattle.method.proofs.RefusalLaws.{accepted-fields, accepted-speed}
+use Rattle.method.proofs.FlowLaws.{caseFlowRate-mono}
 use Rattle.answer.specs.declared.evaluate.Answer.the-variants as Answer
 use Rattle.answer.specs.declared.lanes.LanesAnswer.the-variants as LanesAnswer
-use Rattle.answer.specs.Cases.{withDemand, withLanes}
 use Rattle.answer.specs.Volumes.{meets, serviceVolume}
 use Rattle.answer.specs.Answers.{graded, answerTo}
 use Rattle.answer.specs.Lanes.{lanesFound, lanesAnswer, refusalNumber, values}
-use Rattle.answer.specs.Promises.{letterIn, volumeIn, Meets, AcceptedCount, hardness, NoBetterUnderMoreLoad, MeetsUpToTheServiceVolume, LeastAcceptedCount, DemandThree}
+use Rattle.answer.specs.Promises.{letterIn, volumeIn, Meets, AcceptedCount, hardness, NoBetterUnderMoreLoad}
+use Rattle.answer.specs.Promises.{MeetsUpToTheServiceVolume, LeastAcceptedCount, DemandThree}
 use Rattle.answer.proofs.VolumeLaws.{meets-only-accepted, serviceVolume-iff}
 use Rattle.answer.proofs.AnswerLaws.{answerTo-accepted, Meets-iff}
-use Rattle.answer.proofs.LanesLaws.{meets-of-kind, lanesFound-eq, lanesFound-meets, lanesFound-le, lanesFound-none, lanesAnswer-none, lanesAnswer-found}
+use Rattle.answer.proofs.LanesLaws.{meets-of-kind, lanesFound-eq, lanesFound-meets, lanesFound-le, lanesFound-none, lanesAnswer-none}
+use Rattle.answer.proofs.LanesLaws.{lanesAnswer-found}
 
 -- ---- part 1
 -- the letter in the answer to an accepted case
-letterIn-accepted : (case : Case) → Accepted case → letterIn (answerTo case) ≡ letterNumber (letterAt (curveOf (case .road) (case .lanes)) (flowRate case))
+letterIn-accepted : (case : Case) → Accepted case → letterIn (answerTo case) ≡ letterNumber (letterAt (caseCurve case) (caseFlowRate case))
 unfolding graded measures performance
 letterIn-accepted case a = ap letterIn (answerTo-accepted case a)
 
@@ -52,14 +56,14 @@ harder-equivalent Terrain.Rolling Terrain.Rolling h = omega arith
 pub no-better-under-more-load : NoBetterUnderMoreLoad
 unfolding curveOf
 no-better-under-more-load c d ac ad same hd hs ht hf hn =
-    let flow : flowRate c ≤ flowRate d =
-    flowRate-mono c d (flowRate-parts d (accepted-parts d ad .0) .divisor-pos) hd hs (harder-equivalent (c .terrain) (d .terrain) ht) hf hn in
-    let mine : letterIn (answerTo c) ≡ letterNumber (letterAt (curveOf (d .road) (c .lanes)) (flowRate c)) =
-    letterIn-accepted c ac ∙ ap (λ road. letterNumber (letterAt (curveOf road (c .lanes)) (flowRate c))) same in
+    let flow : caseFlowRate c ≤ caseFlowRate d =
+    caseFlowRate-mono c d (accepted-fields d ad) hd hs (harder-equivalent (c .terrain) (d .terrain) ht) hf hn in
+    let mine : letterIn (answerTo c) ≡ letterNumber (letterAt (curveOf (d .road) (c .lanes)) (caseFlowRate c)) =
+    letterIn-accepted c ac ∙ ap (λ road. letterNumber (letterAt (curveOf road (c .lanes)) (caseFlowRate c))) same in
     rw (mine, letterIn-accepted d ad)
-    (letterAt-mono (d .road .kind) (freeFlowSpeed (d .road) (d .lanes)) (freeFlowSpeed (d .road) (c .lanes)) (flowRate c) (flowRate d)
-    (speed-accepted (d .road) (d .lanes) (accepted-parts d ad .1)) (freeFlowSpeed-mono (d .road) (d .lanes) (c .lanes) hn) (freeFlowSpeed-le (d .road) (c .lanes))
-    flow)
+    (letterAt-mono (d .road .kind) (freeFlowSpeed (d .road) (d .lanes)) (freeFlowSpeed (d .road) (c .lanes)) (caseFlowRate c)
+    (caseFlowRate d)
+    (accepted-speed d ad) (freeFlowSpeed-mono (d .road) (d .lanes) (c .lanes) hn) (freeFlowSpeed-le (d .road) (c .lanes)) flow)
 
 -- ---- part 2
 -- the service volumes in the answer to an accepted case, by the letter's number
@@ -79,7 +83,7 @@ volumeIn-accepted case n a h k = ap (λ answer. volumeIn answer n) (answerTo-acc
 pub meets-up-to-the-service-volume : MeetsUpToTheServiceVolume
 meets-up-to-the-service-volume c a n h k demand d =
     let met = Meets-iff (withDemand c demand) n in
-    let volume = serviceVolume-iff c n demand a h k d in
+    let volume = serviceVolume-iff c n a h k demand d in
     let same : volumeIn (answerTo c) n ≡ serviceVolume c n = volumeIn-accepted c n a h k in
     (λ m. rw same (volume .0 (met .0 m)), λ l. met .1 (volume .1 (rw same at l)))
 
@@ -90,7 +94,7 @@ counted case n lanes t =
     let kind = meets-of-kind (withLanes case lanes) n t in
     (kind .0, kind .1, meets-only-accepted (withLanes case lanes) n t)
 
-module _ (case : Case) (n : ℕ) (h : 1 ≤ n) (k : n ≤ 5) (z : firstRefusal (fieldRefusals case) ≡ 0) where
+module _ (case : Case) (n : ℕ) (h : 1 ≤ n) (k : n ≤ 5) (z : FieldsFit case) where
   abbrev Least : ℕ → Type 0
   Least lanes =
       AcceptedCount case lanes

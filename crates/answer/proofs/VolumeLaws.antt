@@ -1,119 +1,107 @@
 -- Meeting a letter and service volumes (specs/Volumes), and what the search tries (specs/Search).
---   keepsTo-zero, keepsTo-down   no demand keeps to every density; less demand keeps to what more keeps to
+--   demandMeets-zero, demandMeets-down   no demand keeps to every density; less demand keeps to what more keeps to
 --   meets-accepted       an accepted case meets a letter exactly when its flow rate keeps to the letter's density
 --   meets-refused, meets-only-accepted   a refused case meets no letter
---   meets-keepsTo        what the search tries at a demand is meeting the letter with that demand
+--   meets-demand         what the search tries at a demand is meeting the letter with that demand
 --   serviceVolume-eq     the service volume of an accepted case is the greatest demand that the search's test passes
 --   serviceVolume-iff    a demand meets a letter exactly when it is at most the service volume
---   volume-ready         what the search asks of an accepted case's terms, table and load
---   volume-eq            the service volume from a curve's terms and a load
+--   volume-ready, serviceVolume-terms   the search for a service volume, from the terms of the case's curve
 -- Assumes nothing.
-use mathlib.Core.Path.{_≡_, sym, ap, _∙_}
-use mathlib.Core.Bool.{false}
+use mathlib.Core.Path.{_≡_, refl, sym}
+use mathlib.Core.Bool.{Bool, false}
 use mathlib.Core.Logic.{_↔_}
 use mathlib.Core.List.{List}
 use Prim.Native.Nat.{ℕ, _*_, _≤_, _<_}
 use native.Mathlib.Omega.{arith}
-use native.Mathlib.Nat.{mul-le-mul-right, zero-mul, le-refl}
-use native.Mathlib.Decide.{decLe}
-use lib.Dec.{T, leb}
-use Rattle.numbers.specs.Division.{divUp}
+use native.Mathlib.Nat.{le-refl}
+use lib.Dec.{T, leb, eqb, eqb→eq}
+use borrow.Author.Tests.{ne-eqb}
 use Rattle.numbers.specs.Search.{greatest, DownwardClosed}
-use Rattle.numbers.proofs.DivisionLaws.{divUp-mono, divUp-zero}
 use Rattle.numbers.proofs.SearchLaws.{greatest-iff, greatest-cong}
-use Rattle.numbers.proofs.ChoiceLaws.{T-false, cond-pos, leb-test}
-use Rattle.method.specs.declared.case.Case.{Case}
-use Rattle.method.specs.declared.curve.Curve.{Curve}
-use Rattle.method.specs.declared.speed.CurveTerms.{CurveTerms}
-use Rattle.method.specs.declared.assess.Assessment.the-variants as Assessment
-use Rattle.method.specs.Refusals.{greatestDemand, refusal, Accepted}
-use Rattle.method.specs.Curves.{WellFormed, curveOf}
-use Rattle.method.specs.Flow.{heavyFactor, flowRate}
-use Rattle.method.specs.Terms.{curveTerms, Prepared, TableFor}
-use Rattle.method.specs.Service.{letterAt, letterNumber, performance, meetsLimit, densityLimit}
-use Rattle.method.specs.Assess.{measures}
-use Rattle.method.proofs.RefusalLaws.{accepted-parts}
-use Rattle.method.proofs.CurveLaws.{curveOf-wellFormed, curveOf-sized}
-use Rattle.method.proofs.FlowLaws.{heavyFactor-le, flowRate-parts}
-use Rattle.method.proofs.TermsLaws.{curveTerms-prepared}
-use Rattle.method.proofs.ServiceLaws.{letterAt-le-iff, meetsLimit-zero, meetsLimit-down}
-use Rattle.method.proofs.AssessLaws.{assessment-accepted}
-use Rattle.answer.specs.declared.evaluate.Load.{Load}
-use Rattle.answer.specs.Cases.{withDemand}
-use Rattle.answer.specs.Volumes.{meetsBy, meets, serviceVolume}
-use Rattle.answer.specs.Search.{loadOf, keepsTo}
-use Rattle.answer.proofs.CaseLaws.{accepted-withDemand}
+use Rattle.numbers.proofs.BoolLaws.{and-left, leb-test}
+use Rattle.curve.specs.declared.Curve.{Curve}
+use Rattle.curve.specs.declared.speed.CurveTerms.{CurveTerms}
+use Rattle.curve.specs.Curves.{WellFormed}
+use Rattle.curve.specs.Terms.{curveTerms, Ready}
+use Rattle.curve.specs.Service.{letterAt, letterNumber, performance, meetsLimit, densityLimit}
+use Rattle.curve.proofs.ServiceLaws.{letterAt-le-iff, meetsLimit-zero, meetsLimit-down}
+use Rattle.road.specs.declared.Case.{Case}
+use Rattle.road.specs.Cases.{withDemand}
+use Rattle.road.specs.Refusals.{greatestDemand}
+use Rattle.method.specs.declared.flow.Load.{Load}
+use Rattle.method.specs.Refusals.{refusal, Accepted}
+use Rattle.method.specs.Checked.{caseCurve}
+use Rattle.method.specs.Flow.{heavyFactor, loadOf, flowRate, caseFlowRate, LoadFits}
+use Rattle.method.specs.Assess.{measures, CaseReady}
+use Rattle.method.proofs.RefusalLaws.{accepted-fields, accepted-withDemand}
+use Rattle.method.proofs.CheckedLaws.{caseCurve-wellFormed}
+use Rattle.method.proofs.FlowLaws.{caseLoad-fits, flowRate-mono, flowRate-zero}
+use Rattle.method.proofs.AssessLaws.{case-ready, case-load}
+use Rattle.answer.specs.Volumes.{meets, serviceVolume}
+use Rattle.answer.specs.Search.{demandMeets}
 
-pub keepsTo-zero : (curve : Curve) (load : Load) (limit : ℕ) → WellFormed curve → 0 < load .divisor → T (keepsTo curve load limit 0)
-unfolding keepsTo
-keepsTo-zero curve load limit ok p =
-    rw (zero-mul (load .«heavy_factor»), divUp-zero (load .divisor) p) (meetsLimit-zero curve limit ok)
+-- ---- what the search tries
+pub demandMeets-zero : (curve : Curve) (load : Load) (limit : ℕ) → WellFormed curve → 0 < load .divisor → T (demandMeets curve load limit 0)
+unfolding demandMeets
+demandMeets-zero curve load limit ok p = rw (flowRate-zero load 0 p refl) (meetsLimit-zero curve limit ok)
 
-pub keepsTo-down : (curve : Curve) (load : Load) (limit : ℕ) → WellFormed curve → 0 < load .divisor → DownwardClosed (keepsTo curve load limit)
-unfolding keepsTo
-keepsTo-down curve load limit ok p m n h t =
-    meetsLimit-down curve (divUp (m * load .«heavy_factor») (load .divisor)) (divUp (n * load .«heavy_factor») (load .divisor)) limit ok
-    (divUp-mono (m * load .«heavy_factor») (load .divisor) (n * load .«heavy_factor») (load .divisor) p (mul-le-mul-right (load .«heavy_factor») h) (le-refl (load .divisor)))
-    t
+pub demandMeets-down : (curve : Curve) (load : Load) (limit : ℕ) → WellFormed curve → 0 < load .divisor
+    → DownwardClosed (demandMeets curve load limit)
+unfolding demandMeets
+demandMeets-down curve load limit ok p m n h t =
+    meetsLimit-down curve (flowRate load m) (flowRate load n) limit ok
+    (flowRate-mono load load m n p h (le-refl (load .«heavy_factor»)) (le-refl (load .divisor))) t
 
--- an accepted case has its letter
-meets-letter : (case : Case) (l : ℕ) → Accepted case → meets case l ≡ leb (letterNumber (letterAt (curveOf (case .road) (case .lanes)) (flowRate case))) l
+-- ---- meeting a letter
+pub meets-accepted : (case : Case) (l : ℕ) → Accepted case → 1 ≤ l → l ≤ 5
+    → meets case l ≡ meetsLimit (caseCurve case) (caseFlowRate case) (densityLimit l)
 unfolding meets measures performance
-meets-letter case l a = ap (λ x. meetsBy x l) (assessment-accepted case a)
-
-pub meets-accepted : (case : Case) (l : ℕ) → Accepted case → 1 ≤ l → l ≤ 5 → meets case l ≡ meetsLimit (curveOf (case .road) (case .lanes)) (flowRate case) (densityLimit l)
 meets-accepted case l a h k =
-    meets-letter case l a
-    ∙ leb-test (letterNumber (letterAt (curveOf (case .road) (case .lanes)) (flowRate case))) l _ (letterAt-le-iff (curveOf (case .road) (case .lanes)) (flowRate case) l h k)
+    rw a (leb-test (letterNumber (letterAt (caseCurve case) (caseFlowRate case))) l _
+    (letterAt-le-iff (caseCurve case) (caseFlowRate case) l h k))
 
 pub meets-refused : (case : Case) (l : ℕ) → 0 < refusal case → meets case l ≡ false
 unfolding meets
-meets-refused case l p = simp (cond-pos (refusal case) (Assessment.Measured (measures case)) (Assessment.Refused (refusal case)) p)
+meets-refused case l p = simp (ne-eqb (refusal case) 0 (λ e. omega arith))
 
 -- what meets a letter is accepted
 pub meets-only-accepted : (case : Case) (l : ℕ) → T (meets case l) → Accepted case
-meets-only-accepted case l t = go (decLe (refusal case) 0)
-  where
-    go : Dec (refusal case ≤ 0) → Accepted case
-    go (yes h) = omega arith
-    go (no h) = absurd (T-false (meets case l) (meets-refused case l (omega arith)) t)
+unfolding meets
+meets-only-accepted case l t = eqb→eq (refusal case) 0
+    (and-left (eqb (refusal case) 0) (leb (letterNumber (measures case .performance .letter)) l) t)
 
--- what the search tries at a demand is meeting the letter with that demand
-pub meets-keepsTo : (case : Case) (l demand : ℕ) → Accepted case → 1 ≤ l → l ≤ 5 → demand ≤ greatestDemand
-    → meets (withDemand case demand) l ≡ keepsTo (curveOf (case .road) (case .lanes)) (loadOf case) (densityLimit l) demand
-unfolding keepsTo heavyFactor flowRate
-meets-keepsTo case l demand a h k d = meets-accepted (withDemand case demand) l (accepted-withDemand case demand a d) h k
+-- ---- the service volume
+module _ (case : Case) (l : ℕ) (a : Accepted case) (h : 1 ≤ l) (k : l ≤ 5) where
+  -- what the search tries
+  abbrev tried : ℕ → Bool
+  tried = demandMeets (caseCurve case) (loadOf case (case .lanes)) (densityLimit l)
 
-pub serviceVolume-eq : (case : Case) (l : ℕ) → Accepted case → 1 ≤ l → l ≤ 5
-    → serviceVolume case l ≡ greatest (keepsTo (curveOf (case .road) (case .lanes)) (loadOf case) (densityLimit l)) greatestDemand
-unfolding serviceVolume
-serviceVolume-eq case l a h k =
-    greatest-cong (λ demand. meets (withDemand case demand) l) (keepsTo (curveOf (case .road) (case .lanes)) (loadOf case) (densityLimit l)) greatestDemand
-    (λ demand d. meets-keepsTo case l demand a h k d)
+  pos : 0 < case .«peak_hour_factor» * case .lanes
+  pos = caseLoad-fits case (accepted-fields case a) .divisor-pos
 
--- a demand meets a letter exactly when it is at most the service volume
-pub serviceVolume-iff : (case : Case) (l demand : ℕ) → Accepted case → 1 ≤ l → l ≤ 5 → demand ≤ greatestDemand
-    → T (meets (withDemand case demand) l) ↔ (demand ≤ serviceVolume case l)
-serviceVolume-iff case l demand a h k d =
-    let ok = curveOf-wellFormed case a in
-    let pos = flowRate-parts case (accepted-parts case a .0) .divisor-pos in
-    rw (meets-keepsTo case l demand a h k d, serviceVolume-eq case l a h k)
-    (greatest-iff (keepsTo (curveOf (case .road) (case .lanes)) (loadOf case) (densityLimit l)) greatestDemand demand
-    (keepsTo-zero (curveOf (case .road) (case .lanes)) (loadOf case) (densityLimit l) ok pos)
-    (keepsTo-down (curveOf (case .road) (case .lanes)) (loadOf case) (densityLimit l) ok pos) d)
+  pub meets-demand : (demand : ℕ) → demand ≤ greatestDemand → meets (withDemand case demand) l ≡ tried demand
+  unfolding demandMeets heavyFactor
+  meets-demand demand d = meets-accepted (withDemand case demand) l (accepted-withDemand case demand a d) h k
 
-pub volume-eq : (case : Case) (terms : CurveTerms) (load : Load) (l : ℕ) → Accepted case → terms ≡ curveTerms (curveOf (case .road) (case .lanes))
-    → load ≡ loadOf case → 1 ≤ l → l ≤ 5 → greatest (keepsTo (terms .curve) load (densityLimit l)) greatestDemand ≡ serviceVolume case l
-unfolding curveTerms
-volume-eq case terms load l a t d h k = rw (t, d) (sym (serviceVolume-eq case l a h k))
+  pub serviceVolume-eq : serviceVolume case l ≡ greatest tried greatestDemand
+  unfolding serviceVolume
+  serviceVolume-eq = greatest-cong (λ demand. meets (withDemand case demand) l) tried greatestDemand meets-demand
 
--- what the search asks of an accepted case's terms and load
-pub volume-ready : (case : Case) (terms : CurveTerms) (load : Load) (table : List ℕ) → Accepted case → terms ≡ curveTerms (curveOf (case .road) (case .lanes))
-    → load ≡ loadOf case → TableFor (curveOf (case .road) (case .lanes) .kind) table
-    → Prepared terms × (TableFor (terms .curve .kind) table × ((0 < load .divisor) × (load .«heavy_factor» ≤ 3000)))
-unfolding curveTerms
-volume-ready case terms load table a t d f =
-    let parts = flowRate-parts case (accepted-parts case a .0) in (
-      rw t (curveTerms-prepared (curveOf (case .road) (case .lanes)) (curveOf-wellFormed case a) (curveOf-sized case a)),
-      (rw t f, rw d (parts .divisor-pos, heavyFactor-le case (parts .share-le))),
-    )
+  -- a demand meets a letter exactly when it is at most the service volume
+  pub serviceVolume-iff : (demand : ℕ) → demand ≤ greatestDemand → T (meets (withDemand case demand) l) ↔ (demand ≤ serviceVolume case l)
+  serviceVolume-iff demand d =
+      let ok = caseCurve-wellFormed case a in
+      rw (meets-demand demand d, serviceVolume-eq)
+      (greatest-iff tried greatestDemand demand
+      (demandMeets-zero (caseCurve case) (loadOf case (case .lanes)) (densityLimit l) ok pos)
+      (demandMeets-down (caseCurve case) (loadOf case (case .lanes)) (densityLimit l) ok pos) d)
+
+-- what the search for a service volume needs
+module _ (case : Case) (load : Load) (terms : CurveTerms) (table : List ℕ) (r : CaseReady case load terms table) where
+  pub volume-ready : Ready terms table × LoadFits load
+  volume-ready = (case-ready case load terms table r, case-load case load terms table r)
+
+  pub serviceVolume-terms : (l : ℕ) → 1 ≤ l → l ≤ 5
+      → greatest (demandMeets (terms .curve) load (densityLimit l)) greatestDemand ≡ serviceVolume case l
+  unfolding curveTerms
+  serviceVolume-terms l h k = rw (r .own-terms, r .own-load) (sym (serviceVolume-eq case l (r .accepted) h k))

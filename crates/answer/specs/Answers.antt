@@ -5,12 +5,11 @@
 --   values a           the eleven figures as a list, the letter by its number; of a refusal no value
 -- Assumes nothing.
 use Prim.Native.Nat.{ℕ}
-use mathlib.Core.Bool.{cond}
 use mathlib.Core.List.{List, [], _∷_}
-use lib.Dec.{eqb}
-use Rattle.method.specs.declared.case.Case.{Case}
+use Rattle.checks.specs.Refusals.{unlessRefused}
+use Rattle.road.specs.declared.Case.{Case}
 use Rattle.method.specs.Refusals.{refusal}
-use Rattle.method.specs.Service.{letterNumber}
+use Rattle.curve.specs.Service.{letterNumber}
 use Rattle.method.specs.Assess.{measures}
 use Rattle.answer.specs.declared.evaluate.Grade.{Grade}
 use Rattle.answer.specs.declared.evaluate.Answer.{Answer}
@@ -33,9 +32,8 @@ graded case =
       «volume_e» = serviceVolume case 5;
     }
 
--- "Every refusal hands back its number and nothing else"
 abbrev pub answerTo : Case → Answer
-answerTo case = let number = refusal case in cond (eqb number 0) (Answer.Graded (graded case)) (Answer.Refused number)
+answerTo case = unlessRefused (refusal case) (Answer.Graded (graded case)) Answer.Refused
 
 abbrev pub refusalNumber : Answer → ℕ
 refusalNumber (Answer.Graded g) = 0

@@ -9,18 +9,17 @@
 use mathlib.Core.Path.{_≡_}
 use mathlib.Core.List.{[], _∷_}
 use Prim.Native.Nat.{ℕ, _≤_}
-use Rattle.method.specs.declared.case.Terrain.the-variants as Terrain
-use Rattle.method.specs.declared.case.Case.{Case}
+use Rattle.road.specs.declared.Terrain.the-variants as Terrain
+use Rattle.road.specs.declared.Case.{Case}
 use Rattle.method.specs.Boundary.{example}
-use Rattle.answer.specs.Cases.{withLanes}
+use Rattle.road.specs.Cases.{loaded, withLanes}
 use Rattle.answer.specs.Answers.{answerTo, refusalNumber}
 use Rattle.answer.specs.Lanes.{lanesAnswer, values}
 use Rattle.answer.specs.Promises.{letterIn, Meets, AcceptedCount}
 use Rattle.answer.specs.Boundary.{exampleWith, estimated}
 
 abbrev pub lighter : Case
-lighter =
-    record { road = example .road; lanes = 3; demand = 2000; «peak_hour_factor» = 1000; «heavy_share» = 0; terrain = Terrain.Level }
+lighter = loaded (example .road) 3 2000 1000 0 Terrain.Level
 
 abbrev pub NoBetterLetterUnderMoreLoad : Type 0
 NoBetterLetterUnderMoreLoad =

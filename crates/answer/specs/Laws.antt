@@ -8,8 +8,9 @@ use mathlib.Core.Path.{_≡_}
 use mathlib.Core.List.{List, [], _∷_}
 use Prim.Native.Nat.{ℕ, _*_, _≤_}
 use Rattle.numbers.specs.Bounds.{AllAtMost}
-use Rattle.method.specs.declared.case.Case.{Case}
-use Rattle.method.specs.Refusals.{greatestDemand, Accepted}
+use Rattle.road.specs.declared.Case.{Case}
+use Rattle.road.specs.Refusals.{greatestDemand}
+use Rattle.method.specs.Refusals.{Accepted}
 use Rattle.answer.specs.Answers as answers
 use Rattle.answer.specs.Answers.{answerTo}
 use Rattle.answer.specs.Lanes as lanes

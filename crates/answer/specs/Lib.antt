@@ -1,14 +1,12 @@
 -- The answer to a case, the lanes question, and demand 3.
---   Cases      a case with another demand or another lane count
 --   Volumes    meeting a letter, and service volumes
 --   Answers    the answer to a case
 --   Lanes      the lanes question
---   Search     what the search tries
+--   Search     what the searches try
 --   Promises   demand 3, stated
 --   Boundary   the boundary sections that this layer adds
 --   Laws       laws of the answers
 --   Instances  an instance of each part of demand 3
-pub mod Cases
 pub mod Volumes
 pub mod Answers
 pub mod Lanes

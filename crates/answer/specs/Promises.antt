@@ -14,13 +14,14 @@ use mathlib.Core.Logic.{_↔_}
 use mathlib.Core.List.{[], _∷_}
 use Prim.Native.Nat.{ℕ, _+_, _≤_, _<_}
 use lib.ListN.{getD}
-use Rattle.method.specs.declared.case.Terrain.{Terrain}
-use Rattle.method.specs.declared.case.Terrain.the-variants as Terrain
-use Rattle.method.specs.declared.case.Case.{Case}
-use Rattle.method.specs.Kinds.{fewestLanes, mostLanes}
-use Rattle.method.specs.Refusals.{firstRefusal, fieldRefusals, greatestDemand, Accepted}
+use Rattle.road.specs.declared.Terrain.{Terrain}
+use Rattle.road.specs.declared.Terrain.the-variants as Terrain
+use Rattle.road.specs.declared.Case.{Case}
+use Rattle.curve.specs.Kinds.{fewestLanes, mostLanes}
+use Rattle.road.specs.Refusals.{greatestDemand, FieldsFit}
+use Rattle.method.specs.Refusals.{Accepted}
 use Rattle.answer.specs.declared.evaluate.Answer.{Answer}
-use Rattle.answer.specs.Cases.{withDemand, withLanes, SameRoad}
+use Rattle.road.specs.Cases.{withDemand, withLanes, SameRoad}
 use Rattle.answer.specs.Answers as answers
 use Rattle.answer.specs.Answers.{answerTo}
 use Rattle.answer.specs.Lanes as lanes
@@ -47,7 +48,8 @@ abbrev pub hardness : Terrain → ℕ
 hardness Terrain.Level = 0
 hardness Terrain.Rolling = 1
 
--- Part 1. Of two accepted cases of the same road, the one with no less demand, no smaller share, no easier terrain, no higher peak-hour factor
+-- Part 1. Of two accepted cases of the same road, the one with no less demand, no smaller share, no easier terrain, no higher peak-hour
+-- factor
 -- and no more lanes never gets the better letter.
 abbrev pub NoBetterUnderMoreLoad : Type 0
 NoBetterUnderMoreLoad =
@@ -65,11 +67,12 @@ MeetsUpToTheServiceVolume =
     (c : Case) → Accepted c → (n : ℕ) → 1 ≤ n → n ≤ 5 → (demand : ℕ) → demand ≤ greatestDemand
     → Meets (withDemand c demand) n ↔ (demand ≤ volumeIn (answerTo c) n)
 
--- Part 3. For a letter number from 1 to 5 and a case that none of 1 to 9 refuses: the lanes question answers a count exactly when the count is
+-- Part 3. For a letter number from 1 to 5 and a case that none of 1 to 9 refuses: the lanes question answers a count exactly when the count
+-- is
 -- accepted, meets the letter, and no smaller accepted count does; and it answers 14 exactly when no accepted count does.
 abbrev pub LeastAcceptedCount : Type 0
 LeastAcceptedCount =
-    (case : Case) (n : ℕ) → 1 ≤ n → n ≤ 5 → firstRefusal (fieldRefusals case) ≡ 0
+    (case : Case) (n : ℕ) → 1 ≤ n → n ≤ 5 → FieldsFit case
     → ((count : ℕ)
     → (lanes.values (lanesAnswer case n) ≡ count ∷ [])
     ↔ (AcceptedCount case count

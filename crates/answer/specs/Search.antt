@@ -1,18 +1,32 @@
--- What the search for a service volume tries at a demand. It is no part of the method: proofs/VolumeLaws shows that it is meeting a letter.
---   loadOf case                       what a vehicle counts for, and H × N
---   keepsTo curve load limit demand   the flow rate of the demand keeps to capacity and to the density
+-- What the searches try, and what they need. It is no part of the method: proofs/VolumeLaws shows that a demand that is tried passes
+-- exactly when
+-- it meets the letter.
+--   demandMeets curve load limit demand   the flow rate of the demand keeps to capacity and to the density
+--   Trying terms table load limit demand  a demand, or an end of demands, that 64 bits hold with these terms and this load
+--   Asking case n                         none of 16 and 1 to 9 refuses the lanes question
 -- Assumes nothing.
-use Prim.Native.Nat.{ℕ, _*_}
+use Prim.Native.Nat.{ℕ, _≤_}
 use mathlib.Core.Bool.{Bool}
-use Rattle.numbers.specs.Division.{divUp}
-use Rattle.method.specs.declared.case.Case.{Case}
-use Rattle.method.specs.declared.curve.Curve.{Curve}
-use Rattle.method.specs.Flow.{heavyFactor}
-use Rattle.method.specs.Service.{meetsLimit}
-use Rattle.answer.specs.declared.evaluate.Load.{Load}
+use mathlib.Core.List.{List}
+use Rattle.curve.specs.declared.Curve.{Curve}
+use Rattle.curve.specs.declared.speed.CurveTerms.{CurveTerms}
+use Rattle.curve.specs.Terms.{Ready}
+use Rattle.curve.specs.Service.{meetsLimit}
+use Rattle.road.specs.declared.Case.{Case}
+use Rattle.road.specs.Refusals.{greatestDemand, FieldsFit}
+use Rattle.method.specs.declared.flow.Load.{Load}
+use Rattle.method.specs.Flow.{flowRate, LoadFits}
 
-abbrev pub loadOf : Case → Load
-loadOf case = record { «heavy_factor» = heavyFactor case; divisor = case .«peak_hour_factor» * case .lanes }
+unfoldable pub demandMeets : Curve → Load → ℕ → ℕ → Bool
+demandMeets curve load limit demand = meetsLimit curve (flowRate load demand) limit
 
-unfoldable pub keepsTo : Curve → Load → ℕ → ℕ → Bool
-keepsTo curve load limit demand = meetsLimit curve (divUp (demand * load .«heavy_factor») (load .divisor)) limit
+pub record Trying (terms : CurveTerms) (table : List ℕ) (load : Load) (limit demand : ℕ) : Type 0 where
+  pub ready : Ready terms table
+  pub load-fits : LoadFits load
+  pub limit-le : limit ≤ 450
+  pub demand-le : demand ≤ greatestDemand
+
+pub record Asking (case : Case) (n : ℕ) : Type 0 where
+  pub fields : FieldsFit case
+  pub letter-low : 1 ≤ n
+  pub letter-high : n ≤ 5

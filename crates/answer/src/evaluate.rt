@@ -1,27 +1,30 @@
 // The answer to a case.
 //   Grade      letter, F, c, v, speed, density and the service volumes A to E
 //   Answer     a grade or a refusal
-//   Load       what a demand is worked with
 //   evaluate   for any case at all
+use curve::Curve;
+use curve::kind::Kind;
+use curve::service;
+use curve::service::Letter;
+use curve::speed;
+use curve::speed::CurveTerms;
 use method::assess;
-use method::assess::Assessment;
-use method::assess::Measures;
-use method::case::Case;
+use method::checked;
+use method::checked::Checked;
 use method::flow;
-use method::kind::Kind;
-use method::refusal;
-use method::service;
-use method::service::Letter;
-use method::speed;
-use method::speed::CurveTerms;
+use method::flow::Load;
+use road::Case;
+use road::refusal;
 ghost use mathlib.Core.Path.{_≡_};
-ghost use Prim.Native.Nat.{_*_, _≤_, _<_};
 ghost use Rattle.numbers.specs.Search.{greatest};
-ghost use Rattle.method.specs.Refusals.{firstRefusal, fieldRefusals, greatestDemand, Accepted};
-ghost use Rattle.method.specs.Service.{densityLimit};
-ghost use Rattle.method.specs.Assess as assess;
-ghost use Rattle.method.specs.Terms.{Prepared, TableFor};
-ghost use Rattle.answer.specs.Search.{loadOf, keepsTo};
+ghost use Rattle.curve.specs.Terms.{Ready};
+ghost use Rattle.curve.specs.Service.{densityLimit};
+ghost use Rattle.road.specs.Refusals.{greatestDemand};
+ghost use Rattle.method.specs.declared.checked.Checked.the-variants as Checked;
+ghost use Rattle.method.specs.Checked.{checked};
+ghost use Rattle.method.specs.Flow.{LoadFits};
+ghost use Rattle.method.specs.Assess.{CaseReady};
+ghost use Rattle.answer.specs.Search.{demandMeets, Trying};
 ghost use Rattle.answer.specs.Answers.{graded, answerTo};
 
 pub struct Grade {
@@ -43,35 +46,24 @@ pub enum Answer {
     Refused(u64),
 }
 
-// What a demand is worked with: a vehicle's thousandths of a passenger car, and H x N.
-pub struct Load {
-    pub heavy_factor: u64,
-    pub divisor: u64,
-}
-
 // Whether a demand keeps to capacity and to a density.
-fn keeps_to(terms: CurveTerms, table: &[u32], load: Load, limit: u64, demand: u64) -> bool
-    requires { ⌜ Prepared terms × (TableFor (terms .curve .kind) (now table) × ((limit ≤ 450) × ((0 < load .divisor) × ((load .«heavy_factor» ≤ 3000) × (demand ≤ greatestDemand))))) ⌝ }
-    ensures { λ r. ⌜ r ≡ keepsTo (terms .curve) load limit demand ⌝ }
+fn demand_meets(terms: CurveTerms, table: &[u32], load: Load, limit: u64, demand: u64) -> bool
+    requires { ⌜ Trying terms (now table) load limit demand ⌝ }
+    ensures { λ r. ⌜ r ≡ demandMeets (terms .curve) load limit demand ⌝ }
 {
-    service::keeps_limit(
-        terms,
-        table,
-        numbers::div_up(demand * load.heavy_factor, load.divisor),
-        limit,
-    )
+    service::meets_limit(terms, table, flow::flow_rate(load, demand), limit)
 }
 
 // The greatest demand up to the end that keeps to a density, by halving.
-fn service_volume(terms: CurveTerms, table: &[u32], load: Load, limit: u64, end: u64) -> u64
-    requires { ⌜ Prepared terms × (TableFor (terms .curve .kind) (now table) × ((limit ≤ 450) × ((0 < load .divisor) × ((load .«heavy_factor» ≤ 3000) × (end ≤ greatestDemand))))) ⌝ }
-    ensures { λ r. ⌜ r ≡ greatest (keepsTo (terms .curve) load limit) end ⌝ }
+fn greatest_meeting(terms: CurveTerms, table: &[u32], load: Load, limit: u64, end: u64) -> u64
+    requires { ⌜ Trying terms (now table) load limit end ⌝ }
+    ensures { λ r. ⌜ r ≡ greatest (demandMeets (terms .curve) load limit) end ⌝ }
 {
     let mut low = 0;
     let mut high = end + 1;
     while 1 < high - low {
         let middle = low + (high - low) / 2;
-        if keeps_to(terms, table, load, limit, middle) {
+        if demand_meets(terms, table, load, limit, middle) {
             low = middle;
         } else {
             high = middle;
@@ -80,22 +72,12 @@ fn service_volume(terms: CurveTerms, table: &[u32], load: Load, limit: u64, end:
     low
 }
 
-fn load_of(case: Case) -> Load
-    requires { ⌜ firstRefusal (fieldRefusals case) ≡ 0 ⌝ }
-    ensures { λ r. ⌜ r ≡ loadOf case ⌝ }
-{
-    Load {
-        heavy_factor: flow::heavy_factor(case),
-        divisor: case.peak_hour_factor * case.lanes,
-    }
-}
-
 // The service volume of a letter number.
-fn volume_of(terms: CurveTerms, table: &[u32], load: Load, letter: u64) -> u64
-    requires { ⌜ Prepared terms × (TableFor (terms .curve .kind) (now table) × ((0 < load .divisor) × (load .«heavy_factor» ≤ 3000))) ⌝ }
-    ensures { λ r. ⌜ r ≡ greatest (keepsTo (terms .curve) load (densityLimit letter)) greatestDemand ⌝ }
+fn service_volume(terms: CurveTerms, table: &[u32], load: Load, letter: u64) -> u64
+    requires { ⌜ Ready terms (now table) × LoadFits load ⌝ }
+    ensures { λ r. ⌜ r ≡ greatest (demandMeets (terms .curve) load (densityLimit letter)) greatestDemand ⌝ }
 {
-    service_volume(
+    greatest_meeting(
         terms,
         table,
         load,
@@ -104,15 +86,14 @@ fn volume_of(terms: CurveTerms, table: &[u32], load: Load, letter: u64) -> u64
     )
 }
 
-fn graded_with(case: Case, measures: Measures, table: &[u32]) -> Grade
-    requires { ⌜ Accepted case × ((measures ≡ assess.measures case) × TableFor (measures .curve .kind) (now table)) ⌝ }
+fn graded_with(case: Case, load: Load, terms: CurveTerms, table: &[u32]) -> Grade
+    requires { ⌜ CaseReady case load terms (now table) ⌝ }
     ensures { λ r. ⌜ r ≡ graded case ⌝ }
 {
+    let measures = assess::measures_with(case, load, terms, table);
     let curve = measures.curve;
     let performance = measures.performance;
     let letter = performance.letter;
-    let terms = speed::terms_of(curve);
-    let load = load_of(case);
     Grade {
         letter,
         free_flow_speed: curve.free_flow_speed,
@@ -120,26 +101,27 @@ fn graded_with(case: Case, measures: Measures, table: &[u32]) -> Grade
         flow_rate: measures.flow_rate,
         speed: performance.speed,
         density: performance.density,
-        volume_a: volume_of(terms, table, load, 1),
-        volume_b: volume_of(terms, table, load, 2),
-        volume_c: volume_of(terms, table, load, 3),
-        volume_d: volume_of(terms, table, load, 4),
-        volume_e: volume_of(terms, table, load, 5),
+        volume_a: service_volume(terms, table, load, 1),
+        volume_b: service_volume(terms, table, load, 2),
+        volume_c: service_volume(terms, table, load, 3),
+        volume_d: service_volume(terms, table, load, 4),
+        volume_e: service_volume(terms, table, load, 5),
     }
 }
 
-// The table of powers is made once a case, where the kind reads it.
-fn graded(case: Case, measures: Measures) -> Grade
-    requires { ⌜ Accepted case × (measures ≡ assess.measures case) ⌝ }
+// The load and the terms of the curve are worked out, and the table of powers is made where the kind reads it, once a case.
+fn graded(case: Case, curve: Curve) -> Grade
+    requires { ⌜ checked case ≡ Checked.Accepted curve ⌝ }
     ensures { λ r. ⌜ r ≡ graded case ⌝ }
 {
-    let curve = measures.curve;
+    let load = flow::load_of(case, case.lanes);
+    let terms = speed::curve_terms(curve);
     let kind = curve.kind;
     match kind {
-        Kind::Freeway => graded_with(case, measures, &[]),
+        Kind::Freeway => graded_with(case, load, terms, &[]),
         Kind::Multilane => {
             let table = powers::power_table();
-            graded_with(case, measures, &table)
+            graded_with(case, load, terms, &table)
         }
     }
 }
@@ -147,9 +129,9 @@ fn graded(case: Case, measures: Measures) -> Grade
 pub fn evaluate(case: Case) -> Answer
     ensures { λ r. ⌜ r ≡ answerTo case ⌝ }
 {
-    let assessment = assess::assess(case);
-    match assessment {
-        Assessment::Measured(measures) => Answer::Graded(graded(case, measures)),
-        Assessment::Refused(number) => Answer::Refused(number),
+    let checked = checked::check(case);
+    match checked {
+        Checked::Accepted(curve) => Answer::Graded(graded(case, curve)),
+        Checked::Refused(number) => Answer::Refused(number),
     }
 }

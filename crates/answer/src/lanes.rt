@@ -1,20 +1,19 @@
 // The lanes question: how many lanes meet a letter.
+//   NO_LANE_COUNT, LETTER_UNKNOWN   refusals 14 and 16
 //   LanesAnswer    a lane count or a refusal
 //   lanes_needed   for any case and any letter number
-use method::case::Case;
-use method::curve;
-use method::curve::Checked;
+use curve::kind;
+use curve::service;
+use curve::speed;
+use method::checked;
+use method::checked::Checked;
 use method::flow;
-use method::kind;
-use method::refusal;
-use method::service;
-use method::speed;
+use road::Case;
+use road::refusal;
 ghost use mathlib.Core.Path.{_≡_};
-ghost use Prim.Native.Nat.{_≤_};
-ghost use Rattle.method.specs.Refusals.{firstRefusal, fieldRefusals};
-ghost use Rattle.answer.specs.Cases.{withLanes};
-ghost use Rattle.answer.specs.Volumes.{meets};
-ghost use Rattle.answer.specs.Lanes.{lanesFound, lanesAnswer};
+ghost use Rattle.road.specs.Cases.{withLanes};
+ghost use Rattle.answer.specs.Search.{Asking};
+ghost use Rattle.answer.specs.Lanes.{lanesMeet, lanesFound, lanesAnswer};
 
 pub const NO_LANE_COUNT: u64 = 14;
 
@@ -26,19 +25,16 @@ pub enum LanesAnswer {
 }
 
 // Whether the case with a lane count of the kind meets a letter.
-fn meets_with(case: Case, lanes: u64, letter: u64) -> bool
-    requires { ⌜ (firstRefusal (fieldRefusals (withLanes case lanes)) ≡ 0) × ((1 ≤ letter) × (letter ≤ 5)) ⌝ }
-    ensures { λ r. ⌜ r ≡ meets (withLanes case lanes) letter ⌝ }
+fn lanes_meet(case: Case, letter: u64, lanes: u64) -> bool
+    requires { ⌜ Asking (withLanes case lanes) letter ⌝ }
+    ensures { λ r. ⌜ r ≡ lanesMeet case letter lanes ⌝ }
 {
     let road = case.road;
-    let checked = curve::checked_curve(road, lanes);
+    let checked = checked::checked_curve(road, lanes);
     match checked {
         Checked::Accepted(curve) => {
-            let v = numbers::div_up(
-                case.demand * flow::heavy_factor(case),
-                case.peak_hour_factor * lanes,
-            );
-            service::meets_limit(speed::terms_of(curve), v, service::density_limit(letter))
+            let v = flow::flow_rate(flow::load_of(case, lanes), case.demand);
+            service::flow_meets_limit(speed::curve_terms(curve), v, service::density_limit(letter))
         }
         Checked::Refused(_) => false,
     }
@@ -46,7 +42,7 @@ fn meets_with(case: Case, lanes: u64, letter: u64) -> bool
 
 // The least lane count of the kind that meets a letter, one more than the most where none does.
 fn lanes_found(case: Case, letter: u64) -> u64
-    requires { ⌜ (firstRefusal (fieldRefusals case) ≡ 0) × ((1 ≤ letter) × (letter ≤ 5)) ⌝ }
+    requires { ⌜ Asking case letter ⌝ }
     ensures { λ r. ⌜ r ≡ lanesFound case letter ⌝ }
 {
     let road = case.road;
@@ -54,7 +50,7 @@ fn lanes_found(case: Case, letter: u64) -> u64
     let most = kind::most_lanes(kind);
     let mut lanes = kind::fewest_lanes(kind);
     while lanes <= most {
-        if meets_with(case, lanes, letter) {
+        if lanes_meet(case, letter, lanes) {
             return lanes;
         }
         lanes += 1;
@@ -65,10 +61,7 @@ fn lanes_found(case: Case, letter: u64) -> u64
 pub fn lanes_needed(case: Case, letter: u64) -> LanesAnswer
     ensures { λ r. ⌜ r ≡ lanesAnswer case letter ⌝ }
 {
-    if letter < 1 {
-        return LanesAnswer::Refused(LETTER_UNKNOWN);
-    }
-    if 5 < letter {
+    if checks::outside(1, 5, letter) {
         return LanesAnswer::Refused(LETTER_UNKNOWN);
     }
     let number = refusal::field_refusal(case);

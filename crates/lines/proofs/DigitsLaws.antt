@@ -1,35 +1,20 @@
--- The number that digits spelled, a digit at a time.
---   number-none, number-long, number-zero   no digit, too many, or a leading zero: malformed
+-- A number by its digits (specs/Fields).
+--   more, small   a number of i digits, one digit more, and that 64 bits hold it
+--   number-none, number-long, number-zero, number-bad   no digit, too many, a leading zero, a byte that is none: malformed
 --   number-one, number-more   one digit; more with no leading zero
 -- Assumes nothing.
-use mathlib.Core.Path.{_≡_, sym}
+use mathlib.Core.Path.{_≡_, refl}
+use mathlib.Core.Bool.{Bool, true, false, cond, _||_}
 use mathlib.Core.List.{List}
-use Prim.Native.Nat.{ℕ, zero, suc, _+_, _-_, _*_, _^_, _≤_, _<_}
+use Prim.Native.Nat.{ℕ, _+_, _*_, _^_, _≤_, _<_}
 use native.Mathlib.Nat.{pow-suc, pow-le-pow-right, lt-of-lt-of-le}
 use native.Mathlib.Numerals.{add-one}
 use native.Mathlib.Omega.{arith}
-use lib.ListN.{length, drop, getD, drop-of-length-le}
-use lib.Seq.{drop-cons}
-use borrow.Author.Tests.{le-leb, lt-leb, lt-ltb, le-ltb, ne-eqb}
-use Rattle.lines.specs.declared.field.FieldValue.the-variants.{Value, Malformed}
-use Rattle.lines.specs.Fields.{spelled, number}
-
-module _ (n : ℕ) (f : List ℕ) (i b : ℕ) (h : i < length f) (e : b ≡ getD f i 0) where
-  pub spelled-digit : 48 ≤ b → b ≤ 57 → spelled n (drop i f) ≡ spelled (10 * n + (b - 48)) (drop (i + 1) f)
-  unfolding spelled
-  spelled-digit l u = rw (drop-cons f i 0 h, sym e, le-leb 48 b l, le-leb b 57 u, add-one i)
-
-  pub spelled-low : b < 48 → spelled n (drop i f) ≡ Malformed
-  unfolding spelled
-  spelled-low l = rw (drop-cons f i 0 h, sym e, lt-leb 48 b l)
-
-  pub spelled-high : 57 < b → spelled n (drop i f) ≡ Malformed
-  unfolding spelled
-  spelled-high l = rw (drop-cons f i 0 h, sym e, le-leb 48 b (omega arith), lt-leb b 57 l)
-
-pub spelled-end : (n : ℕ) (f : List ℕ) (i : ℕ) → length f ≤ i → spelled n (drop i f) ≡ Value n
-unfolding spelled
-spelled-end n f i h = rw (drop-of-length-le f h)
+use lib.ListN.{length, getD}
+use borrow.Author.Tests.{lt-ltb, le-ltb, ne-eqb}
+use Rattle.checks.specs.Refusals.{outside}
+use Rattle.lines.specs.declared.field.FieldValue.the-variants.{Malformed}
+use Rattle.lines.specs.Fields.{spelled, leadingZero, number}
 
 pub more : (n d i : ℕ) → n < 10 ^ i → d ≤ 9 → 10 * n + d < 10 ^ (i + 1)
 more n d i h k = rw (add-one i) (omega (arith, pow-suc 10 i))
@@ -49,6 +34,14 @@ module _ (k : ℕ) (bs : List ℕ) where
   pub number-zero : 1 < length bs → length bs ≤ k → getD bs 0 0 ≡ 48 → number k bs ≡ Malformed
   unfolding number
   number-zero h l e = simp (le-ltb (length bs) 1 (omega arith), le-ltb k (length bs) l, lt-ltb 1 (length bs) h, e)
+
+  pub number-bad : spelled 0 bs ≡ Malformed → number k bs ≡ Malformed
+  unfolding number
+  number-bad e = rw e (either (outside 1 k (length bs) || leadingZero bs))
+    where
+      either : (b : Bool) → cond b Malformed Malformed ≡ Malformed
+      either true = refl
+      either false = refl
 
   pub number-one : length bs ≡ 1 → 1 ≤ k → number k bs ≡ spelled 0 bs
   unfolding number

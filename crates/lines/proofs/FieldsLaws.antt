@@ -2,7 +2,7 @@
 --   oneOf-hit, oneOf-miss, oneOf-end   a letter sought among some, from place i on
 --   letter-not, letter-by   a field that is no single byte; one that is
 --   number-at       every place but 0, 1, 6 and 12 has a number
---   after           the values before, and those of the rest
+--   after, after-nil   the values before, and those of the rest
 --   more-of, last-of   a field read, with a tab behind it and at the line's end
 --   field-bad, too-many   a malformed field, and a field too many
 -- Assumes nothing.
@@ -11,7 +11,7 @@ use mathlib.Core.Bool.{Bool, true, false, cond}
 use mathlib.Core.Logic.{⊎-elim}
 use mathlib.Core.List.{List, [], _∷_, _++_, append-assoc}
 use mathlib.Core.Option.{Option, none, some}
-use Prim.Native.Nat.{ℕ, zero, suc, _+_, _-_, _≤_, _<_}
+use Prim.Native.Nat.{ℕ, zero, suc, _+_, _≤_, _<_}
 use native.Mathlib.Nat.{eq-or-lt-of-le}
 use native.Mathlib.Numerals.{add-one}
 use native.Mathlib.Decide.{decLe}
@@ -26,6 +26,8 @@ use Rattle.text.proofs.PartsLaws.{countBefore-le, parts-one, parts-more}
 use Rattle.lines.specs.declared.field.FieldValue.{FieldValue}
 use Rattle.lines.specs.declared.field.FieldValue.the-variants.{Value, Malformed}
 use Rattle.lines.specs.Fields.{Field, digits, layout, fieldAt, oneOf, letter, fieldAs, valuesOf, joined}
+use Rattle.lines.specs.Places.{fieldEnd, fieldFrom}
+use Rattle.lines.proofs.PlacesLaws.{fieldEnd-le}
 
 pub oneOf-hit : (b : ℕ) (ls : List ℕ) (i : ℕ) → i < length ls → getD ls i 0 ≡ b → oneOf b (drop i ls) ≡ true
 unfolding oneOf
@@ -43,7 +45,8 @@ pub letter-not : (ls bs : List ℕ) → (length bs ≡ 1 → ⊥) → letter ls 
 unfolding letter
 letter-not ls bs n = rw (ne-eqb (length bs) 1 n)
 
-pub letter-by : (ls bs : List ℕ) (v : Bool) → length bs ≡ 1 → oneOf (getD bs 0 0) ls ≡ v → letter ls bs ≡ cond v (Value (getD bs 0 0)) Malformed
+pub letter-by : (ls bs : List ℕ) (v : Bool) → length bs ≡ 1 → oneOf (getD bs 0 0) ls ≡ v
+    → letter ls bs ≡ cond v (Value (getD bs 0 0)) Malformed
 unfolding letter
 letter-by ls bs v e o = rw (e, o)
 
@@ -85,38 +88,40 @@ no-more : (bs : List ℕ) → valuesOf [] (parts tab bs) ≡ none
 unfolding valuesOf
 no-more bs = ⊎-elim (λ e. rw (parts-one tab bs e)) (λ l. rw (parts-more tab bs l)) (eq-or-lt-of-le (countBefore-le 9 bs))
 
--- a field of the line from at, whose end is at e
-module _ (ls : List Field) (d : Field) (line vs : List ℕ) (j at e : ℕ) (hj : j < length ls) (ha : at ≤ length line) (he : e ≡ at + countBefore tab (drop at line)) where
-  ends : e ≤ length line
-  ends = omega (arith, countBefore-le 9 (drop at line), length-drop at line)
-
-  pub ends-at : (at ≤ e) × (e ≤ length line)
-  ends-at = (omega arith, ends)
-
+-- a field of the line from at
+module _ (ls : List Field) (d : Field) (line vs : List ℕ) (j at : ℕ) (hj : j < length ls) (ha : at ≤ length line) where
   unfoldable pub rest : Option (List ℕ)
   rest = valuesOf (drop j ls) (parts tab (drop at line))
 
   -- a tab follows
-  more-is : e < length line → rest ≡ joined (fieldAs (getD ls j d) (take (e - at) (drop at line))) (valuesOf (drop (j + 1) ls) (parts tab (drop (e + 1) line)))
+  more-is : fieldEnd line at < length line
+      → rest ≡ joined (fieldAs (getD ls j d) (fieldFrom line at))
+      (valuesOf (drop (j + 1) ls) (parts tab (drop (fieldEnd line at + 1) line)))
   unfolding rest valuesOf
   more-is h =
-      let w : countBefore tab (drop at line) ≡ e - at = omega arith in
-      let u : at + suc (e - at) ≡ e + 1 = omega arith in
-      rw (drop-cons ls j d hj, parts-more tab (drop at line) (omega (arith, length-drop at line)), w, drop-drop, u, add-one j)
+      let u : at + suc (countBefore tab (drop at line)) ≡ fieldEnd line at + 1 = omega arith in
+      rw (drop-cons ls j d hj, parts-more tab (drop at line) (omega (arith, length-drop at line)), drop-drop, u, add-one j)
 
-  pub more-of : e < length line → (v : ℕ) → j < length vs → fieldAs (getD ls j d) (take (e - at) (drop at line)) ≡ Value v
+  pub more-of : (e : ℕ) → e ≡ fieldEnd line at → e < length line → (v : ℕ) → j < length vs
+      → fieldAs (getD ls j d) (fieldFrom line at) ≡ Value v
       → after (take j vs) rest ≡ after (take (j + 1) (set vs j v)) (valuesOf (drop (j + 1) ls) (parts tab (drop (e + 1) line)))
-  more-of h v hv r = rw (more-is h, r, after-joined, add-one j, take-suc-set vs j v hv)
+  more-of e n h v hv r = rw (n, more-is (omega arith), r, after-joined, add-one j, take-suc-set vs j v hv)
 
   -- no tab follows
-  last-is : e ≡ length line → rest ≡ joined (fieldAs (getD ls j d) (take (e - at) (drop at line))) (valuesOf (drop (j + 1) ls) [])
+  last-is : fieldEnd line at ≡ length line
+      → rest ≡ joined (fieldAs (getD ls j d) (fieldFrom line at)) (valuesOf (drop (j + 1) ls) [])
   unfolding rest valuesOf
   last-is h =
-      rw (drop-cons ls j d hj, parts-one tab (drop at line) (omega (arith, length-drop at line)), take-all (e - at) (drop at line) (omega (arith, length-drop at line)), add-one j)
+      rw (
+        drop-cons ls j d hj,
+        parts-one tab (drop at line) (omega (arith, length-drop at line)),
+        take-all (countBefore tab (drop at line)) (drop at line) (omega (arith, length-drop at line)),
+        add-one j,
+      )
 
   -- it is the last field of the layout, at place m, or fields are missing
-  pub last-of : e ≡ length line → length vs ≡ length ls → (m v : ℕ) → m + 1 ≡ length ls → fieldAs (getD ls j d) (take (e - at) (drop at line)) ≡ Value v
-      → after (take j vs) rest ≡ cond (eqb j m) (some (set vs j v)) none
+  pub last-of : fieldEnd line at ≡ length line → length vs ≡ length ls → (m v : ℕ) → m + 1 ≡ length ls
+      → fieldAs (getD ls j d) (fieldFrom line at) ≡ Value v → after (take j vs) rest ≡ cond (eqb j m) (some (set vs j v)) none
   unfolding valuesOf
   last-of h l m v n r = go (decLe m j)
     where
@@ -126,12 +131,18 @@ module _ (ls : List Field) (d : Field) (line vs : List ℕ) (j at e : ℕ) (hj :
           let z : drop (j + 1) ls ≡ [] = drop-of-length-le ls {i = j + 1} (omega arith) in
           rw (eq-eqb j m (omega arith), last-is h, r, z) (ap some (sym (take-suc-set vs j v (omega arith)) ∙ w))
       go (no k) =
-          rw (ne-eqb j m (λ e. omega arith), last-is h, drop-cons ls (j + 1) d (omega arith), joined-none (fieldAs (getD ls j d) (take (e - at) (drop at line))))
+          rw (
+            ne-eqb j m (λ e. omega arith),
+            last-is h,
+            drop-cons ls (j + 1) d (omega arith),
+            joined-none (fieldAs (getD ls j d) (fieldFrom line at)),
+          )
 
   -- a field that is not as the layout has it
-  pub field-bad : fieldAs (getD ls j d) (take (e - at) (drop at line)) ≡ Malformed → after (take j vs) rest ≡ none
-  field-bad r = ⊎-elim (λ h. rw (last-is h, r)) (λ h. rw (more-is h, r)) (eq-or-lt-of-le ends)
+  pub field-bad : fieldAs (getD ls j d) (fieldFrom line at) ≡ Malformed → after (take j vs) rest ≡ none
+  field-bad r = ⊎-elim (λ h. rw (last-is h, r)) (λ h. rw (more-is h, r)) (eq-or-lt-of-le (fieldEnd-le line at ha))
 
 -- a field too many
-pub too-many : (ls : List Field) (line vs : List ℕ) (j at : ℕ) → j ≡ length ls → after (take j vs) (valuesOf (drop j ls) (parts tab (drop at line))) ≡ none
+pub too-many : (ls : List Field) (line vs : List ℕ) (j at : ℕ) → j ≡ length ls
+    → after (take j vs) (valuesOf (drop j ls) (parts tab (drop at line))) ≡ none
 too-many ls line vs j at h = let z : drop j ls ≡ [] = drop-of-length-le ls {i = j} (omega arith) in rw (z, no-more (drop at line))

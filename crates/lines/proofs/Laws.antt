@@ -4,7 +4,7 @@
 --   values-are-the-fields, demand-on-a-line
 -- Assumes nothing.
 use mathlib.Core.Path.{_≡_, refl, sym, ap, _∙_, subst}
-use mathlib.Core.Bool.{Bool, true, false, cond, _&&_, _||_, true≢false}
+use mathlib.Core.Bool.{Bool, true, false, cond, _&&_, _||_}
 use mathlib.Core.List.{List, [], _∷_}
 use mathlib.Core.Option.{Option, none, some}
 use Prim.Native.Nat.{ℕ, zero, suc, _+_, _-_, _*_, _^_, _≤_, _<_}
@@ -14,53 +14,43 @@ use native.Mathlib.Omega.{arith}
 use lib.Dec.{T, eqb, leb, ltb, leb→le}
 use lib.ListN.{length, drop, getD, drop-of-length-le}
 use lib.Seq.{drop-cons}
-use borrow.Author.Tests.{le-ltb, ltb-false, eqb-true}
-use Rattle.numbers.proofs.TableLaws.{and-right}
-use Rattle.numbers.proofs.ChoiceLaws.{T-true}
+use borrow.Author.Tests.{le-ltb, eqb-true}
+use Rattle.numbers.proofs.BoolLaws.{and-right, T-true}
 use Rattle.text.specs.Bytes.{bytesOf, tab}
 use Rattle.text.specs.Parts.{parts}
-use Rattle.method.specs.declared.case.Case.{Case}
-use Rattle.method.specs.Refusals.{outside}
+use Rattle.road.specs.declared.Case.{Case}
+use Rattle.checks.specs.Refusals.{outside}
+use Rattle.checks.proofs.RefusalLaws.{within}
 use Rattle.lines.specs.declared.field.FieldValue.{FieldValue}
 use Rattle.lines.specs.declared.field.FieldValue.the-variants.{Value, Malformed}
 use Rattle.lines.specs.declared.read.LineRead.{LineRead}
 use Rattle.lines.specs.declared.read.LineRead.the-variants as LineRead
-use Rattle.lines.specs.Fields.{Field, letters, digits, layout, digit, spelled, leadingZero, number, oneOf, letter, fieldAs, joined, valuesOf}
-use Rattle.lines.specs.Reading.{kindOf, wayOf, medianOf, terrainOf, caseOf, readValues, longestLine, readLine, kindByte, wayByte, medianByte, terrainByte, values}
+use Rattle.lines.specs.Fields.{Field, letters, digits, layout, digit, spelled, leadingZero, number, oneOf, letter, fieldAs, joined}
+use Rattle.lines.specs.Fields.{valuesOf}
+use Rattle.lines.specs.Reading.{kindOf, wayOf, medianOf, terrainOf, caseOf, readValues, longestLine, readLine, kindByte, wayByte}
+use Rattle.lines.specs.Reading.{medianByte, terrainByte, values}
 use Rattle.lines.specs.Laws.{ValuesAreTheFields, DemandOnALine}
 use Rattle.lines.proofs.DigitsLaws.{more}
+use Rattle.lines.proofs.PlacesLaws.{not-malformed}
 
 -- ---- the value of one field
 abbrev pub FieldFits : Field → ℕ → Type 0
 FieldFits (letters ls) v = T (oneOf v ls)
 FieldFits (digits k) v = v < 10 ^ k
 
-abbrev valueIn : FieldValue → ℕ
-valueIn (Value v) = v
-valueIn Malformed = 0
-
-abbrev wellFormed : FieldValue → Bool
-wellFormed (Value v) = true
-wellFormed Malformed = false
-
-not-malformed : {A : Type 0} (v : ℕ) → Malformed ≡ Value v → A
-not-malformed v e = absurd (true≢false (sym (ap wellFormed e)))
-
 spelled-lt : (bs : List ℕ) (n i v : ℕ) → n < 10 ^ i → spelled n bs ≡ Value v → v < 10 ^ (i + length bs)
 unfolding spelled
-spelled-lt [] n i v h e = let w : n ≡ v = ap valueIn e in let z : i + 0 ≡ i = omega arith in rw (z, sym w) h
-spelled-lt (b ∷ bs) n i v h e = go (digit b) refl e (λ d k. spelled-lt bs (10 * n + (b - code "0")) (i + 1) v (more n (b - code "0") i h d) k)
+spelled-lt [] n i v h e = let w : n ≡ v = cc e in let z : i + 0 ≡ i = omega arith in rw (z, sym w) h
+spelled-lt (b ∷ bs) n i v h e = go (digit b) refl e
+    (λ d k. spelled-lt bs (10 * n + (b - code "0")) (i + 1) v (more n (b - code "0") i h d) k)
   where
     go : (t : Bool) → digit b ≡ t → cond t (spelled (10 * n + (b - code "0")) bs) Malformed ≡ Value v
-        → (b - code "0" ≤ 9 → spelled (10 * n + (b - code "0")) bs ≡ Value v → v < 10 ^ (i + 1 + length bs)) → v < 10 ^ (i + suc (length bs))
+        → (b - code "0" ≤ 9 → spelled (10 * n + (b - code "0")) bs ≡ Value v → v < 10 ^ (i + 1 + length bs))
+        → v < 10 ^ (i + suc (length bs))
     go true d k r =
         let z : i + suc (length bs) ≡ i + 1 + length bs = omega arith in
         rw z (r (omega (arith, leb→le b (code "9") (and-right (leb (code "0") b) (leb b (code "9")) (T-true (digit b) d)))) k)
     go false d k r = not-malformed v k
-
-or-false : (a b : Bool) → a || b ≡ false → b ≡ false
-or-false true b e = absurd (true≢false e)
-or-false false b e = e
 
 number-lt : (k : ℕ) (bs : List ℕ) (v : ℕ) → number k bs ≡ Value v → v < 10 ^ k
 unfolding number
@@ -71,14 +61,14 @@ number-lt k bs v e = go (outside 1 k (length bs)) (leadingZero bs) refl e
     go false true o h = not-malformed v h
     go false false o h =
         lt-of-lt-of-le (spelled-lt bs 0 0 v (omega arith) h)
-        (pow-le-pow-right {n = 10} (omega arith) (omega (arith, ltb-false k (length bs) (or-false (ltb (length bs) 1) (ltb k (length bs)) o))))
+        (pow-le-pow-right {n = 10} (omega arith) (omega (arith, within 1 k (length bs) o)))
 
 letter-one : (ls bs : List ℕ) (v : ℕ) → letter ls bs ≡ Value v → T (oneOf v ls)
 unfolding letter
 letter-one ls bs v e = go (eqb (length bs) 1) (oneOf (getD bs 0 0) ls) refl e
   where
     go : (t u : Bool) → oneOf (getD bs 0 0) ls ≡ u → cond (t && u) (Value (getD bs 0 0)) Malformed ≡ Value v → T (oneOf v ls)
-    go true true o h = subst (λ x. T (oneOf x ls)) (ap valueIn h) (T-true (oneOf (getD bs 0 0) ls) o)
+    go true true o h = let w : getD bs 0 0 ≡ v = cc h in subst (λ x. T (oneOf x ls)) w (T-true (oneOf (getD bs 0 0) ls) o)
     go true false o h = not-malformed v h
     go false u o h = not-malformed v h
 
@@ -91,16 +81,8 @@ fieldAs-fits (digits k) bs v e = number-lt k bs v e
 abbrev pub Fits : List Field → List ℕ → Type 0
 Fits fs vs = (length vs ≡ length fs) × ((i : ℕ) → i < length fs → FieldFits (getD fs i (digits 5)) (getD vs i 0))
 
-abbrev valuesIn : Option (List ℕ) → List ℕ
-valuesIn none = []
-valuesIn (some vs) = vs
-
-abbrev given : Option (List ℕ) → Bool
-given none = false
-given (some vs) = true
-
 not-none : {A : Type 0} (vs : List ℕ) → none ≡ some vs → A
-not-none vs e = absurd (true≢false (sym (ap given e)))
+not-none vs e = absurd (let o : _≡_ {A = ℕ} 0 1 = cc e in omega arith)
 
 fits-cons : (f : Field) (fs : List Field) (v : ℕ) (vs : List ℕ) → FieldFits f v → Fits fs vs → Fits (f ∷ fs) (v ∷ vs)
 fits-cons f fs v vs h r = (ap suc (r .0), at)
@@ -111,7 +93,7 @@ fits-cons f fs v vs h r = (ap suc (r .0), at)
 
 pub valuesOf-fits : (fs : List Field) (ps : List (List ℕ)) (vs : List ℕ) → valuesOf fs ps ≡ some vs → Fits fs vs
 unfolding valuesOf
-valuesOf-fits [] [] vs e = subst (Fits []) (ap valuesIn e) (refl, λ i l. absurd (omega arith))
+valuesOf-fits [] [] vs e = let w : [] ≡ vs = cc e in subst (Fits []) w (refl, λ i l. absurd (omega arith))
 valuesOf-fits [] (p ∷ ps) vs e = not-none vs e
 valuesOf-fits (f ∷ fs) [] vs e = not-none vs e
 valuesOf-fits (f ∷ fs) (p ∷ ps) vs e = go (fieldAs f p) (valuesOf fs ps) refl refl e (λ ws k. valuesOf-fits fs ps ws k)
@@ -120,7 +102,8 @@ valuesOf-fits (f ∷ fs) (p ∷ ps) vs e = go (fieldAs f p) (valuesOf fs ps) ref
         → ((ws : List ℕ) → valuesOf fs ps ≡ some ws → Fits fs ws) → Fits (f ∷ fs) vs
     go Malformed o h k j r = not-none vs j
     go (Value v) none h k j r = not-none vs j
-    go (Value v) (some ws) h k j r = subst (Fits (f ∷ fs)) (ap valuesIn j) (fits-cons f fs v ws (fieldAs-fits f p v h) (r ws k))
+    go (Value v) (some ws) h k j r = let w : v ∷ ws ≡ vs = cc j in
+        subst (Fits (f ∷ fs)) w (fits-cons f fs v ws (fieldAs-fits f p v h) (r ws k))
 
 -- a list by its entries from place i on
 abbrev entries : ℕ → ℕ → List ℕ → List ℕ
@@ -166,11 +149,13 @@ pub demand-on-a-line : DemandOnALine
 unfolding layout caseOf readValues readLine
 demand-on-a-line bs case e = go (ltb longestLine (length bs)) (valuesOf layout (parts tab bs)) refl e
   where
-    demandOf : LineRead → ℕ
-    demandOf (LineRead.Case c) = c .demand
-    demandOf (LineRead.Refused n) = 0
+    not-refused : LineRead.Refused 15 ≡ LineRead.Case case → case .demand ≤ 99999
+    not-refused h = absurd (let o : _≡_ {A = ℕ} 0 1 = cc h in omega arith)
 
-    go : (b : Bool) (o : Option (List ℕ)) → valuesOf layout (parts tab bs) ≡ o → cond b (LineRead.Refused 15) (readValues o) ≡ LineRead.Case case → case .demand ≤ 99999
-    go true o k h = absurd (omega (arith, ap (λ r. length (values r)) h))
-    go false none k h = absurd (omega (arith, ap (λ r. length (values r)) h))
-    go false (some vs) k h = omega (arith, ap demandOf h, valuesOf-fits layout (parts tab bs) vs k .1 9 (omega arith))
+    go : (b : Bool) (o : Option (List ℕ)) → valuesOf layout (parts tab bs) ≡ o
+        → cond b (LineRead.Refused 15) (readValues o) ≡ LineRead.Case case → case .demand ≤ 99999
+    go true o k h = not-refused h
+    go false none k h = not-refused h
+    go false (some vs) k h =
+        let same : caseOf vs ≡ case = cc h in
+        omega (arith, ap (λ c. c .demand) same, valuesOf-fits layout (parts tab bs) vs k .1 9 (omega arith))

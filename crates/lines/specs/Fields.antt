@@ -11,7 +11,6 @@
 --   fieldAs f bs      the value that bs has as field f
 --   joined v vs       a field's value before those of the fields after it
 --   valuesOf fs ps    the values of the parts ps as the fields fs, where there is a part for each and all are well formed
---   valuesIn r        the values that the code hands on
 -- A letter's value is its byte.
 -- Assumes nothing.
 use Prim.Native.Nat.{ℕ, _+_, _-_, _*_}
@@ -22,10 +21,9 @@ use mathlib.Core.Option.{Option, none, some}
 use lib.Dec.{eqb, leb, ltb}
 use lib.ListN.{length, getD}
 use Rattle.text.specs.Bytes.{bytesOf}
-use Rattle.method.specs.Refusals.{outside}
+use Rattle.checks.specs.Refusals.{outside}
 use Rattle.lines.specs.declared.field.FieldValue.{FieldValue}
 use Rattle.lines.specs.declared.field.FieldValue.the-variants.{Value, Malformed}
-use Rattle.lines.specs.declared.field.FieldValues.{FieldValues}
 
 pub data Field : Type 0 where
   letters : List ℕ → Field
@@ -79,6 +77,3 @@ valuesOf [] [] = some []
 valuesOf [] (p ∷ ps) = none
 valuesOf (f ∷ fs) [] = none
 valuesOf (f ∷ fs) (p ∷ ps) = joined (fieldAs f p) (valuesOf fs ps)
-
-abbrev pub valuesIn : FieldValues → Option (List ℕ)
-valuesIn r = cond (r .«well_formed») (some (r .values)) none

@@ -9,8 +9,8 @@ use mathlib.Core.Option.{some}
 use lib.ListN.{length}
 use Rattle.text.specs.Bytes.{tab}
 use Rattle.text.specs.Parts.{parts}
-use Rattle.method.specs.declared.case.Case.{Case}
-use Rattle.method.specs.Refusals.{greatestDemand}
+use Rattle.road.specs.declared.Case.{Case}
+use Rattle.road.specs.Refusals.{greatestDemand}
 use Rattle.lines.specs.declared.read.LineRead.the-variants as LineRead
 use Rattle.lines.specs.Fields.{layout, valuesOf}
 use Rattle.lines.specs.Reading.{longestLine, readLine, values}

@@ -1,9 +1,9 @@
--- Lines: what a line says, and what is printed for it.
+-- Lines: what a line says.
 --   Fields    the fields of a line
+--   Places    where a field lies, and what the code hands on while it reads
 --   Reading   a line as a case or its refusal
---   Texts     answers as text
 --   Laws      laws of lines
 pub mod Fields
+pub mod Places
 pub mod Reading
-pub mod Texts
 pub mod Laws

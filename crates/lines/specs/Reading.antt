@@ -17,15 +17,16 @@ use lib.Dec.{eqb, ltb}
 use lib.ListN.{length, getD}
 use Rattle.text.specs.Bytes.{tab}
 use Rattle.text.specs.Parts.{parts}
-use Rattle.method.specs.declared.kind.Kind.{Kind}
-use Rattle.method.specs.declared.kind.Kind.the-variants as Kind
-use Rattle.method.specs.declared.case.Way.{Way}
-use Rattle.method.specs.declared.case.Way.the-variants as Way
-use Rattle.method.specs.declared.case.Median.{Median}
-use Rattle.method.specs.declared.case.Median.the-variants as Median
-use Rattle.method.specs.declared.case.Terrain.{Terrain}
-use Rattle.method.specs.declared.case.Terrain.the-variants as Terrain
-use Rattle.method.specs.declared.case.Case.{Case}
+use Rattle.curve.specs.declared.kind.Kind.{Kind}
+use Rattle.curve.specs.declared.kind.Kind.the-variants as Kind
+use Rattle.road.specs.declared.Way.{Way}
+use Rattle.road.specs.declared.Way.the-variants as Way
+use Rattle.road.specs.declared.Median.{Median}
+use Rattle.road.specs.declared.Median.the-variants as Median
+use Rattle.road.specs.declared.Terrain.{Terrain}
+use Rattle.road.specs.declared.Terrain.the-variants as Terrain
+use Rattle.road.specs.declared.Case.{Case}
+use Rattle.road.specs.Cases.{road, loaded}
 use Rattle.lines.specs.declared.read.LineRead.{LineRead}
 use Rattle.lines.specs.declared.read.LineRead.the-variants as LineRead
 use Rattle.lines.specs.Fields.{layout, valuesOf}
@@ -44,24 +45,9 @@ terrainOf b = cond (eqb b (code "L")) Terrain.Level Terrain.Rolling
 
 unfoldable pub caseOf : List ℕ → Case
 caseOf vs =
-    record {
-      road =
-          record {
-            kind = kindOf (getD vs 0 0);
-            way = wayOf (getD vs 1 0);
-            speed = getD vs 2 0;
-            «lane_width» = getD vs 3 0;
-            «right_clearance» = getD vs 4 0;
-            «left_clearance» = getD vs 5 0;
-            median = medianOf (getD vs 6 0);
-            access = getD vs 7 0;
-          };
-      lanes = getD vs 8 0;
-      demand = getD vs 9 0;
-      «peak_hour_factor» = getD vs 10 0;
-      «heavy_share» = getD vs 11 0;
-      terrain = terrainOf (getD vs 12 0);
-    }
+    let at : ℕ → ℕ = λ i. getD vs i 0 in
+    loaded (road (kindOf (at 0)) (wayOf (at 1)) (at 2) (at 3) (at 4) (at 5) (medianOf (at 6)) (at 7)) (at 8) (at 9) (at 10)
+    (at 11) (terrainOf (at 12))
 
 -- "15 malformed line, an unknown field letter included"
 unfoldable pub readValues : Option (List ℕ) → LineRead

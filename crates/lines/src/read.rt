@@ -4,14 +4,14 @@
 //   LONGEST_LINE     the most bytes of a line
 //   read_line        for any bytes at all, a line without its newline
 use crate::field;
-use method::case::Case;
-use method::case::Median;
-use method::case::Road;
-use method::case::Terrain;
-use method::case::Way;
-use method::kind::Kind;
+use curve::kind::Kind;
+use road::Case;
+use road::Median;
+use road::Road;
+use road::Terrain;
+use road::Way;
 ghost use mathlib.Core.Path.{_≡_};
-ghost use Rattle.lines.specs.Reading.{kindOf, wayOf, medianOf, terrainOf, readLine};
+ghost use Rattle.lines.specs.Reading.{kindOf, wayOf, medianOf, terrainOf, caseOf, readLine};
 
 pub const LINE_MALFORMED: u64 = 15;
 
@@ -76,6 +76,34 @@ fn terrain_of(b: u64) -> Terrain
     }
 }
 
+fn road_of(values: [u64; 13]) -> Road
+    ensures { λ r. ⌜ r ≡ caseOf values .road ⌝ }
+{
+    Road {
+        kind: kind_of(values[0]),
+        way: way_of(values[1]),
+        speed: values[2],
+        lane_width: values[3],
+        right_clearance: values[4],
+        left_clearance: values[5],
+        median: median_of(values[6]),
+        access: values[7],
+    }
+}
+
+fn case_of(values: [u64; 13]) -> Case
+    ensures { λ r. ⌜ r ≡ caseOf values ⌝ }
+{
+    Case {
+        road: road_of(values),
+        lanes: values[8],
+        demand: values[9],
+        peak_hour_factor: values[10],
+        heavy_share: values[11],
+        terrain: terrain_of(values[12]),
+    }
+}
+
 pub fn read_line(line: &[u8]) -> LineRead
     ensures { λ r. ⌜ r ≡ readLine (now (line .entry)) ⌝ }
 {
@@ -87,22 +115,5 @@ pub fn read_line(line: &[u8]) -> LineRead
         return LineRead::Refused(LINE_MALFORMED);
     }
     let values = fields.values;
-    let road = Road {
-        kind: kind_of(values[0]),
-        way: way_of(values[1]),
-        speed: values[2],
-        lane_width: values[3],
-        right_clearance: values[4],
-        left_clearance: values[5],
-        median: median_of(values[6]),
-        access: values[7],
-    };
-    LineRead::Case(Case {
-        road,
-        lanes: values[8],
-        demand: values[9],
-        peak_hour_factor: values[10],
-        heavy_share: values[11],
-        terrain: terrain_of(values[12]),
-    })
+    LineRead::Case(case_of(values))
 }

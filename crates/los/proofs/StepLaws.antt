@@ -12,9 +12,11 @@ use Rattle.text.specs.Bytes.{newline}
 use Rattle.text.specs.Parts.{countBefore}
 
 -- cs was carried over to the start of a buffer, n bytes, and after the step `exit` has the same n bytes and h are held
-module _ (cs rest buffer exit : List ℕ) (n h : ℕ) (len : n ≡ length cs) (moved : buffer ≡ cs ++ rest) (kept : take n exit ≡ take n buffer) where
+module _ (cs rest buffer exit : List ℕ) (n h : ℕ) (len : n ≡ length cs) (moved : buffer ≡ cs ++ rest)
+    (kept : take n exit ≡ take n buffer) where
   pub begins : n ≤ h → take (length cs) (take h exit) ≡ cs
-  begins l = take-take (length cs) h exit (omega arith) ∙ ap (λ (x : ℕ). take x exit) (sym len) ∙ kept ∙ ap (take n) moved ∙ take-at cs rest n (sym len)
+  begins l = take-take (length cs) h exit (omega arith) ∙ ap (λ (x : ℕ). take x exit) (sym len) ∙ kept ∙ ap (take n) moved
+      ∙ take-at cs rest n (sym len)
 
   pub ends-held : h ≡ n → countBefore newline cs ≡ length cs → countBefore newline (take h exit) ≡ h
   ends-held e c =

@@ -1,10 +1,11 @@
 // los: reads lines from standard input and prints one answer a line; a refused line prints X, tab and its number.
-// Its steps are those of blocks/specs/Runs.Run: a piece is read behind the bytes held (feed), whole lines are answered and the rest is carried
-// over (turn), and at the end of the input a last line without newline is answered (end). It stops quietly when its output can't be
-// written, and with a message when its input can't be read: half a line is never answered.
+// Its steps are those of stream/specs/Runs.Run: a piece is read behind the bytes held (feed), whole lines are answered and the rest is
+// carried over (turn), and at the end of the input a last line without newline is answered (end). It stops with a message when its output
+// can't be written or its input can't be read: half a line is never answered.
 use libc::STDERR_FILENO;
 use libc::STDIN_FILENO;
 use libc::STDOUT_FILENO;
+use replies::block;
 ghost use mathlib.Core.Path.{_≡_};
 ghost use mathlib.Core.Bool.{true, false};
 ghost use Prim.Native.Nat.{_+_, _≤_, _<_};
@@ -12,15 +13,24 @@ ghost use lib.ListN.{length, take};
 ghost use Rattle.text.specs.Bytes.{newline};
 ghost use Rattle.text.specs.Parts.{countBefore};
 ghost use Rattle.lines.specs.Reading.{longestLine};
-ghost use Rattle.lines.specs.Texts.{longestAnswer};
-ghost use Rattle.blocks.specs.Turns.{carried};
-ghost use Rattle.blocks.specs.Output.{lineTexts};
+ghost use Rattle.replies.specs.Texts.{longestAnswer};
+ghost use Rattle.stream.specs.Turns.{carried};
+ghost use Rattle.replies.specs.Output.{lineTexts};
 
 // After a step: the bytes held, whether there may be more, and whether reading and writing went well.
 struct Step {
     held: usize,
     more: bool,
     sound: bool,
+}
+
+// Writes answers to standard output, and says whether that went well; where it did not, a line on standard error tells.
+fn write_out(answers: &[u8]) -> bool {
+    let sound = io::write_all(STDOUT_FILENO, answers);
+    if !sound {
+        io::write_all(STDERR_FILENO, b"los: standard output can't be written\n");
+    }
+    sound
 }
 
 // Reads a piece behind the bytes held. There has to be room: nothing read is the end of the input.
@@ -52,19 +62,21 @@ fn read_more(buffer: &mut [u8], held: usize) -> Step
 fn advance(buffer: &mut [u8], held: usize, out: &mut [u8]) -> Step
     requires { ⌜ (held ≤ length (now buffer)) × ((longestLine + 2 ≤ length (now buffer)) × (longestAnswer ≤ length (now out))) ⌝ }
     ensures { λ r. ⌜ r .held ≤ length (now (buffer .entry)) ⌝ }
-    ensures kept { λ r. ⌜ take (length (carried lineTexts (length (now (out .entry))) (take held (now (buffer .entry))))) (take (r .held) (now (buffer .exit))) ≡ carried lineTexts (length (now (out .entry))) (take held (now (buffer .entry))) ⌝ }
+    ensures kept { λ r. ⌜ take (length (carried lineTexts (length (now (out .entry))) (take held (now (buffer .entry)))))
+        (take (r .held) (now (buffer .exit)))
+        ≡ carried lineTexts (length (now (out .entry))) (take held (now (buffer .entry))) ⌝ }
     ensures ended { λ r. ⌜ (r .more ≡ false → r .sound ≡ true → countBefore newline (take (r .held) (now (buffer .exit))) ≡ r .held) ⌝ }
 {
-    let turn = blocks::answer_turn(buffer, held, out);
+    let turn = block::answer_turn(buffer, held, out);
     let written = turn.written;
     if written == 0 {
         return read_more(buffer, turn.carried);
     }
-    let open = io::write_all(STDOUT_FILENO, &out[..written]);
+    let sound = write_out(&out[..written]);
     Step {
         held: turn.carried,
-        more: open,
-        sound: open,
+        more: sound,
+        sound,
     }
 }
 
@@ -89,8 +101,8 @@ fn run(buffer: &mut [u8], out: &mut [u8])
     if !sound {
         return;
     }
-    let written = blocks::answer_last(&buffer[..held], out);
-    io::write_all(STDOUT_FILENO, &out[..written]);
+    let written = block::answer_last(&buffer[..held], out);
+    write_out(&out[..written]);
 }
 
 fn main() {

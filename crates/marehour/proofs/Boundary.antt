@@ -2,25 +2,27 @@
 --   boundary-shown   each figure of the list is what is to be shown
 -- Assumes nothing.
 use mathlib.Core.Path.{_≡_, refl, ap, _∙_}
-use mathlib.Core.List.{[], _++_}
+use mathlib.Core.List.{[], _∷_, _++_}
 use Prim.Native.String.{_++_ as _then_}
 use Rattle.text.specs.Bytes.{bytesOf}
 use Rattle.text.specs.Parts.{onFirst, parts}
 use Rattle.text.specs.Decimal.{decimalUpTo, decimal, figuresText, rowText}
-use Rattle.method.specs.Boundary.{Shown, example}
-use Rattle.method.proofs.Boundary.{Shown-append}
-use Rattle.answer.specs.Answers.{answerTo, refusalNumber}
+use Rattle.checks.specs.Figures.{Shown}
+use Rattle.method.specs.Boundary.{example}
+use Rattle.checks.proofs.FigureLaws.{Shown-append}
+use Rattle.answer.specs.Answers as answers
+use Rattle.answer.specs.Answers.{answerTo}
 use Rattle.answer.specs.Boundary as answer
 use Rattle.answer.proofs.Boundary as answer-proofs
 use Rattle.survey.specs.Boundary.{surveyFigures}
 use Rattle.survey.proofs.Boundary.{survey-shown}
 use Rattle.lines.specs.declared.read.LineRead.the-variants as LineRead
 use Rattle.lines.specs.Fields.{layout, spelled, number, oneOf, letter, fieldAs, valuesOf}
-use Rattle.lines.specs.Reading.{caseOf, readValues, readLine}
-use Rattle.lines.specs.Texts.{refusalText, textOf, lineText}
-use Rattle.blocks.specs.Stream.{texts, lastLine, withoutEmptyLast, linesOf, outputOf}
-use Rattle.blocks.specs.Output.{lineTexts}
-use Rattle.lines.proofs.TextsLaws.{lineText-refused, lineText-case}
+use Rattle.lines.specs.Reading.{caseOf, readValues, readLine, refusalNumber, values}
+use Rattle.replies.specs.Texts.{refusalText, textOf, lineText}
+use Rattle.stream.specs.Stream.{texts, lastLine, withoutEmptyLast, linesOf, outputOf}
+use Rattle.replies.specs.Output.{lineTexts}
+use Rattle.replies.proofs.TextsLaws.{lineText-refused, lineText-case}
 use Rattle.marehour.specs.Boundary.{printedLine, printedAnswer, addedFigures, boundaryFigures}
 
 line-read : readLine (bytesOf printedLine) ≡ LineRead.Case example
@@ -29,7 +31,8 @@ line-read = refl
 
 line-shown : lineText (bytesOf printedLine) ≡ bytesOf printedAnswer
 unfolding decimalUpTo decimal figuresText rowText textOf
-line-shown = lineText-case (bytesOf printedLine) example line-read ∙ ap (textOf (refusalNumber (answerTo example))) answer-proofs.example-figures
+line-shown = lineText-case (bytesOf printedLine) example line-read
+    ∙ ap (textOf (answers.refusalNumber (answerTo example))) answer-proofs.example-figures
 
 -- an empty line, and a line of one field
 short-shown : (lineText [] ≡ refusalText 15) × (lineText (bytesOf "F") ≡ refusalText 15)
@@ -44,8 +47,10 @@ output-shown =
     ∙ ap (λ x. refusalText 15 ++ (bytesOf printedAnswer ++ (x ++ []))) (short-shown .1)
 
 added-shown : Shown addedFigures
-unfolding onFirst parts layout spelled number oneOf letter fieldAs valuesOf readValues readLine texts lastLine withoutEmptyLast linesOf outputOf addedFigures
-added-shown = (line-shown, (output-shown, (refl, (refl, (refl, (refl, (refl, (refl, tt))))))))
+unfolding onFirst parts layout spelled number oneOf letter fieldAs valuesOf readValues readLine texts lastLine withoutEmptyLast linesOf
+    outputOf addedFigures
+added-shown =
+    (line-shown, (output-shown, (refl, (ap (λ r. refusalNumber r ∷ values r) line-read, (refl, (refl, (refl, (refl, (refl, tt)))))))))
 
 pub boundary-shown : Shown boundaryFigures
 boundary-shown =

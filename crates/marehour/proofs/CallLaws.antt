@@ -2,15 +2,13 @@
 --   minus-fits, minus-is     minus a refusal's number
 --   handed-back              a number that another function handed back
 --   positive-is, positive-fits   a count or a speed
---   refused-pos, answerReply-graded, answerReply-refused     the reply to a case
---   lanes-refused-pos, countReply-found, countReply-refused   the reply to the lanes question
---   wrote-reply, refused-reply, same-reply   the result and the buffer, by what was done
---   inBuffer-short, inBuffer-fits   by the buffer's length
---   count-length, count-pos, count-written   the two bytes of a lane count
+--   Replied                  a call's result and its buffer afterwards are those of a reply
+--   wrote-reply, refused-reply   a reply that was written; a refusal
+--   call-short, call-refused, call-case   a call over a line that was read: a short buffer; no case; a case
+--   count-length, count-written   the two bytes of a lane count
 -- Assumes nothing.
 use mathlib.Core.Path.{_≡_, sym, ap, _∙_}
 use mathlib.Core.List.{List, [], _∷_}
-use mathlib.Core.Logic.{⊎-elim}
 use Prim.Native.Nat.{ℕ, zero, suc, _+_, _≤_, _<_}
 use native.Mathlib.Nat.{lt-of-le-of-lt}
 use native.Mathlib.Omega.{arith}
@@ -21,24 +19,15 @@ use lib.ListN.{length, set}
 use mir.Syntax.{w32}
 use mir.Val.{toZ, ofZ, SFits}
 use mir.ValLaws.{toZ-pos, toZ-ofZ}
-use Rattle.numbers.proofs.ChoiceLaws.{cond-pos, cond-cases}
 use Rattle.text.specs.Bytes.{newline}
-use Rattle.text.specs.Decimal.{decimal}
 use Rattle.text.specs.Buffer.{Wrote}
-use Rattle.text.proofs.WritingLaws.{decimal-small, first-byte, then-byte}
-use Rattle.method.specs.declared.case.Case.{Case}
-use Rattle.method.specs.Refusals.{firstRefusal, refusal}
-use Rattle.answer.specs.declared.evaluate.Grade.{Grade}
-use Rattle.answer.specs.declared.evaluate.Answer.{Answer}
-use Rattle.answer.specs.declared.evaluate.Answer.the-variants as Answer
-use Rattle.answer.specs.declared.lanes.LanesAnswer.{LanesAnswer}
-use Rattle.answer.specs.declared.lanes.LanesAnswer.the-variants as LanesAnswer
-use Rattle.answer.specs.Answers as answers
-use Rattle.answer.specs.Answers.{graded, answerTo}
-use Rattle.answer.specs.Lanes as lanes
-use Rattle.answer.specs.Lanes.{lanesFound, lanesRefusals, lanesAnswer}
-use Rattle.lines.specs.Texts.{answerText, longestAnswer}
-use Rattle.marehour.specs.Calls.{Reply, bytes, refusal as refusalReply, answerReply, countText, countReply, inBuffer, result, content}
+use Rattle.text.proofs.DigitLaws.{decimal-small}
+use Rattle.text.proofs.BufferLaws.{first-byte, then-byte}
+use Rattle.road.specs.declared.Case.{Case}
+use Rattle.lines.specs.declared.read.LineRead.{LineRead}
+use Rattle.lines.specs.declared.read.LineRead.the-variants as LineRead
+use Rattle.replies.specs.Texts.{longestAnswer}
+use Rattle.marehour.specs.Calls.{Reply, bytes, refusal, countText, lineReply, lineCall, result, content}
 
 -- ---- numbers in 32 bits
 small : (n : ℕ) → n ≤ 90000 → n < 2147483648
@@ -63,63 +52,48 @@ positive-is n h = toZ-pos w32 n (small n h)
 pub positive-fits : (n : ℕ) → n ≤ 90000 → SFits w32 (pos n)
 positive-fits n h = record { sfits = small n h }
 
--- ---- a case
-pub answerReply-graded : (case : Case) (g : Grade) → answerTo case ≡ Answer.Graded g → answerReply (answerTo case) ≡ bytes (answerText (Answer.Graded g))
-answerReply-graded case g e = ap answerReply e
+-- ---- the result and the buffer
+abbrev pub Replied : ℤ → List ℕ → Reply → List ℕ → Type 0
+Replied z new r old = (z ≡ result r) × (new ≡ content r old)
 
-pub refused-pos : (case : Case) (n : ℕ) → answerTo case ≡ Answer.Refused n → 0 < n
-refused-pos case n e =
-    ⊎-elim (λ z. absurd (omega (arith, ap (λ a. length (answers.values a)) (sym (z .1) ∙ e))))
-    (λ p. omega (arith, p .0, ap answers.refusalNumber (sym (p .1) ∙ e)))
-    (cond-cases (refusal case) (Answer.Graded (graded case)) (Answer.Refused (refusal case)))
-
-pub answerReply-refused : (case : Case) (n : ℕ) → answerTo case ≡ Answer.Refused n → answerReply (answerTo case) ≡ refusalReply n
-answerReply-refused case n e = ap answerReply e ∙ cond-pos n (bytes (answerText (Answer.Refused n))) (refusalReply n) (refused-pos case n e)
-
--- ---- the lanes question
-pub countReply-found : (case : Case) (letter count : ℕ) → lanesAnswer case letter ≡ LanesAnswer.Lanes count → countReply (lanesAnswer case letter) ≡ bytes (countText (count ∷ []))
-countReply-found case letter count e = ap countReply e
-
-pub lanes-refused-pos : (case : Case) (letter n : ℕ) → lanesAnswer case letter ≡ LanesAnswer.Refused n → 0 < n
-lanes-refused-pos case letter n e =
-    let number : ℕ = firstRefusal (lanesRefusals case letter) in
-    ⊎-elim (λ z. absurd (omega (arith, ap (λ a. length (lanes.values a)) (sym (z .1) ∙ e))))
-    (λ p. omega (arith, p .0, ap lanes.refusalNumber (sym (p .1) ∙ e)))
-    (cond-cases number (LanesAnswer.Lanes (lanesFound case letter)) (LanesAnswer.Refused number))
-
-pub countReply-refused : (case : Case) (letter n : ℕ) → lanesAnswer case letter ≡ LanesAnswer.Refused n → countReply (lanesAnswer case letter) ≡ refusalReply n
-countReply-refused case letter n e = ap countReply e ∙ cond-pos n (bytes (countText [])) (refusalReply n) (lanes-refused-pos case letter n e)
-
--- ---- the buffer
-pub wrote-reply : (bs old new : List ℕ) (n : ℕ) (r : Reply) → length bs ≤ 64 → Wrote bs 0 old new n → r ≡ bytes bs → (toZ w32 n ≡ result r) × (new ≡ content r old)
+pub wrote-reply : (bs old new : List ℕ) (n : ℕ) (r : Reply) → length bs ≤ 64 → Wrote bs 0 old new n → r ≡ bytes bs
+    → Replied (toZ w32 n) new r old
 wrote-reply bs old new n r h w e =
     let k : n ≡ length bs = w .ends ∙ omega arith in (
       positive-is n (omega arith) ∙ ap pos k ∙ sym (ap result e),
       w .content ∙ sym (ap (λ x. content x old) e),
     )
 
-pub refused-reply : (z : ℤ) (n : ℕ) (r : Reply) (old : List ℕ) → n ≤ 99 → z ≡ negℤ (pos n) → r ≡ refusalReply n → (toZ w32 (ofZ w32 z) ≡ result r) × (old ≡ content r old)
+pub refused-reply : (z : ℤ) (n : ℕ) (r : Reply) (old : List ℕ) → n ≤ 99 → z ≡ negℤ (pos n) → r ≡ refusal n
+    → Replied (toZ w32 (ofZ w32 z)) old r old
 refused-reply z n r old h e k = (handed-back z n h e ∙ sym (ap result k), sym (ap (λ x. content x old) k))
 
--- a result that another function handed back
-pub same-reply : (z : ℤ) (r s : Reply) (old new : List ℕ) → SFits w32 z → z ≡ result s → new ≡ content s old → r ≡ s → (toZ w32 (ofZ w32 z) ≡ result r) × (new ≡ content r old)
-same-reply z r s old new f e k h = (toZ-ofZ w32 z f ∙ e ∙ sym (ap result h), k ∙ sym (ap (λ x. content x old) h))
+-- ---- a call over a line that was read, whatever the reply to a case
+module _ (reply : Case → Reply) (r : LineRead) (old : List ℕ) where
+  fits : longestAnswer ≤ length old → lineCall reply r (length old) ≡ lineReply reply r
+  fits h = rw (le-ltb (length old) longestAnswer h)
 
-pub inBuffer-short : (room : ℕ) (r : Reply) → room < longestAnswer → inBuffer room r ≡ refusalReply 17
-inBuffer-short room r h = rw (lt-ltb room longestAnswer h)
+  pub call-short : (z : ℤ) → length old < longestAnswer → z ≡ negℤ (pos 17)
+      → Replied (toZ w32 (ofZ w32 z)) old (lineCall reply r (length old)) old
+  call-short z h e = refused-reply z 17 (lineCall reply r (length old)) old (omega arith) e (rw (lt-ltb (length old) longestAnswer h))
 
-pub inBuffer-fits : (room : ℕ) (r : Reply) → longestAnswer ≤ room → inBuffer room r ≡ r
-inBuffer-fits room r h = rw (le-ltb room longestAnswer h)
+  pub call-refused : (z : ℤ) (n : ℕ) → longestAnswer ≤ length old → n ≤ 99 → r ≡ LineRead.Refused n → z ≡ negℤ (pos n)
+      → Replied (toZ w32 (ofZ w32 z)) old (lineCall reply r (length old)) old
+  call-refused z n h k is e = refused-reply z n _ old k e (fits h ∙ ap (lineReply reply) is)
 
-pub count-length : (count : ℕ) → count ≤ 9 → length (countText (count ∷ [])) ≤ 64
+  -- the result and the buffer are those that another function left
+  pub call-case : (z : ℤ) (case : Case) (new : List ℕ) → longestAnswer ≤ length old → r ≡ LineRead.Case case → SFits w32 z
+      → Replied z new (reply case) old → Replied (toZ w32 (ofZ w32 z)) new (lineCall reply r (length old)) old
+  call-case z case new h is f (e, k) =
+      let same = fits h ∙ ap (lineReply reply) is in (toZ-ofZ w32 z f ∙ e ∙ sym (ap result same), k ∙ sym (ap (λ x. content x old) same))
+
+-- ---- a lane count
+pub count-length : (count : ℕ) → count ≤ 9 → length (countText (count ∷ [])) ≡ 2
 unfolding countText
-count-length count h = rw (decimal-small count (omega arith)) (omega arith)
+count-length count h = rw (decimal-small count (omega arith))
 
-pub count-pos : (count : ℕ) → count ≤ 9 → 0 < length (countText (count ∷ []))
-unfolding countText
-count-pos count h = rw (decimal-small count (omega arith)) (omega arith)
-
-pub count-written : (count : ℕ) (old : List ℕ) → count ≤ 9 → 64 ≤ length old → Wrote (countText (count ∷ [])) 0 old (set (set old 0 (48 + count)) 1 newline) 2
+pub count-written : (count : ℕ) (old : List ℕ) → count ≤ 9 → 64 ≤ length old
+    → Wrote (countText (count ∷ [])) 0 old (set (set old 0 (48 + count)) 1 newline) 2
 unfolding countText
 count-written count old h room =
     rw (decimal-small count (omega arith)) (then-byte newline (first-byte old 0 (48 + count) (omega arith)) (omega arith))

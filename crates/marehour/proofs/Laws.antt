@@ -1,68 +1,62 @@
 -- The law of specs/Laws, proved.
 --   replies-within-ends
 -- Assumes nothing.
-use mathlib.Core.Path.{_≡_, refl, ap, subst, sym}
 use mathlib.Core.Bool.{Bool, true, false, cond}
 use mathlib.Core.List.{List}
+use mathlib.Core.Path.{ap}
 use Prim.Native.Nat.{ℕ}
 use native.Mathlib.Omega.{arith}
 use lib.Dec.{ltb}
-use lib.ListN.{length}
-use Rattle.method.specs.declared.case.Case.{Case}
-use Rattle.answer.specs.declared.evaluate.Answer.{Answer}
+use Rattle.checks.specs.Refusals.{firstRefusal}
+use Rattle.checks.proofs.RefusalLaws.{unlessRefused-none, unlessRefused-by}
+use Rattle.road.specs.declared.Case.{Case}
+use Rattle.method.specs.Refusals.{refusal}
+use Rattle.method.proofs.RefusalLaws.{refusal-le}
 use Rattle.answer.specs.declared.evaluate.Answer.the-variants as Answer
-use Rattle.answer.specs.declared.lanes.LanesAnswer.{LanesAnswer}
 use Rattle.answer.specs.declared.lanes.LanesAnswer.the-variants as LanesAnswer
-use Rattle.answer.specs.Answers as answers
-use Rattle.answer.specs.Answers.{answerTo}
-use Rattle.answer.specs.Lanes as lanes
-use Rattle.answer.specs.Lanes.{lanesAnswer}
-use Rattle.answer.proofs.Laws.{refusals-within-ends, counts-are-digits}
-use Rattle.lines.specs.declared.read.LineRead.{LineRead}
-use Rattle.lines.specs.declared.read.LineRead.the-variants as LineRead
+use Rattle.answer.specs.Answers.{graded}
+use Rattle.answer.specs.Lanes.{lanesFound, lanesRefusals, values}
+use Rattle.answer.proofs.AnswerLaws.{answerTo-accepted}
+use Rattle.answer.proofs.Laws.{refusals-within-ends, counts-are-digits, lanesAnswer-number}
 use Rattle.lines.specs.Reading.{readLine}
-use Rattle.lines.specs.Texts.{longestAnswer, answerText, answerOf}
-use Rattle.lines.proofs.TextsLaws.{readLine-refused, answerText-le, answerText-pos}
-use Rattle.marehour.specs.Calls.{Reply, refusal, answerReply, countReply, lanesOf, inBuffer}
+use Rattle.lines.proofs.ReadingLaws.{readLine-by}
+use Rattle.replies.specs.Texts.{longestAnswer}
+use Rattle.replies.proofs.TextsLaws.{answerText-le, answerText-pos}
+use Rattle.marehour.specs.Calls.{Reply, refusal as refusalReply, answerReply, countReply, caseReply, lanesReply, lineReply, inBuffer}
+use Rattle.marehour.specs.Calls.{lineCall}
 use Rattle.marehour.specs.Laws.{WithinEnds, RepliesWithinEnds}
-use Rattle.marehour.proofs.CallLaws.{refused-pos, answerReply-graded, answerReply-refused, lanes-refused-pos, countReply-found, countReply-refused, count-length, count-pos}
+use Rattle.marehour.proofs.CallLaws.{count-length}
 
-answer-ends : (case : Case) → WithinEnds (answerReply (answerTo case))
-answer-ends case = go (answerTo case) refl
-  where
-    go : (a : Answer) → answerTo case ≡ a → WithinEnds (answerReply (answerTo case))
-    go (Answer.Graded g) e =
-        rw (answerReply-graded case g e) (answerText-pos (Answer.Graded g), omega (arith, answerText-le case, ap (λ a. length (answerText a)) e))
-    go (Answer.Refused n) e =
-        rw (answerReply-refused case n e) (refused-pos case n e, omega (arith, refusals-within-ends case 1 .0, ap answers.refusalNumber e))
+answer-ends : (case : Case) → WithinEnds (caseReply case)
+answer-ends case =
+    unlessRefused-by (refusal case) (Answer.Graded (graded case)) Answer.Refused (λ a. WithinEnds (answerReply a))
+    (λ z. (answerText-pos (Answer.Graded (graded case)), rw (answerTo-accepted case z) at (answerText-le case)))
+    (λ p. (p, omega (arith, refusal-le case)))
 
-count-ends : (case : Case) (letter : ℕ) → WithinEnds (countReply (lanesAnswer case letter))
-count-ends case letter = go (lanesAnswer case letter) refl
-  where
-    go : (a : LanesAnswer) → lanesAnswer case letter ≡ a → WithinEnds (countReply (lanesAnswer case letter))
-    go (LanesAnswer.Lanes count) e =
-        let digit = counts-are-digits case letter count (ap lanes.values e) in
-        rw (countReply-found case letter count e) (count-pos count digit, count-length count digit)
-    go (LanesAnswer.Refused n) e =
-        rw (countReply-refused case letter n e) (lanes-refused-pos case letter n e, omega (arith, refusals-within-ends case letter .1, ap lanes.refusalNumber e))
+count-ends : (letter : ℕ) (case : Case) → WithinEnds (lanesReply letter case)
+count-ends letter case =
+    let number : ℕ = firstRefusal (lanesRefusals case letter) in
+    let found = LanesAnswer.Lanes (lanesFound case letter) in
+    unlessRefused-by number found LanesAnswer.Refused (λ a. WithinEnds (countReply a))
+    (λ z. let long = count-length _
+    (counts-are-digits case letter _ (ap values (unlessRefused-none number found LanesAnswer.Refused z))) in (omega arith, omega arith))
+    (λ p. (p, omega (arith, refusals-within-ends case letter .1, lanesAnswer-number case letter)))
 
 in-buffer : (room : ℕ) (r : Reply) → WithinEnds r → WithinEnds (inBuffer room r)
 in-buffer room r h = go (ltb room longestAnswer)
   where
-    go : (b : Bool) → WithinEnds (cond b (refusal 17) r)
+    go : (b : Bool) → WithinEnds (cond b (refusalReply 17) r)
     go true = (omega arith, omega arith)
     go false = h
 
 -- a line is a case, or is refused with 15
-by-read : (P : LineRead → Type 0) → ((case : Case) → P (LineRead.Case case)) → P (LineRead.Refused 15) → (line : List ℕ) → P (readLine line)
-by-read P case malformed line = go (readLine line) refl
-  where
-    go : (r : LineRead) → readLine line ≡ r → P (readLine line)
-    go (LineRead.Case c) e = subst P (sym e) (case c)
-    go (LineRead.Refused n) e = rw (e, readLine-refused line n e) malformed
+of-line : (reply : Case → Reply) → ((case : Case) → WithinEnds (reply case)) → (line : List ℕ) (room : ℕ)
+    → WithinEnds (lineCall reply (readLine line) room)
+of-line reply ends line room =
+    in-buffer room _ (readLine-by (λ r. WithinEnds (lineReply reply r)) ends (omega arith, omega arith) line)
 
 pub replies-within-ends : RepliesWithinEnds
 replies-within-ends line letter room = (
-  in-buffer room _ (by-read (λ r. WithinEnds (answerReply (answerOf r))) answer-ends (omega arith, omega arith) line),
-  in-buffer room _ (by-read (λ r. WithinEnds (countReply (lanesOf r letter))) (λ c. count-ends c letter) (omega arith, omega arith) line),
+  of-line caseReply answer-ends line room,
+  of-line (lanesReply letter) (count-ends letter) line room,
 )

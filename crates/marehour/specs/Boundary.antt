@@ -5,16 +5,17 @@
 --   addedFigures          what this layer adds
 --   boundaryFigures       the list
 -- Assumes nothing.
+use Prim.Native.Nat.{ℕ}
 use Prim.Native.String.{String, _++_ as _then_}
 use mathlib.Core.List.{List, [], _∷_, _++_}
 use Rattle.text.specs.Bytes.{bytesOf}
-use Rattle.method.specs.Boundary.{Figure, figure}
+use Rattle.checks.specs.Figures.{Figure, figure}
 use Rattle.answer.specs.Boundary as answer
 use Rattle.survey.specs.Boundary.{surveyFigures}
-use Rattle.lines.specs.Reading.{readLine, refusalNumber}
-use Rattle.lines.specs.Texts.{lineText}
-use Rattle.blocks.specs.Stream.{outputOf}
-use Rattle.blocks.specs.Output.{lineTexts}
+use Rattle.lines.specs.Reading.{readLine, refusalNumber, values}
+use Rattle.replies.specs.Texts.{lineText}
+use Rattle.stream.specs.Stream.{outputOf}
+use Rattle.replies.specs.Output.{lineTexts}
 
 -- tabs as blanks: F E 75400 110 20 0 D 24 2 V 920 50, and the terrain
 abbrev pub printedLineWith : String → String → String
@@ -23,21 +24,28 @@ printedLineWith demand terrain = "F\tE\t75400\t110\t20\t0\tD\t24\t2\t" then (dem
 abbrev pub printedLine : String
 printedLine = printedLineWith "2000" "R"
 
+-- the number of the refusal of a line, 0 for none, and its values
+abbrev readAs : String → List ℕ
+readAs line = refusalNumber (readLine (bytesOf line)) ∷ values (readLine (bytesOf line))
+
 abbrev pub printedAnswer : String
 printedAnswer = "C\t60783\t230783\t1196\t60783\t197\t1117\t1829\t2642\t3360\t3858\n"
 
 -- Starred: the printed line. Not starred: what is printed for it between an empty line and a last line without newline; an empty input;
--- the line with a leading zero, six digits and an empty field as its demand, with a 14th field, and with an unknown terrain.
+-- its 13 values, letters by their bytes; the line with a leading zero, six digits and an empty field as its demand, with a 14th field, and
+-- with
+-- an unknown terrain.
 unfoldable pub addedFigures : List Figure
 addedFigures =
     figure (lineText (bytesOf printedLine)) (bytesOf printedAnswer)
     ∷ figure (outputOf lineTexts (bytesOf ("\n" then (printedLine then "\nF")))) (bytesOf ("X\t15\n" then (printedAnswer then "X\t15\n")))
     ∷ figure (outputOf lineTexts (bytesOf "")) (bytesOf "")
-    ∷ figure (refusalNumber (readLine (bytesOf (printedLineWith "02000" "R"))) ∷ []) (15 ∷ [])
-    ∷ figure (refusalNumber (readLine (bytesOf (printedLineWith "100000" "R"))) ∷ []) (15 ∷ [])
-    ∷ figure (refusalNumber (readLine (bytesOf (printedLineWith "" "R"))) ∷ []) (15 ∷ [])
-    ∷ figure (refusalNumber (readLine (bytesOf (printedLine then "\t"))) ∷ []) (15 ∷ [])
-    ∷ figure (refusalNumber (readLine (bytesOf (printedLineWith "2000" "M"))) ∷ []) (15 ∷ [])
+    ∷ figure (readAs printedLine) (0 ∷ 70 ∷ 69 ∷ 75400 ∷ 110 ∷ 20 ∷ 0 ∷ 68 ∷ 24 ∷ 2 ∷ 2000 ∷ 920 ∷ 50 ∷ 82 ∷ [])
+    ∷ figure (readAs (printedLineWith "02000" "R")) (15 ∷ [])
+    ∷ figure (readAs (printedLineWith "100000" "R")) (15 ∷ [])
+    ∷ figure (readAs (printedLineWith "" "R")) (15 ∷ [])
+    ∷ figure (readAs (printedLine then "\t")) (15 ∷ [])
+    ∷ figure (readAs (printedLineWith "2000" "M")) (15 ∷ [])
     ∷ []
 
 abbrev pub boundaryFigures : List Figure

@@ -5,7 +5,7 @@
 use Prim.Native.Nat.{ℕ, _≤_}
 use mathlib.Core.List.{List}
 use lib.ListN.{length}
-use Rattle.lines.specs.Texts.{longestAnswer}
+use Rattle.replies.specs.Texts.{longestAnswer}
 use Rattle.marehour.specs.Calls.{Reply, bytes, refusal, answerCall, lanesCall}
 
 abbrev pub WithinEnds : Reply → Type 0

@@ -7,17 +7,15 @@ use answer::lanes;
 use answer::lanes::LanesAnswer;
 use lines::read;
 use lines::read::LineRead;
-use lines::write;
-use lines::write::LONGEST_ANSWER;
-use method::case::Case;
+use replies::write;
+use replies::write::LONGEST_ANSWER;
+use road::Case;
 ghost use mathlib.Core.Path.{_≡_};
 ghost use Prim.Native.Nat.{_≤_};
 ghost use lib.IntN.{pos, negℤ};
 ghost use lib.ListN.{length};
-ghost use Rattle.answer.specs.Answers.{answerTo};
-ghost use Rattle.answer.specs.Lanes.{lanesAnswer};
-ghost use Rattle.lines.specs.Texts.{longestAnswer};
-ghost use Rattle.marehour.specs.Calls.{answerReply, countReply, answerCall, lanesCall, result, content};
+ghost use Rattle.replies.specs.Texts.{longestAnswer};
+ghost use Rattle.marehour.specs.Calls.{caseReply, lanesReply, answerCall, lanesCall, result, content};
 
 pub const BUFFER_TOO_SHORT: u64 = 17;
 
@@ -33,20 +31,23 @@ pub(crate) fn refused(number: u64) -> i32
 
 fn answer_case(case: Case, answer: &mut [u8]) -> i32
     requires { ⌜ longestAnswer ≤ length (now answer) ⌝ }
-    ensures result { λ r. ⌜ r ≡ result (answerReply (answerTo case)) ⌝ }
-    ensures buffer { λ _. ⌜ now (answer .exit) ≡ content (answerReply (answerTo case)) (now (answer .entry)) ⌝ }
+    ensures result { λ r. ⌜ r ≡ result (caseReply case) ⌝ }
+    ensures buffer { λ _. ⌜ now (answer .exit) ≡ content (caseReply case) (now (answer .entry)) ⌝ }
 {
     let found = evaluate::evaluate(case);
     match found {
-        Answer::Graded(grade) => write::write_grade(grade, answer, 0) as i32,
+        Answer::Graded(grade) => {
+            let written = write::write_grade(grade, answer, 0);
+            written as i32
+        }
         Answer::Refused(number) => refused(number),
     }
 }
 
 fn lanes_case(case: Case, letter: u64, answer: &mut [u8]) -> i32
     requires { ⌜ longestAnswer ≤ length (now answer) ⌝ }
-    ensures result { λ r. ⌜ r ≡ result (countReply (lanesAnswer case letter)) ⌝ }
-    ensures buffer { λ _. ⌜ now (answer .exit) ≡ content (countReply (lanesAnswer case letter)) (now (answer .entry)) ⌝ }
+    ensures result { λ r. ⌜ r ≡ result (lanesReply letter case) ⌝ }
+    ensures buffer { λ _. ⌜ now (answer .exit) ≡ content (lanesReply letter case) (now (answer .entry)) ⌝ }
 {
     let found = lanes::lanes_needed(case, letter);
     match found {
@@ -62,7 +63,8 @@ fn lanes_case(case: Case, letter: u64, answer: &mut [u8]) -> i32
 #[no_mangle]
 pub extern "C" fn marehour_answer(line: &[u8], answer: &mut [u8]) -> i32
     ensures result { λ r. ⌜ r ≡ result (answerCall (now (line .entry)) (length (now (answer .entry)))) ⌝ }
-    ensures buffer { λ _. ⌜ now (answer .exit) ≡ content (answerCall (now (line .entry)) (length (now (answer .entry)))) (now (answer .entry)) ⌝ }
+    ensures buffer { λ _. ⌜ now (answer .exit)
+        ≡ content (answerCall (now (line .entry)) (length (now (answer .entry)))) (now (answer .entry)) ⌝ }
 {
     if answer.len() < ANSWER_SIZE {
         return refused(BUFFER_TOO_SHORT);
@@ -77,7 +79,8 @@ pub extern "C" fn marehour_answer(line: &[u8], answer: &mut [u8]) -> i32
 #[no_mangle]
 pub extern "C" fn marehour_lanes(line: &[u8], letter: u32, answer: &mut [u8]) -> i32
     ensures result { λ r. ⌜ r ≡ result (lanesCall (now (line .entry)) letter (length (now (answer .entry)))) ⌝ }
-    ensures buffer { λ _. ⌜ now (answer .exit) ≡ content (lanesCall (now (line .entry)) letter (length (now (answer .entry)))) (now (answer .entry)) ⌝ }
+    ensures buffer { λ _. ⌜ now (answer .exit)
+        ≡ content (lanesCall (now (line .entry)) letter (length (now (answer .entry)))) (now (answer .entry)) ⌝ }
 {
     if answer.len() < ANSWER_SIZE {
         return refused(BUFFER_TOO_SHORT);

@@ -1,48 +1,63 @@
 -- What a case gets, or its refusal (specs/Assess).
---   assessment-accepted   an accepted case gets its measures
 --   assessment-refusal    its number is the case's refusal
---   assessment-measured   a case that is found with measures is accepted, and they are its own
---   assessment-number     a case that is found with a number has that refusal
---   assessment-refused    a case that is checked and refused gets that number
+--   assessed, assessment-checked   what is made of a case that was checked
+--   case-readied          an accepted case with its load, the terms of the curve found and a table
+--   case-ready, case-load   what they are ready for
 -- Assumes nothing.
-use mathlib.Core.Path.{_≡_, sym, ap, _∙_}
-use mathlib.Core.Logic.{_⊎_, ⊎-elim}
-use Prim.Native.Nat.{ℕ, _<_}
-use native.Mathlib.Omega.{arith}
-use Rattle.numbers.proofs.ChoiceLaws.{cond-zero, cond-pos, cond-cases}
-use Rattle.method.specs.declared.case.Case.{Case}
-use Rattle.method.specs.declared.curve.Checked.the-variants as Checked
-use Rattle.method.specs.declared.assess.Measures.{Measures}
+use mathlib.Core.Path.{_≡_, refl, sym, ap, _∙_, subst}
+use mathlib.Core.List.{List}
+use Prim.Native.Nat.{ℕ}
+use Rattle.checks.proofs.RefusalLaws.{unlessRefused-number, unlessRefused-map}
+use Rattle.curve.specs.declared.Curve.{Curve}
+use Rattle.curve.specs.declared.speed.CurveTerms.{CurveTerms}
+use Rattle.curve.specs.Terms.{curveTerms, TableFor, Ready}
+use Rattle.curve.proofs.TermsLaws.{curveTerms-prepared}
+use Rattle.road.specs.declared.Case.{Case}
+use Rattle.method.specs.declared.flow.Load.{Load}
+use Rattle.method.specs.declared.checked.Checked.{Checked}
+use Rattle.method.specs.declared.checked.Checked.the-variants as Checked
+use Rattle.method.specs.declared.assess.Assessment.{Assessment}
 use Rattle.method.specs.declared.assess.Assessment.the-variants as Assessment
 use Rattle.method.specs.Refusals.{refusal, Accepted}
-use Rattle.method.specs.Curves.{checked}
-use Rattle.method.specs.Assess.{measures, assessment, refusalNumber}
-use Rattle.method.proofs.CurveLaws.{checked-refused}
-
-pub assessment-accepted : (case : Case) → Accepted case → assessment case ≡ Assessment.Measured (measures case)
-assessment-accepted case a = cond-zero (refusal case) (Assessment.Measured (measures case)) (Assessment.Refused (refusal case)) a
-
-refused : (case : Case) → 0 < refusal case → assessment case ≡ Assessment.Refused (refusal case)
-refused case p = cond-pos (refusal case) (Assessment.Measured (measures case)) (Assessment.Refused (refusal case)) p
-
-cases : (case : Case)
-    → ((refusal case ≡ 0) × (assessment case ≡ Assessment.Measured (measures case))) ⊎ ((0 < refusal case) × (assessment case ≡ Assessment.Refused (refusal case)))
-cases case = cond-cases (refusal case) (Assessment.Measured (measures case)) (Assessment.Refused (refusal case))
+use Rattle.method.specs.Checked.{caseCurve, checked}
+use Rattle.method.specs.Flow.{loadOf, LoadFits}
+use Rattle.method.specs.Assess.{measures, assessment, refusalNumber, CaseReady}
+use Rattle.method.proofs.RefusalLaws.{accepted-fields}
+use Rattle.method.proofs.CheckedLaws.{caseCurve-wellFormed, caseCurve-sized, caseCurve-kind, checked-accepted}
+use Rattle.method.proofs.FlowLaws.{caseLoad-fits}
 
 pub assessment-refusal : (case : Case) → refusalNumber (assessment case) ≡ refusal case
-assessment-refusal case = ⊎-elim (λ a. ap refusalNumber (a .1) ∙ sym (a .0)) (λ r. ap refusalNumber (r .1)) (cases case)
+assessment-refusal case =
+    unlessRefused-number (refusal case) (Assessment.Measured (measures case)) Assessment.Refused refusalNumber refl (λ k. refl)
 
-pub assessment-refused : (case : Case) (n : ℕ) → checked case ≡ Checked.Refused n → assessment case ≡ Assessment.Refused n
-assessment-refused case n e =
-    let r : (0 < n) × (n ≡ refusal case) = checked-refused case n e in
-    refused case (omega arith) ∙ ap Assessment.Refused (sym (r .1))
+abbrev pub assessed : Case → Checked → Assessment
+assessed case (Checked.Accepted curve) = Assessment.Measured (measures case)
+assessed case (Checked.Refused n) = Assessment.Refused n
 
-pub assessment-measured : (case : Case) (m : Measures) → assessment case ≡ Assessment.Measured m → Accepted case × (m ≡ measures case)
-assessment-measured case m e =
-    ⊎-elim (λ a. (a .0, cc (a .1, e))) (λ r. absurd (let o : _≡_ {A = ℕ} 0 1 = cc (r .1, e) in omega arith)) (cases case)
+pub assessment-checked : (case : Case) → assessed case (checked case) ≡ assessment case
+assessment-checked case = unlessRefused-map (refusal case) (Checked.Accepted (caseCurve case)) Checked.Refused (assessed case)
 
-pub assessment-number : (case : Case) (n : ℕ) → assessment case ≡ Assessment.Refused n → (0 < n) × (n ≡ refusal case)
-assessment-number case n e =
-    ⊎-elim (λ a. absurd (let o : _≡_ {A = ℕ} 0 1 = cc (a .1, e) in omega arith))
-    (λ r. let same : n ≡ refusal case = cc (r .1, e) in (omega (arith, r .0), same))
-    (cases case)
+pub case-readied : (case : Case) (curve : Curve) (load : Load) (terms : CurveTerms) (table : List ℕ)
+    → checked case ≡ Checked.Accepted curve → load ≡ loadOf case (case .lanes) → terms ≡ curveTerms curve → TableFor (curve .kind) table
+    → CaseReady case load terms table
+case-readied case curve load terms table e l t f =
+    let found = checked-accepted case curve e in
+    record {
+      accepted = found .0;
+      own-load = l;
+      own-terms = t ∙ ap curveTerms (found .1);
+      read = subst (λ k. TableFor k table) (ap (λ c. c .kind) (found .1) ∙ caseCurve-kind case) f;
+    }
+
+module _ (case : Case) (load : Load) (terms : CurveTerms) (table : List ℕ) (r : CaseReady case load terms table) where
+  pub case-ready : Ready terms table
+  unfolding curveTerms
+  case-ready =
+      record {
+        prepared = rw (r .own-terms)
+            (curveTerms-prepared (caseCurve case) (caseCurve-wellFormed case (r .accepted)) (caseCurve-sized case (r .accepted)));
+        read = rw (r .own-terms) (subst (λ k. TableFor k table) (sym (caseCurve-kind case)) (r .read));
+      }
+
+  pub case-load : LoadFits load
+  case-load = rw (r .own-load) (caseLoad-fits case (accepted-fields case (r .accepted)))

@@ -1,29 +1,28 @@
 -- The boundary sections (specs/Boundary), shown.
 --   boundary-shown   each figure of the list is what is to be shown
---   Shown-append     a longer list: what the layers above add
+--   ramp-6, ramp-24   two entries of the ramp table
 -- Assumes nothing.
 use mathlib.Core.Path.{_≡_, refl}
-use mathlib.Core.List.{List, [], _∷_, _++_}
 use native.Mathlib.Omega.{arith}
 use Rattle.numbers.specs.Division.{divUp}
 use Rattle.numbers.specs.Search.{startsAt, endsAt}
+use Rattle.checks.specs.Figures.{Shown}
 use Rattle.powers.specs.Power.{reachesPower, power}
 use Rattle.powers.proofs.PowerLaws.{power-eq}
-use Rattle.method.specs.Adjustments.{laneWidthAdjustment, perMissingFoot, rightClearanceAdjustment, totalClearance, twoLaneRow, totalClearanceAdjustment, accessAdjustment}
-use Rattle.method.specs.RampTerm.{rampAtMost, rampTerm}
-use Rattle.method.specs.FreeFlowSpeed.{estimatedBy, uncappedBy, freeFlowSpeed}
-use Rattle.method.specs.Refusals.{roadRefusals, loadRefusals, fieldRefusals, speedRefusals, refusals}
-use Rattle.method.specs.Curves.{capacity, breakpoint, curveAt, curveOf}
+use Rattle.curve.specs.Curves.{capacity, breakpoint, curveAt}
+use Rattle.curve.specs.Speed.{fallShareBy, speed, shownSpeed}
+use Rattle.curve.specs.Service.{density, shownDensity, densityLimit, densityLetter, letterAt, performance}
+use Rattle.road.specs.Adjustments.{laneWidthAdjustment, perMissingFoot, rightClearanceAdjustment, totalClearance, twoLaneRow}
+use Rattle.road.specs.Adjustments.{totalClearanceAdjustment, accessAdjustment}
+use Rattle.road.specs.RampTerm.{rampAtMost, rampTerm}
+use Rattle.road.specs.FreeFlowSpeed.{estimatedBy, uncappedBy, freeFlowSpeed}
+use Rattle.road.specs.Refusals.{roadRefusals, loadRefusals, fieldRefusals}
+use Rattle.road.proofs.RampLaws.{rampTerm-eq}
+use Rattle.method.specs.Refusals.{speedRefusals, refusals}
+use Rattle.method.specs.Checked.{curveOf}
 use Rattle.method.specs.Flow.{heavyFactor, flowRate}
-use Rattle.method.specs.Speed.{fallShareBy, speed, shownSpeed}
-use Rattle.method.specs.Service.{density, shownDensity, densityLetter, letterAt, performance}
 use Rattle.method.specs.Assess.{measures}
-use Rattle.method.specs.Boundary.{Figure, Shown, boundaryFigures}
-use Rattle.method.proofs.RampLaws.{rampTerm-eq}
-
-pub Shown-append : (fs gs : List Figure) → Shown fs → Shown gs → Shown (fs ++ gs)
-Shown-append [] gs s t = t
-Shown-append (f ∷ fs) gs s t = (s .0, Shown-append fs gs (s .1) t)
+use Rattle.method.specs.Boundary.{boundaryFigures}
 
 pub ramp-6 : rampTerm 6 ≡ 3220
 unfolding endsAt rampAtMost
@@ -46,7 +45,10 @@ unfolding startsAt reachesPower
 power-1000 = power-eq 1000 1000000 (omega arith) tt
 
 pub boundary-shown : Shown boundaryFigures
-unfolding divUp laneWidthAdjustment perMissingFoot rightClearanceAdjustment totalClearance twoLaneRow totalClearanceAdjustment accessAdjustment estimatedBy uncappedBy freeFlowSpeed roadRefusals loadRefusals fieldRefusals speedRefusals refusals capacity breakpoint curveAt curveOf heavyFactor flowRate fallShareBy speed shownSpeed density shownDensity densityLetter letterAt performance measures boundaryFigures
+unfolding divUp laneWidthAdjustment perMissingFoot rightClearanceAdjustment totalClearance twoLaneRow totalClearanceAdjustment
+    accessAdjustment estimatedBy uncappedBy freeFlowSpeed roadRefusals loadRefusals fieldRefusals speedRefusals refusals capacity breakpoint
+    curveAt curveOf heavyFactor flowRate fallShareBy speed shownSpeed density shownDensity densityLimit densityLetter letterAt performance
+    measures boundaryFigures
 boundary-shown = (
   simp ramp-24,
   (
@@ -67,13 +69,7 @@ boundary-shown = (
                   simp power-500,
                   (
                     simp power-500,
-                    (
-                      refl,
-                      (
-                        refl,
-                        (refl, (refl, (simp power-1000, (refl, tt)))),
-                      ),
-                    ),
+                    (refl, (refl, (refl, (refl, (simp power-1000, (refl, (refl, (refl, tt)))))))),
                   ),
                 ),
               ),

@@ -3,31 +3,34 @@
 --   assessment case   its measures, or the number of the first of 1 to 10 that refuses it
 --   refusalNumber a   the number of the refusal, 0 where there is none
 --   values a          letter, F, c, v, speed and density; of a refusal no value
+--   CaseReady case load terms table   an accepted case, its load, the terms of its curve, and the table of powers that its kind reads
 -- Assumes nothing.
 use Prim.Native.Nat.{ℕ}
-use mathlib.Core.Bool.{cond}
+use mathlib.Core.Path.{_≡_}
 use mathlib.Core.List.{List, [], _∷_}
-use lib.Dec.{eqb}
-use Rattle.method.specs.declared.case.Case.{Case}
+use Rattle.checks.specs.Refusals.{unlessRefused}
+use Rattle.curve.specs.declared.speed.CurveTerms.{CurveTerms}
+use Rattle.curve.specs.Terms.{curveTerms, TableFor}
+use Rattle.curve.specs.Service.{letterNumber, performance}
+use Rattle.road.specs.declared.Case.{Case}
+use Rattle.method.specs.declared.flow.Load.{Load}
 use Rattle.method.specs.declared.assess.Measures.{Measures}
 use Rattle.method.specs.declared.assess.Assessment.{Assessment}
 use Rattle.method.specs.declared.assess.Assessment.the-variants as Assessment
-use Rattle.method.specs.Refusals.{refusal}
-use Rattle.method.specs.Curves.{curveOf}
-use Rattle.method.specs.Flow.{flowRate}
-use Rattle.method.specs.Service.{letterNumber, performance}
+use Rattle.method.specs.Refusals.{refusal, Accepted}
+use Rattle.method.specs.Checked.{caseCurve}
+use Rattle.method.specs.Flow.{loadOf, caseFlowRate}
 
 unfoldable pub measures : Case → Measures
 measures case =
     record {
-      curve = curveOf (case .road) (case .lanes);
-      «flow_rate» = flowRate case;
-      performance = performance (curveOf (case .road) (case .lanes)) (flowRate case);
+      curve = caseCurve case;
+      «flow_rate» = caseFlowRate case;
+      performance = performance (caseCurve case) (caseFlowRate case);
     }
 
--- "Every refusal hands back its number and nothing else"
 abbrev pub assessment : Case → Assessment
-assessment case = cond (eqb (refusal case) 0) (Assessment.Measured (measures case)) (Assessment.Refused (refusal case))
+assessment case = unlessRefused (refusal case) (Assessment.Measured (measures case)) Assessment.Refused
 
 abbrev pub refusalNumber : Assessment → ℕ
 refusalNumber (Assessment.Measured m) = 0
@@ -40,3 +43,9 @@ values (Assessment.Measured m) =
     ∷ m .performance .density
     ∷ []
 values (Assessment.Refused n) = []
+
+pub record CaseReady (case : Case) (load : Load) (terms : CurveTerms) (table : List ℕ) : Type 0 where
+  pub accepted : Accepted case
+  pub own-load : load ≡ loadOf case (case .lanes)
+  pub own-terms : terms ≡ curveTerms (caseCurve case)
+  pub read : TableFor (case .road .kind) table

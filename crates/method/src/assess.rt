@@ -1,21 +1,23 @@
 // From a case to what it gets, or to its refusal.
-//   Measures     the curve of an accepted case, its flow rate, and what that gets on the curve
-//   Assessment   measures or a refusal
-//   assess       for any case at all
-use crate::case::Case;
-use crate::curve;
-use crate::curve::Checked;
-use crate::curve::Curve;
+//   Measures        the curve of an accepted case, its flow rate, and what that gets on the curve
+//   Assessment      measures or a refusal
+//   measures_with   the measures of an accepted case, from its load and the terms of its curve
+//   assess          for any case at all
+use crate::checked;
+use crate::checked::Checked;
 use crate::flow;
-use crate::service;
-use crate::service::Performance;
-use crate::speed;
-use crate::speed::CurveTerms;
+use crate::flow::Load;
+use curve::Curve;
+use curve::kind::Kind;
+use curve::service;
+use curve::service::Performance;
+use curve::speed;
+use curve::speed::CurveTerms;
+use road::Case;
 ghost use mathlib.Core.Path.{_≡_};
-ghost use Rattle.method.specs.Curves.{curveOf};
-ghost use Rattle.method.specs.Refusals.{Accepted};
-ghost use Rattle.method.specs.Terms.{curveTerms};
-ghost use Rattle.method.specs.Assess.{measures, assessment};
+ghost use Rattle.method.specs.declared.checked.Checked.the-variants as Checked;
+ghost use Rattle.method.specs.Checked.{checked};
+ghost use Rattle.method.specs.Assess.{CaseReady, measures, assessment};
 
 pub struct Measures {
     pub curve: Curve,
@@ -28,25 +30,43 @@ pub enum Assessment {
     Refused(u64),
 }
 
-fn measured(case: Case, terms: CurveTerms) -> Measures
-    requires { ⌜ Accepted case × (terms ≡ curveTerms (curveOf (case .road) (case .lanes))) ⌝ }
+// From the case's load, the terms of its curve and the table of powers that its kind reads.
+pub fn measures_with(case: Case, load: Load, terms: CurveTerms, table: &[u32]) -> Measures
+    requires { ⌜ CaseReady case load terms (now table) ⌝ }
     ensures { λ r. ⌜ r ≡ measures case ⌝ }
 {
     let curve = terms.curve;
-    let flow_rate = flow::flow_rate(case);
+    let flow_rate = flow::flow_rate(load, case.demand);
     Measures {
         curve,
         flow_rate,
-        performance: service::performance_at(terms, flow_rate),
+        performance: service::performance_at(terms, table, flow_rate),
+    }
+}
+
+// From the case's curve.
+fn measures_of(case: Case, curve: Curve) -> Measures
+    requires { ⌜ checked case ≡ Checked.Accepted curve ⌝ }
+    ensures { λ r. ⌜ r ≡ measures case ⌝ }
+{
+    let load = flow::load_of(case, case.lanes);
+    let terms = speed::curve_terms(curve);
+    let kind = curve.kind;
+    match kind {
+        Kind::Freeway => measures_with(case, load, terms, &[]),
+        Kind::Multilane => {
+            let table = powers::power_table();
+            measures_with(case, load, terms, &table)
+        }
     }
 }
 
 pub fn assess(case: Case) -> Assessment
     ensures { λ r. ⌜ r ≡ assessment case ⌝ }
 {
-    let checked = curve::check(case);
+    let checked = checked::check(case);
     match checked {
-        Checked::Accepted(curve) => { Assessment::Measured(measured(case, speed::terms_of(curve))) }
+        Checked::Accepted(curve) => Assessment::Measured(measures_of(case, curve)),
         Checked::Refused(number) => Assessment::Refused(number),
     }
 }

@@ -1,12 +1,21 @@
 // Flow rate, in whole passenger cars per hour per lane.
-//   heavy_factor   the factor for heavy vehicles
-//   flow_rate      of a case that none of 1 to 9 refuses
-use crate::case::Case;
-use crate::case::Terrain;
+//   Load        what a demand is worked with
+//   load_of     the load of a case with a lane count
+//   flow_rate   of a demand
+use road::Case;
+use road::Terrain;
 ghost use mathlib.Core.Path.{_≡_};
 ghost use Prim.Native.Nat.{_≤_};
-ghost use Rattle.method.specs.Refusals.{firstRefusal, fieldRefusals};
-ghost use Rattle.method.specs.Flow.{truckEquivalent, heavyFactor, flowRate};
+ghost use Rattle.road.specs.Cases.{withLanes};
+ghost use Rattle.road.specs.Refusals.{greatestDemand, FieldsFit};
+ghost use Rattle.method.specs.Flow.{truckEquivalent, loadOf, flowRate, LoadFits};
+
+pub struct Load {
+    // what a vehicle counts for, thousandths of a passenger car
+    pub heavy_factor: u64,
+    // H x N
+    pub divisor: u64,
+}
 
 fn truck_equivalent(terrain: Terrain) -> u64
     ensures { λ r. ⌜ r ≡ truckEquivalent terrain ⌝ }
@@ -17,21 +26,20 @@ fn truck_equivalent(terrain: Terrain) -> u64
     }
 }
 
-// What one vehicle of the demand counts for, in thousandths of a passenger car.
-pub fn heavy_factor(case: Case) -> u64
-    requires { ⌜ case .«heavy_share» ≤ 1000 ⌝ }
-    ensures { λ r. ⌜ r ≡ heavyFactor case ⌝ }
+pub fn load_of(case: Case, lanes: u64) -> Load
+    requires { ⌜ FieldsFit (withLanes case lanes) ⌝ }
+    ensures { λ r. ⌜ r ≡ loadOf case lanes ⌝ }
 {
     let terrain = case.terrain;
-    1_000 + case.heavy_share * (truck_equivalent(terrain) - 1)
+    Load {
+        heavy_factor: 1_000 + case.heavy_share * (truck_equivalent(terrain) - 1),
+        divisor: case.peak_hour_factor * lanes,
+    }
 }
 
-pub fn flow_rate(case: Case) -> u64
-    requires { ⌜ firstRefusal (fieldRefusals case) ≡ 0 ⌝ }
-    ensures { λ r. ⌜ r ≡ flowRate case ⌝ }
+pub fn flow_rate(load: Load, demand: u64) -> u64
+    requires { ⌜ LoadFits load × (demand ≤ greatestDemand) ⌝ }
+    ensures { λ r. ⌜ r ≡ flowRate load demand ⌝ }
 {
-    numbers::div_up(
-        case.demand * heavy_factor(case),
-        case.peak_hour_factor * case.lanes,
-    )
+    numbers::div_up(demand * load.heavy_factor, load.divisor)
 }

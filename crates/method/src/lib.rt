@@ -1,24 +1,7 @@
-// Method: from a case to its refusal or its curve, and on the curve from a flow rate to speed, density and letter.
-//   kind         Kind, and what each kind carries: Freeway, Multilane
-//   case         Road, Case and the types of their fields
-//   adjustment   what lane width, clearances, median and access take off a base speed
-//   ramp         what ramps take off
-//   free_flow    free-flow speed
-//   refusal      refusals 1 to 9, their numbers and 10's
-//   curve        capacity, breakpoint, the curve of a case or its refusal
-//   flow         flow rate
-//   speed        the terms of a curve, and speed as an exact fraction
-//   service      speed and density as they are shown, and the letter
-//   assess       from a case to its measures or its refusal
-mod adjustment;
+// Method: from a case to its curve and flow rate, and to what it gets, or to its refusal.
+//   checked   the curve of a case, or the first of 1 to 10 that refuses it
+//   flow      the load of a case, and the flow rate of a demand
+//   assess    from a case to its measures or its refusal
 pub mod assess;
-pub mod case;
-pub mod curve;
+pub mod checked;
 pub mod flow;
-mod free_flow;
-pub mod kind;
-mod ramp;
-mod ramp_table;
-pub mod refusal;
-pub mod service;
-pub mod speed;

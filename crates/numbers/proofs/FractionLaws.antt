@@ -12,7 +12,8 @@ use mathlib.Core.Path.{_≡_, sym}
 use mathlib.Core.Logic.{_↔_, ⊎-elim}
 use Prim.Native.Nat.{ℕ, _*_, _≤_, _<_}
 use native.Mathlib.Omega.{arith}
-use native.Mathlib.Nat.{mul-le-mul-left, mul-le-mul-right, le-of-mul-le-mul-right, le-div-iff-mul-le, div-mul-le-self, le-antisymm, le-of-eq, mul-pos, zero-mul, eq-zero-or-pos}
+use native.Mathlib.Nat.{mul-le-mul-left, mul-le-mul-right, le-of-mul-le-mul-right, le-div-iff-mul-le, div-mul-le-self, le-antisymm}
+use native.Mathlib.Nat.{le-of-eq, mul-pos, zero-mul, eq-zero-or-pos}
 use Rattle.numbers.specs.declared.Fraction.{Fraction}
 use Rattle.numbers.specs.Division.{divUp}
 use Rattle.numbers.specs.Fraction.{whole, times, dividedBy, roundedDown, roundedUp, AtMost, SameValue}

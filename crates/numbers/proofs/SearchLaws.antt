@@ -14,7 +14,6 @@
 --   least-le-of       it is at most what passes
 --   least-eq          it is s where s passes and nothing below s does
 --   least-none        it is the bound where nothing below it passes
---   least-iff         of a test that is upward closed: a number passes exactly when the least is at most it
 --   least-first       of a test that is upward closed: it is s where the test starts at s
 -- Assumes nothing.
 use mathlib.Core.Path.{_≡_, refl, sym, ap, subst, _∙_}
@@ -25,7 +24,7 @@ use Prim.Native.Nat.{ℕ, zero, suc, _+_, _≤_, _<_, zero-le}
 use native.Mathlib.Omega.{arith}
 use native.Mathlib.Nat.{le-refl, le-trans, le-antisymm}
 use native.Mathlib.Decide.{decLe}
-use Rattle.numbers.proofs.TableLaws.{and-left, and-right}
+use Rattle.numbers.proofs.BoolLaws.{and-left, and-right}
 use Rattle.numbers.specs.Search.{greatest, leastFrom, least, DownwardClosed, UpwardClosed, endsAt, startsAt}
 
 -- one step of a search downwards: it takes suc n where that passes, and what is found up to n where it does not
@@ -183,12 +182,6 @@ least-none p n none = go (decLe n (least p n))
     go : Dec (n ≤ least p n) → least p n ≡ n
     go (yes l) = le-antisymm (least-le p n) l
     go (no l) = absurd (none (least p n) (omega arith) (least-passes p n (omega arith)))
-
-pub least-iff : (p : ℕ → Bool) (n x : ℕ) → UpwardClosed p → x < n → T (p x) ↔ (least p n ≤ x)
-least-iff p n x rises h = (
-  λ t. least-le-of p n x t h,
-  λ l. rises (least p n) x l (least-passes p n (omega arith)),
-)
 
 pub least-first : (p : ℕ → Bool) (n s : ℕ) → UpwardClosed p → s < n → T (startsAt p s) → least p n ≡ s
 unfolding startsAt

@@ -1,23 +1,15 @@
 -- A test of every entry of a table (specs/Table).
---   and-left, and-right   what both tests of a pair say
---   everyEntry-at         the test passes at each place
+--   everyEntry-at   the test passes at each place
 -- Assumes nothing.
 use mathlib.Core.Path.{_∙_, subst, sym}
-use mathlib.Core.Bool.{Bool, true, false, _&&_}
+use mathlib.Core.Bool.{Bool}
 use mathlib.Core.List.{List, [], _∷_}
 use Prim.Native.Nat.{ℕ, zero, suc, _+_, _<_}
 use native.Mathlib.Nat.{add-zero, zero-add, add-suc, suc-add, le-of-suc-le-suc, not-suc-le-zero}
 use lib.Dec.{T}
 use lib.ListN.{length, getD}
 use Rattle.numbers.specs.Table.{everyFrom, everyEntry}
-
-pub and-left : (a b : Bool) → T (a && b) → T a
-and-left true b t = tt
-and-left false b t = t
-
-pub and-right : (a b : Bool) → T (a && b) → T b
-and-right true b t = t
-and-right false b t = absurd t
+use Rattle.numbers.proofs.BoolLaws.{and-left, and-right}
 
 everyFrom-at : (f : ℕ → ℕ → ℕ → Bool) (xs : List ℕ) (i before : ℕ) → T (everyFrom f i before xs)
     → (k : ℕ) → k < length xs → T (f (i + k) (getD (before ∷ xs) k 0) (getD xs k 0))

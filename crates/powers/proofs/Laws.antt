@@ -12,7 +12,8 @@ use Rattle.powers.proofs.PowerLaws.{power-le, power-mono}
 
 pub power-is-least : PowerIsLeast
 unfolding power reachesPower
-power-is-least i h = (leb→le (i ^ 131 * 10 ^ 207) (power i ^ 100) (least-passes (reachesPower i) 1000001 (omega (arith, power-le i h))), no-less)
+power-is-least i h =
+    (leb→le (i ^ 131 * 10 ^ 207) (power i ^ 100) (least-passes (reachesPower i) 1000001 (omega (arith, power-le i h))), no-less)
   where
     go : (t : ℕ) → i ^ 131 * 10 ^ 207 ≤ t ^ 100 → Dec (t ≤ 1000000) → power i ≤ t
     go t e (yes l) = least-le-of (reachesPower i) 1000001 t (le→leb (i ^ 131 * 10 ^ 207) (t ^ 100) e) (omega arith)

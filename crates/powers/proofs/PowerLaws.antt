@@ -17,7 +17,8 @@ use lib.ListN.{getD, length}
 use Rattle.numbers.specs.Search.{UpwardClosed, startsAt}
 use Rattle.numbers.specs.Table.{everyEntry}
 use Rattle.numbers.proofs.SearchLaws.{least-first}
-use Rattle.numbers.proofs.TableLaws.{and-left, and-right, everyEntry-at}
+use Rattle.numbers.proofs.BoolLaws.{and-left, and-right}
+use Rattle.numbers.proofs.TableLaws.{everyEntry-at}
 use Rattle.powers.specs.Power.{reachesPower, power}
 use Rattle.powers.proofs.PowerTable.{powerTable}
 

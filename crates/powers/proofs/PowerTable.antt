@@ -1,4 +1,4 @@
--- T(i), i from 0 to 1,000. Made by tests/tables.rs, with src/table.rt; `make tables` makes both anew.
+-- T(i), i from 0 to 1,000. Made by tools/tables.rs, with src/table.rt: `make tables`.
 --   powerTable
 -- Assumes nothing.
 use mathlib.Core.List.{List, [], _∷_}

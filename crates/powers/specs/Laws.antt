@@ -1,4 +1,5 @@
 -- The laws of T, stated; proofs/Laws proves each.
+--   PowerIsLeast, PowerNeverFalls
 -- Assumes nothing.
 use Prim.Native.Nat.{ℕ, _*_, _^_, _≤_}
 use Rattle.powers.specs.Power.{power}

@@ -1,4 +1,4 @@
-// T(i), i from 0 to 1,000. Made by tests/tables.rs, with proofs/PowerTable.antt; `make tables` makes both anew.
+// T(i), i from 0 to 1,000. Made by tools/tables.rs, with proofs/PowerTable.antt: `make tables`.
 pub(crate) const POWERS: [u32; 1001] = [
     0,
     118,

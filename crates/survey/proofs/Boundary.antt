@@ -3,10 +3,10 @@
 -- Assumes nothing.
 use mathlib.Core.Path.{refl}
 use Rattle.numbers.specs.Division.{divUp}
-use Rattle.method.specs.Boundary.{Shown}
+use Rattle.checks.specs.Figures.{Shown}
 use Rattle.survey.specs.Survey.{roundedIn, surveyRefusals}
 use Rattle.survey.specs.Boundary.{surveyFigures}
 
 pub survey-shown : Shown surveyFigures
 unfolding divUp roundedIn surveyRefusals surveyFigures
-survey-shown = (refl, (refl, (refl, (refl, (refl, (refl, (refl, (refl, (refl, (refl, (refl, tt)))))))))))
+survey-shown = (refl, (refl, (refl, (refl, (refl, (refl, (refl, (refl, (refl, (refl, (refl, (refl, tt))))))))))))

@@ -1,5 +1,6 @@
 -- The answer to a survey (specs/Survey).
---   speedAnswer-low, speedAnswer-high, speedAnswer-within   what 13 makes of a whole number, by the ends 30,000 and 90,000
+--   speedAnswer-out, speedAnswer-within   what 13 makes of a whole number, by the range 30,000 to 90,000
+--   speedAnswer-low, speedAnswer-high     what lies below it, and above
 --   speedAnswer-negative        what is 0 or below is refused
 --   surveyAnswer-cars           fewer than 100 cars: 11
 --   surveyAnswer-flow           a flow of 1,000 or more: 12
@@ -15,20 +16,26 @@ use native.Mathlib.Decide.{decLe}
 use borrow.Author.Tests.{lt-ltb, le-ltb, le-leb, lt-leb}
 use lib.Dec.{eqb}
 use lib.IntN.{pos, negsuc, negℤ}
+use Rattle.checks.specs.Refusals.{outside}
+use Rattle.checks.proofs.RefusalLaws.{within}
 use Rattle.survey.specs.declared.Survey.{Survey}
 use Rattle.survey.specs.declared.SurveyAnswer.{SurveyAnswer}
 use Rattle.survey.specs.declared.SurveyAnswer.the-variants as SurveyAnswer
-use Rattle.survey.specs.Survey.{RoundedSpeed, notFinite, thousandths, roundedSpeed, speedRefused, thousandthsIn, surveyRefusals, surveyAnswer}
+use Rattle.survey.specs.Survey.{RoundedSpeed, notFinite, thousandths, roundedSpeed, speedRefused, thousandthsIn, surveyRefusals}
+use Rattle.survey.specs.Survey.{surveyAnswer}
 use Rattle.survey.specs.Units.{speedAnswer}
+
+pub speedAnswer-out : (n : ℕ) → outside 30000 90000 n ≡ true → speedAnswer (thousandths (pos n)) ≡ SurveyAnswer.Refused 13
+speedAnswer-out n e = rw e
+
+pub speedAnswer-within : (n : ℕ) → outside 30000 90000 n ≡ false → speedAnswer (thousandths (pos n)) ≡ SurveyAnswer.Speed n
+speedAnswer-within n e = rw e
 
 pub speedAnswer-low : (n : ℕ) → n < 30000 → speedAnswer (thousandths (pos n)) ≡ SurveyAnswer.Refused 13
 speedAnswer-low n h = simp (lt-ltb n 30000 h)
 
 pub speedAnswer-high : (n : ℕ) → 90000 < n → speedAnswer (thousandths (pos n)) ≡ SurveyAnswer.Refused 13
 speedAnswer-high n h = simp (le-ltb n 30000 (omega arith), lt-ltb 90000 n h)
-
-pub speedAnswer-within : (n : ℕ) → 30000 ≤ n → n ≤ 90000 → speedAnswer (thousandths (pos n)) ≡ SurveyAnswer.Speed n
-speedAnswer-within n l h = simp (le-ltb n 30000 l, le-ltb 90000 n h)
 
 pub speedAnswer-negative : (n : ℕ) → speedAnswer (thousandths (negℤ (pos n))) ≡ SurveyAnswer.Refused 13
 speedAnswer-negative zero = refl
@@ -42,11 +49,15 @@ pub surveyAnswer-flow : (survey : Survey) → 100 ≤ survey .cars → 1000 ≤ 
 unfolding surveyRefusals
 surveyAnswer-flow survey c h = simp (le-ltb (survey .cars) 100 c, le-leb 1000 (survey .flow) h)
 
-pub surveyAnswer-speed : (survey : Survey) → 100 ≤ survey .cars → survey .flow < 1000 → surveyAnswer survey ≡ speedAnswer (roundedSpeed (survey .speed))
+pub surveyAnswer-speed : (survey : Survey) → 100 ≤ survey .cars → survey .flow < 1000
+    → surveyAnswer survey ≡ speedAnswer (roundedSpeed (survey .speed))
 unfolding surveyRefusals
-surveyAnswer-speed survey c h = simp (le-ltb (survey .cars) 100 c, lt-leb 1000 (survey .flow) h) (by-test (speedRefused (roundedSpeed (survey .speed))))
+surveyAnswer-speed survey c h = simp (le-ltb (survey .cars) 100 c, lt-leb 1000 (survey .flow) h)
+    (by-test (speedRefused (roundedSpeed (survey .speed))))
   where
-    by-test : (b : Bool) → cond (eqb (cond b 13 0) 0) (SurveyAnswer.Speed (thousandthsIn (roundedSpeed (survey .speed)))) (SurveyAnswer.Refused (cond b 13 0)) ≡ cond b (SurveyAnswer.Refused 13) (SurveyAnswer.Speed (thousandthsIn (roundedSpeed (survey .speed))))
+    by-test : (b : Bool) → cond (eqb (cond b 13 0) 0) (SurveyAnswer.Speed (thousandthsIn (roundedSpeed (survey .speed))))
+        (SurveyAnswer.Refused (cond b 13 0)) ≡ cond b (SurveyAnswer.Refused 13)
+        (SurveyAnswer.Speed (thousandthsIn (roundedSpeed (survey .speed))))
     by-test true = refl
     by-test false = refl
 
@@ -58,12 +69,11 @@ Within (SurveyAnswer.Refused n) = (11 ≤ n) × (n ≤ 13)
 speedAnswer-in : (r : RoundedSpeed) → Within (speedAnswer r)
 speedAnswer-in notFinite = (omega arith, omega arith)
 speedAnswer-in (thousandths (negsuc n)) = (omega arith, omega arith)
-speedAnswer-in (thousandths (pos n)) = by-ends (decLe 30000 n) (decLe n 90000)
+speedAnswer-in (thousandths (pos n)) = by-test (outside 30000 90000 n) refl
   where
-    by-ends : Dec (30000 ≤ n) → Dec (n ≤ 90000) → Within (speedAnswer (thousandths (pos n)))
-    by-ends (no l) h = rw (speedAnswer-low n (omega arith)) (omega arith, omega arith)
-    by-ends (yes l) (no h) = rw (speedAnswer-high n (omega arith)) (omega arith, omega arith)
-    by-ends (yes l) (yes h) = rw (speedAnswer-within n l h) (l, h)
+    by-test : (b : Bool) → outside 30000 90000 n ≡ b → Within (speedAnswer (thousandths (pos n)))
+    by-test true e = rw (speedAnswer-out n e) (omega arith, omega arith)
+    by-test false e = rw (speedAnswer-within n e) (within 30000 90000 n e)
 
 surveyAnswer-in : (survey : Survey) → Within (surveyAnswer survey)
 surveyAnswer-in survey = by-counts (decLe 100 (survey .cars)) (decLe 1000 (survey .flow))

@@ -6,22 +6,22 @@
 --   RoundedSpeed           thousandths of mi/h, or that there is no finite number
 --   roundedIn unit x       the float x in a unit: its exact value rounded down
 --   roundedSpeed speed     the same of a surveyed speed
---   speedRefused r              what 13 refuses
---   thousandthsIn r              the thousandths of what it does not refuse
+--   speedRefused r         what 13 refuses
+--   thousandthsIn r        the thousandths of what it does not refuse
 --   surveyRefusals survey  11 to 13 in their order
 --   surveyAnswer survey    the speed, or the refusal's number
 --   refusalNumber a        the number of the refusal, 0 where there is none
 --   values a               the speed; of a refusal no value
 -- Assumes nothing.
 use Prim.Native.Nat.{ℕ, _*_}
-use mathlib.Core.Bool.{Bool, true, false, cond}
+use mathlib.Core.Bool.{Bool, true, false}
 use mathlib.Core.List.{List, [], _∷_}
 use lib.IntN.{ℤ, pos, negsuc, negℤ}
-use lib.Dec.{leb, ltb, eqb}
+use lib.Dec.{leb, ltb}
 use lib.Ieee.{Float, nan, inf, fin, up, down}
 use Rattle.numbers.specs.declared.Fraction.{Fraction}
 use Rattle.numbers.specs.Fraction.{over, whole, times, dividedBy, roundedDown, roundedUp}
-use Rattle.method.specs.Refusals.{Refusal, refuses, firstRefusal, outside}
+use Rattle.checks.specs.Refusals.{Refusal, refuses, firstRefusal, unlessRefused, outside}
 use Rattle.survey.specs.declared.SurveyedSpeed.{SurveyedSpeed}
 use Rattle.survey.specs.declared.SurveyedSpeed.the-variants as SurveyedSpeed
 use Rattle.survey.specs.declared.Survey.{Survey}
@@ -82,11 +82,10 @@ surveyRefusals survey =
     ∷ refuses 13 (speedRefused (roundedSpeed (survey .speed)))
     ∷ []
 
--- "Every refusal hands back its number and nothing else"
 abbrev pub surveyAnswer : Survey → SurveyAnswer
 surveyAnswer survey =
-    let number = firstRefusal (surveyRefusals survey) in
-    cond (eqb number 0) (SurveyAnswer.Speed (thousandthsIn (roundedSpeed (survey .speed)))) (SurveyAnswer.Refused number)
+    unlessRefused (firstRefusal (surveyRefusals survey))
+    (SurveyAnswer.Speed (thousandthsIn (roundedSpeed (survey .speed)))) SurveyAnswer.Refused
 
 abbrev pub refusalNumber : SurveyAnswer → ℕ
 refusalNumber (SurveyAnswer.Speed n) = 0

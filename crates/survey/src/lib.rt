@@ -63,10 +63,7 @@ fn speed_of_bits(bits: u64, unit: Fraction) -> SurveyAnswer
     // a step of the last digit is 2^(exponent - 150): so many make 1
     let steps = 1 << (150 - exponent);
     let thousandths = (LEADING + digits) * unit.numerator / (steps * unit.denominator);
-    if thousandths < 30_000 {
-        return SurveyAnswer::Refused(SURVEYED_SPEED_OUT_OF_RANGE);
-    }
-    if 90_000 < thousandths {
+    if checks::outside(30_000, 90_000, thousandths) {
         return SurveyAnswer::Refused(SURVEYED_SPEED_OUT_OF_RANGE);
     }
     SurveyAnswer::Speed(thousandths)

@@ -6,7 +6,7 @@
 use mathlib.Core.Path.{_≡_, refl, ap}
 use mathlib.Core.Bool.{Bool, true, false, cond}
 use mathlib.Core.List.{List, [], _∷_}
-use Prim.Native.Nat.{ℕ, zero, suc, _+_, _≤_, _<_}
+use Prim.Native.Nat.{ℕ, suc, _+_, _≤_, _<_}
 use native.Mathlib.Nat.{add-zero}
 use native.Mathlib.Numerals.{add-one}
 use native.Mathlib.Omega.{arith}
@@ -31,18 +31,21 @@ unfolding countBefore parts onFirst
 parts-one t [] h = refl
 parts-one t (b ∷ bs) h = go (eqb b t) h (λ e. parts-one t bs e)
   where
-    go : (v : Bool) → cond v 0 (suc (countBefore t bs)) ≡ suc (length bs) → (countBefore t bs ≡ length bs → parts t bs ≡ bs ∷ []) → cond v ([] ∷ parts t bs) (onFirst b (parts t bs)) ≡ (b ∷ bs) ∷ []
+    go : (v : Bool) → cond v 0 (suc (countBefore t bs)) ≡ suc (length bs)
+        → (countBefore t bs ≡ length bs → parts t bs ≡ bs ∷ []) → cond v ([] ∷ parts t bs) (onFirst b (parts t bs)) ≡ (b ∷ bs) ∷ []
     go true h r = absurd (omega arith)
     go false h r = ap (onFirst b) (r (omega arith))
 
 -- a list with a t is the part countBefore it, and the parts after it
-pub parts-more : (t : ℕ) (bs : List ℕ) → countBefore t bs < length bs → parts t bs ≡ take (countBefore t bs) bs ∷ parts t (drop (suc (countBefore t bs)) bs)
+pub parts-more : (t : ℕ) (bs : List ℕ) → countBefore t bs < length bs
+    → parts t bs ≡ take (countBefore t bs) bs ∷ parts t (drop (suc (countBefore t bs)) bs)
 unfolding countBefore parts onFirst
 parts-more t [] h = absurd (omega arith)
 parts-more t (b ∷ bs) h = go (eqb b t) h (λ e. parts-more t bs e)
   where
     go : (v : Bool) → cond v 0 (suc (countBefore t bs)) < suc (length bs) →
-        (countBefore t bs < length bs → parts t bs ≡ take (countBefore t bs) bs ∷ parts t (drop (suc (countBefore t bs)) bs)) → cond v ([] ∷ parts t bs) (onFirst b (parts t bs))
+        (countBefore t bs < length bs → parts t bs ≡ take (countBefore t bs) bs ∷ parts t (drop (suc (countBefore t bs)) bs))
+        → cond v ([] ∷ parts t bs) (onFirst b (parts t bs))
         ≡ take (cond v 0 (suc (countBefore t bs))) (b ∷ bs) ∷ parts t (drop (suc (cond v 0 (suc (countBefore t bs)))) (b ∷ bs))
     go true h r = refl
     go false h r = ap (onFirst b) (r (omega arith))
@@ -52,7 +55,8 @@ pub countBefore-hit : (t : ℕ) (bs : List ℕ) (i : ℕ) → i < length bs → 
 unfolding countBefore
 countBefore-hit t bs i h e = rw (drop-cons bs i 0 h, eq-eqb (getD bs i 0) t e) (add-zero i)
 
-pub countBefore-miss : (t : ℕ) (bs : List ℕ) (i : ℕ) → i < length bs → (getD bs i 0 ≡ t → ⊥) → i + countBefore t (drop i bs) ≡ i + 1 + countBefore t (drop (i + 1) bs)
+pub countBefore-miss : (t : ℕ) (bs : List ℕ) (i : ℕ) → i < length bs → (getD bs i 0 ≡ t → ⊥)
+    → i + countBefore t (drop i bs) ≡ i + 1 + countBefore t (drop (i + 1) bs)
 unfolding countBefore
 countBefore-miss t bs i h n = rw (drop-cons bs i 0 h, ne-eqb (getD bs i 0) t n, add-one i) (omega arith)
 

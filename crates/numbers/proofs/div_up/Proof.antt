@@ -9,20 +9,11 @@ use Rattle.numbers.proofs.DivisionLaws.{divUp-zero, divUp-suc}
 use Rattle.numbers.proofs.div_up.Statement.{statement}
 use Rattle.numbers.proofs.div_up.Tie as tie
 
-returns : tie.Need-returns
-returns c = rw (c .if1 .taken, divUp-zero (c .before .args .b) (c .before .pre))
-
-sub-result : tie.Need-sub-result
-sub-result c = search needs
-
-div-result : tie.Need-div-result
-div-result c = search needs
-
-add-result : tie.Need-add-result
-add-result c = omega (arith, div-le-self (c .before .args .a - 1) (c .before .args .b), c .if1 .left)
-
 returns-2 : tie.Need-returns-2
 returns-2 c = sym (divUp-suc (c .before .args .a) (c .before .args .b) (omega (arith, c .if1 .left)) (c .before .pre))
 
 pub div-up-spec : {M : Type 1} → statement M
-div-up-spec = tie.close (tie.spec returns sub-result div-result add-result returns-2)
+div-up-spec =
+    tie.close
+    (tie.spec (λ c. rw (c .if1 .taken, divUp-zero (c .before .args .b) (c .before .pre))) (λ c. search needs) (λ c. search needs)
+    (λ c. omega (arith, div-le-self (c .before .args .a - 1) (c .before .args .b), c .if1 .left)) returns-2)

@@ -5,10 +5,7 @@ use Rattle.powers.proofs.PowerTable.{powerTable}
 use Rattle.powers.proofs.PowerLaws.{powerTable-at}
 use Rattle.powers.proofs.power_table.Statement.{statement}
 use Rattle.powers.proofs.power_table.Tie as tie
-use Rattle.powers.proofs.power_table.Reads as reads
-use Rattle.powers.proofs.power_table.Lts as lts
 
--- src/lib.rt:12:1
 returns : tie.Need-returns
 unfolding powerTable
 returns c = (refl, λ i h. sym (powerTable-at i h))

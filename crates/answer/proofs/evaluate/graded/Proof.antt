@@ -1,61 +1,34 @@
--- `answer::evaluate::graded` meets its contract: kind F reads no table, and kind M gets the table of powers.
+-- `answer::evaluate::graded` meets its contract: the curve is the case's own; kind F reads no table, and kind M gets the table of powers.
 -- Assumes nothing.
-use mathlib.Core.Path.{sym, subst}
-use Rattle.method.specs.Terms.{TableFor}
+use Rattle.curve.proofs.TermsLaws.{table-none, table-lent}
+use Rattle.method.proofs.RefusalLaws.{accepted-fields}
+use Rattle.method.proofs.CheckedLaws.{checked-accepted, checked-curve}
+use Rattle.method.proofs.AssessLaws.{case-readied}
 use borrow.Author.Needs.{needs}
 use Rattle.answer.proofs.evaluate.graded.Statement.{statement}
 use Rattle.answer.proofs.evaluate.graded.Tie as tie
-use Rattle.answer.proofs.evaluate.graded.Reads as reads
-use Rattle.answer.proofs.evaluate.graded.Lts as lts
-use Rattle.answer.proofs.evaluate.graded_with.Reads as graded-with-reads
-use Rattle.powers.proofs.power_table.Reads as power-table-reads
 
--- src/evaluate.rt:139:54
-enum-told : tie.Need-enum-told
-enum-told c = search needs
+load-of-requires : tie.Need-load-of-requires
+load-of-requires c κs =
+    let case = c .args .case in accepted-fields case (checked-accepted case (c .args .curve) (c .pre) .0)
 
--- src/evaluate.rt:139:54
-slice-aggregate-graded-with : tie.Need-slice-aggregate-graded-with
-slice-aggregate-graded-with c = search needs
-
--- src/evaluate.rt:139:26
 graded-with-requires : tie.Need-graded-with-requires
-graded-with-requires c κs = (c .before .before .before .before .pre .0, (c .before .before .before .before .pre .1, subst (λ kind. TableFor kind _) (sym (c .before .enum-told .given .1)) tt))
+graded-with-requires c κs =
+    let s = c .before .before .before .before .before in
+    case-readied (s .args .case) (s .args .curve) _ _ _ (s .pre) (c .before .before .before .before .load-of .ensures)
+    (c .before .before .before .curve-terms .ensures) (table-none _ _ (c .before .enum-told .given .1))
 
--- src/evaluate.rt:141:25
-enum-told-2 : tie.Need-enum-told-2
-enum-told-2 c = search needs
-
--- src/evaluate.rt:141:25
-power-table-requires : tie.Need-power-table-requires
-power-table-requires c κs = search needs
-
--- src/evaluate.rt:142:41
-slice-aggregate-graded-with-2 : tie.Need-slice-aggregate-graded-with-2
-slice-aggregate-graded-with-2 c = search needs
-
--- src/evaluate.rt:142:13
 graded-with-requires-2 : tie.Need-graded-with-requires-2
-graded-with-requires-2 c κs = (c .before .before .before .before .before .pre .0, (c .before .before .before .before .before .pre .1, subst (λ kind. TableFor kind (c .before .power-table .result)) (sym (c .before .before .enum-told2 .given .1)) (c .before .power-table .ensures)))
-
--- src/evaluate.rt:132:1
-returns : tie.Need-returns
-returns c = search needs
-
--- src/evaluate.rt:132:1
-returns-2 : tie.Need-returns-2
-returns-2 c = search needs
+graded-with-requires-2 c κs =
+    let s = c .before .before .before .before .before .before in
+    case-readied (s .args .case) (s .args .curve) _ _ _ (s .pre) (c .before .before .before .before .before .load-of .ensures)
+    (c .before .before .before .before .curve-terms .ensures)
+    (table-lent _ _ (c .before .before .enum-told2 .given .1) (c .before .power-table .ensures))
 
 pub graded-spec : {M : Type 1} → statement M
 graded-spec =
     tie.close
-    (tie.spec
-    enum-told
-    slice-aggregate-graded-with
-    graded-with-requires
-    enum-told-2
-    power-table-requires
-    slice-aggregate-graded-with-2
-    graded-with-requires-2
-    returns
-    returns-2)
+    (tie.spec load-of-requires
+    (λ c κs. checked-curve (c .before .args .case) (c .before .args .curve) (c .before .pre))
+    (λ c. search needs) (λ c. search needs) graded-with-requires (λ c. search needs)
+    (λ c κs. search needs) (λ c. search needs) graded-with-requires-2 (λ c. search needs) (λ c. search needs))

@@ -4,16 +4,6 @@ use borrow.Author.Needs.{needs}
 use borrow.Author.Tests.{eq-eqb, ne-eqb}
 use Rattle.lines.proofs.read.way_of.Statement.{statement}
 use Rattle.lines.proofs.read.way_of.Tie as tie
-use Rattle.lines.proofs.read.way_of.Reads as reads
-use Rattle.lines.proofs.read.way_of.Lts as lts
-
--- src/lib.rt:102:1
-returns : tie.Need-returns
-returns c = search (needs, eq-eqb)
-
--- src/lib.rt:102:1
-returns-2 : tie.Need-returns-2
-returns-2 c = search (needs, ne-eqb)
 
 pub way-of-spec : {M : Type 1} → statement M
-way-of-spec = tie.close (tie.spec returns returns-2)
+way-of-spec = tie.close (tie.spec (λ c. search (needs, eq-eqb)) (λ c. search (needs, ne-eqb)))

@@ -1,4 +1,5 @@
--- `text::parts::find` meets its contract: the bytes passed are not the one sought, so the count from the start and the count from here differ by them.
+-- `text::parts::find` meets its contract: the bytes passed are not the one sought, so the count from the start and the count from here
+-- differ by them.
 -- Assumes nothing.
 use mathlib.Core.Path.{_≡_, refl, sym, _∙_}
 use Prim.Native.Nat.{_+_, _-_, _≤_}
@@ -9,8 +10,6 @@ use Rattle.text.proofs.PartsLaws.{countBefore-hit, countBefore-miss, co
 use borrow.Author.Needs.{needs}
 use Rattle.text.proofs.parts.find.Statement.{statement}
 use Rattle.text.proofs.parts.find.Tie as tie
-use Rattle.text.proofs.parts.find.Reads as reads
-use Rattle.text.proofs.parts.find.Lts as lts
 
 abbrev Inv-loop : tie.InvT-loop
 Inv-loop bytes from b i₀ i = (i ≤ length bytes) × (from + countBefore b (drop from bytes) ≡ i + countBefore b (drop i bytes))
@@ -18,44 +17,26 @@ Inv-loop bytes from b i₀ i = (i ≤ length bytes) × (from + countBefore b (dr
 abbrev μ-loop : tie.MeasureT-loop
 μ-loop bytes from b i₀ i = length bytes - i
 
--- src/lib.rt:13:5
-loop-holds : tie.Need-loop-holds Inv-loop μ-loop
-loop-holds c = (search needs, refl)
-
--- src/lib.rt:14:12
-shared-slice-read-if1 : tie.Need-shared-slice-read-if1 Inv-loop μ-loop
-shared-slice-read-if1 c = search needs
-
--- src/lib.rt:15:13
 returns : tie.Need-returns Inv-loop μ-loop
-returns c = let l = c .before .before .before in (sym (l .loop .inv .1 ∙ countBefore-hit (l .before .args .b) (l .before .args .bytes .now) (l .loop .i) (omega arith) (c .if1 .taken)), search needs)
+returns c = let l = c .before .before .before in (
+  sym (l .loop .inv .1 ∙ countBefore-hit (l .before .args .b) (l .before .args .bytes .now) (l .loop .i) (omega arith)
+      (c .if1 .taken)),
+  search needs,
+)
 
--- src/lib.rt:17:9
-add-i : tie.Need-add-i Inv-loop μ-loop
-add-i c = search needs
-
--- src/lib.rt:13:5
-loop-less : tie.Need-loop-less Inv-loop μ-loop
-loop-less c = search needs
-
--- src/lib.rt:13:5
 loop-again : tie.Need-loop-again Inv-loop μ-loop
-loop-again c = let l = c .before .before .before in (search needs, l .loop .inv .1 ∙ countBefore-miss (l .before .args .b) (l .before .args .bytes .now) (l .loop .i) (omega arith) (c .if1 .left))
+loop-again c = let l = c .before .before .before in (
+  search needs,
+  l .loop .inv .1 ∙ countBefore-miss (l .before .args .b) (l .before .args .bytes .now) (l .loop .i)
+      (omega arith) (c .if1 .left),
+)
 
--- src/lib.rt:8:1
 returns-2 : tie.Need-returns-2 Inv-loop μ-loop
-returns-2 c = let l = c .before in (sym (l .loop .inv .1 ∙ countBefore-end (l .before .args .b) (l .before .args .bytes .now) (l .loop .i) (omega arith)), search needs)
+returns-2 c = let l = c .before in
+    (sym (l .loop .inv .1 ∙ countBefore-end (l .before .args .b) (l .before .args .bytes .now) (l .loop .i) (omega arith)), search needs)
 
 pub find-spec : {M : Type 1} → statement M
 find-spec =
     tie.close
-    (tie.spec
-    Inv-loop
-    μ-loop
-    loop-holds
-    shared-slice-read-if1
-    returns
-    add-i
-    loop-less
-    loop-again
+    (tie.spec Inv-loop μ-loop (λ c. (search needs, refl)) (λ c. search needs) returns (λ c. search needs) (λ c. search needs) loop-again
     returns-2)

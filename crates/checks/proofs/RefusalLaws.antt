@@ -1,0 +1,124 @@
+-- Lists of refusals, and an answer unless one is met (specs/Refusals).
+--   numbered rs            every refusal of the list has a number above 0
+--   firstRefusal-none, firstRefusal-some   of a joined list: the second part decides where the first refuses nothing, else the first
+--   firstRefusal-join      a joined list that refuses nothing: neither part does
+--   NoneMet, none-met, none-of   no refusal of the list is met
+--   upTo, firstRefusal-le  no number is above the greatest of the list
+--   within, inside         a number that is not outside a range
+--   unlessRefused-none, unlessRefused-some, unlessRefused-by   the answer by its number
+--   unlessRefused-refused  an answer that is another was refused
+--   unlessRefused-map      a function of the answer
+--   unlessRefused-number   where a definition gives each answer's number: that of this one
+--   unlessRefused-found    an answer with number 0 was not refused
+-- Assumes nothing.
+use mathlib.Core.Path.{_≡_, refl, sym, ap, _∙_}
+use mathlib.Core.Bool.{Bool, true, false, cond, _&&_}
+use mathlib.Core.List.{List, [], _∷_, _++_}
+use mathlib.Core.Logic.{⊎-elim}
+use Prim.Native.Nat.{ℕ, _≤_, _<_}
+use native.Mathlib.Nat.{eq-zero-or-pos}
+use native.Mathlib.Omega.{arith}
+use borrow.Author.Tests.{ltb-false, le-ltb, ne-eqb}
+use lib.Dec.{T, leb, ltb, leb→le, ltb→lt}
+use Rattle.numbers.proofs.BoolLaws.{and-left, and-right, or-false, cond-le}
+use Rattle.checks.specs.Refusals.{Refusal, firstRefusal, unlessRefused, outside}
+
+-- ---- the first of a list
+abbrev pub numbered : List Refusal → Bool
+numbered [] = true
+numbered (r ∷ rs) = ltb 0 (r .number) && numbered rs
+
+-- a list that refuses nothing: neither its first refusal does, nor the rest
+head-none : (r : Refusal) (rs : List Refusal) (rest : ℕ) → T (numbered (r ∷ rs)) → cond (r .met) (r .number) rest ≡ 0
+    → (r .met ≡ false) × (rest ≡ 0) × T (numbered rs)
+head-none r rs rest t z = go (r .met) refl z
+  where
+    above : 0 < r .number
+    above = ltb→lt 0 (r .number) (and-left (ltb 0 (r .number)) (numbered rs) t)
+
+    go : (b : Bool) → r .met ≡ b → cond b (r .number) rest ≡ 0 → (r .met ≡ false) × (rest ≡ 0) × T (numbered rs)
+    go true e n = absurd (omega (arith, above))
+    go false e n = (e, n, and-right (ltb 0 (r .number)) (numbered rs) t)
+
+pub firstRefusal-none : (rs ss : List Refusal) → T (numbered rs) → firstRefusal rs ≡ 0 → firstRefusal (rs ++ ss) ≡ firstRefusal ss
+firstRefusal-none [] ss t z = refl
+firstRefusal-none (r ∷ rs) ss t z =
+    let p = head-none r rs (firstRefusal rs) t z in rw (p .0) (firstRefusal-none rs ss (p .2) (p .1))
+
+some-head : (n f g : ℕ) (b : Bool) → 0 < cond b n f → (0 < f → g ≡ f) → cond b n g ≡ cond b n f
+some-head n f g true p k = refl
+some-head n f g false p k = k p
+
+pub firstRefusal-some : (rs ss : List Refusal) → 0 < firstRefusal rs → firstRefusal (rs ++ ss) ≡ firstRefusal rs
+firstRefusal-some [] ss p = absurd (omega arith)
+firstRefusal-some (r ∷ rs) ss p =
+    some-head (r .number) (firstRefusal rs) (firstRefusal (rs ++ ss)) (r .met) p (λ q. firstRefusal-some rs ss q)
+
+pub firstRefusal-join : (rs ss : List Refusal) → T (numbered rs) → firstRefusal (rs ++ ss) ≡ 0
+    → (firstRefusal rs ≡ 0) × (firstRefusal ss ≡ 0)
+firstRefusal-join [] ss t z = (refl, z)
+firstRefusal-join (r ∷ rs) ss t z =
+    let p = head-none r rs (firstRefusal (rs ++ ss)) t z in
+    let q = firstRefusal-join rs ss (p .2) (p .1) in
+    (rw (p .0) (q .0), q .1)
+
+-- ---- no refusal of a list
+abbrev pub NoneMet : List Refusal → Type 0
+NoneMet [] = Unit {0}
+NoneMet (r ∷ rs) = (r .met ≡ false) × NoneMet rs
+
+pub none-met : (rs : List Refusal) → T (numbered rs) → firstRefusal rs ≡ 0 → NoneMet rs
+none-met [] t z = tt
+none-met (r ∷ rs) t z = let p = head-none r rs (firstRefusal rs) t z in (p .0, none-met rs (p .2) (p .1))
+
+pub none-of : (rs : List Refusal) → NoneMet rs → firstRefusal rs ≡ 0
+none-of [] n = refl
+none-of (r ∷ rs) n = rw (n .0) (none-of rs (n .1))
+
+-- ---- the numbers of a list
+abbrev pub upTo : ℕ → List Refusal → Bool
+upTo m [] = true
+upTo m (r ∷ rs) = leb (r .number) m && upTo m rs
+
+pub firstRefusal-le : (m : ℕ) (rs : List Refusal) → T (upTo m rs) → firstRefusal rs ≤ m
+firstRefusal-le m [] t = omega arith
+firstRefusal-le m (r ∷ rs) t =
+    cond-le (r .met) (leb→le (r .number) m (and-left (leb (r .number) m) (upTo m rs) t))
+    (firstRefusal-le m rs (and-right (leb (r .number) m) (upTo m rs) t))
+
+-- ---- ranges
+pub within : (low high n : ℕ) → outside low high n ≡ false → (low ≤ n) × (n ≤ high)
+within low high n e =
+    let p = or-false (ltb n low) (ltb high n) e in (ltb-false n low (p .0), ltb-false high n (p .1))
+
+pub inside : (low high n : ℕ) → low ≤ n → n ≤ high → outside low high n ≡ false
+inside low high n h k = simp (le-ltb n low h, le-ltb high n k)
+
+-- ---- an answer unless a refusal is met
+module _ {A : Type 0} (n : ℕ) (answer : A) (refused : ℕ → A) where
+  pub unlessRefused-none : n ≡ 0 → unlessRefused n answer refused ≡ answer
+  unlessRefused-none e = rw e
+
+  pub unlessRefused-some : 0 < n → unlessRefused n answer refused ≡ refused n
+  unlessRefused-some p = simp (ne-eqb n 0 (λ e. omega arith))
+
+  pub unlessRefused-by : (P : A → Type 0) → (n ≡ 0 → P answer) → (0 < n → P (refused n)) → P (unlessRefused n answer refused)
+  unlessRefused-by P none some =
+      ⊎-elim (λ e. rw (unlessRefused-none e) (none e)) (λ p. rw (unlessRefused-some p) (some p)) (eq-zero-or-pos n)
+
+  pub unlessRefused-refused : (found : A) → unlessRefused n answer refused ≡ found → (found ≡ answer → ⊥) → 0 < n
+  unlessRefused-refused found e differs =
+      ⊎-elim (λ z. absurd (differs (sym e ∙ unlessRefused-none z))) (λ p. p) (eq-zero-or-pos n)
+
+  pub unlessRefused-map : {B : Type 0} (g : A → B) → g (unlessRefused n answer refused) ≡ unlessRefused n (g answer) (λ k. g (refused k))
+  unlessRefused-map g =
+      ⊎-elim (λ e. ap g (unlessRefused-none e) ∙ rw e) (λ p. ap g (unlessRefused-some p) ∙ simp (ne-eqb n 0 (λ e. omega arith)))
+      (eq-zero-or-pos n)
+
+  module _ (number : A → ℕ) (none : number answer ≡ 0) (own : (k : ℕ) → number (refused k) ≡ k) where
+    pub unlessRefused-number : number (unlessRefused n answer refused) ≡ n
+    unlessRefused-number = unlessRefused-by (λ a. number a ≡ n) (λ e. none ∙ sym e) (λ p. own n)
+
+    pub unlessRefused-found : (found : A) → unlessRefused n answer refused ≡ found → number found ≡ 0 → (n ≡ 0) × (found ≡ answer)
+    unlessRefused-found found e z =
+        let zero : n ≡ 0 = sym unlessRefused-number ∙ ap number e ∙ z in (zero, sym e ∙ unlessRefused-none zero)

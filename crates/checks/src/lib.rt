@@ -1,0 +1,19 @@
+// Checks: numbered refusals, the first that is met first.
+//   outside      whether a number is out of a range
+//   refused_if   one line of a list of refusals
+ghost use mathlib.Core.Path.{_≡_};
+ghost use mathlib.Core.Bool.{cond};
+ghost use Rattle.checks.specs.Refusals.{outside};
+
+pub fn outside(low: u64, high: u64, n: u64) -> bool
+    ensures { λ r. ⌜ r ≡ outside low high n ⌝ }
+{
+    n < low || high < n
+}
+
+// The number where its test is met, else what the lines after it say.
+pub fn refused_if(met: bool, number: u64, otherwise: u64) -> u64
+    ensures { λ r. ⌜ r ≡ cond met number otherwise ⌝ }
+{
+    if met { number } else { otherwise }
+}

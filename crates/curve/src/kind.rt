@@ -1,0 +1,81 @@
+// The two kinds of road and what each carries: the ends of F in thousandths of mi/h, of the lane count, and of capacity, at those ends
+// of F, in hundredths of passenger cars per hour per lane.
+//   lowest_speed, highest_speed   the ends of F
+//   fewest_lanes, most_lanes      the ends of the lane count
+ghost use mathlib.Core.Path.{_≡_};
+ghost use Rattle.curve.specs.Kinds.{lowestSpeed, highestSpeed, fewestLanes, mostLanes};
+
+// Kind F: a basic freeway segment.
+pub struct Freeway;
+
+// Kind M: a multilane highway.
+pub struct Multilane;
+
+impl Freeway {
+    pub const LOWEST_SPEED: u64 = 55_000;
+
+    pub const HIGHEST_SPEED: u64 = 75_000;
+
+    pub const FEWEST_LANES: u64 = 2;
+
+    pub const MOST_LANES: u64 = 8;
+
+    pub const LOWEST_CAPACITY: u64 = 225_000;
+
+    pub const HIGHEST_CAPACITY: u64 = 240_000;
+}
+
+impl Multilane {
+    pub const LOWEST_SPEED: u64 = 45_000;
+
+    pub const HIGHEST_SPEED: u64 = 70_000;
+
+    pub const FEWEST_LANES: u64 = 2;
+
+    pub const MOST_LANES: u64 = 3;
+
+    pub const LOWEST_CAPACITY: u64 = 190_000;
+
+    pub const HIGHEST_CAPACITY: u64 = 230_000;
+}
+
+pub enum Kind {
+    Freeway,
+    Multilane,
+}
+
+pub fn lowest_speed(kind: Kind) -> u64
+    ensures { λ r. ⌜ r ≡ lowestSpeed kind ⌝ }
+{
+    match kind {
+        Kind::Freeway => Freeway::LOWEST_SPEED,
+        Kind::Multilane => Multilane::LOWEST_SPEED,
+    }
+}
+
+pub fn highest_speed(kind: Kind) -> u64
+    ensures { λ r. ⌜ r ≡ highestSpeed kind ⌝ }
+{
+    match kind {
+        Kind::Freeway => Freeway::HIGHEST_SPEED,
+        Kind::Multilane => Multilane::HIGHEST_SPEED,
+    }
+}
+
+pub fn fewest_lanes(kind: Kind) -> u64
+    ensures { λ r. ⌜ r ≡ fewestLanes kind ⌝ }
+{
+    match kind {
+        Kind::Freeway => Freeway::FEWEST_LANES,
+        Kind::Multilane => Multilane::FEWEST_LANES,
+    }
+}
+
+pub fn most_lanes(kind: Kind) -> u64
+    ensures { λ r. ⌜ r ≡ mostLanes kind ⌝ }
+{
+    match kind {
+        Kind::Freeway => Freeway::MOST_LANES,
+        Kind::Multilane => Multilane::MOST_LANES,
+    }
+}

@@ -1,0 +1,72 @@
+-- The curve of a case, or its refusal (specs/Checked).
+--   caseCurve-wellFormed, caseCurve-sized   the curve of an accepted case
+--   caseCurve-kind       its kind is the road's
+--   checkedCurve-eq      a case that 1 to 9 do not refuse: 10 alone is checked
+--   checked-accepted     a case that is checked and found with a curve is accepted, and the curve is its own
+--   checked-curve        which is well formed and within the sizes
+--   checked-refused      a case that is checked and refused is not
+--   checkedCurve-accepted, checkedCurve-refused   the same where 10 alone is checked
+-- Assumes nothing.
+use mathlib.Core.Path.{_≡_, refl, sym, ap, _∙_}
+use Prim.Native.Nat.{ℕ, _<_}
+use native.Mathlib.Omega.{arith}
+use Rattle.checks.specs.Refusals.{unlessRefused}
+use Rattle.checks.proofs.RefusalLaws.{unlessRefused-found, unlessRefused-refused}
+use Rattle.curve.specs.declared.Curve.{Curve}
+use Rattle.curve.specs.Curves.{curveAt, WellFormed, Sized}
+use Rattle.curve.proofs.CurveLaws.{curveAt-wellFormed, curveAt-sized}
+use Rattle.road.specs.declared.Case.{Case}
+use Rattle.road.specs.FreeFlowSpeed.{freeFlowSpeed}
+use Rattle.road.specs.Refusals.{FieldsFit}
+use Rattle.road.proofs.FreeFlowSpeedLaws.{freeFlowSpeed-le}
+use Rattle.method.specs.declared.checked.Checked.{Checked}
+use Rattle.method.specs.declared.checked.Checked.the-variants as Checked
+use Rattle.method.specs.Refusals.{refusal, Accepted}
+use Rattle.method.specs.Checked.{curveOf, caseCurve, checkedCurve, checked, refusalNumber}
+use Rattle.method.proofs.RefusalLaws.{refusals-fields, accepted-speed}
+
+pub caseCurve-wellFormed : (case : Case) → Accepted case → WellFormed (caseCurve case)
+unfolding curveOf
+caseCurve-wellFormed case a =
+    curveAt-wellFormed (case .road .kind) (freeFlowSpeed (case .road) (case .lanes)) (accepted-speed case a)
+    (freeFlowSpeed-le (case .road) (case .lanes))
+
+pub caseCurve-sized : (case : Case) → Accepted case → Sized (caseCurve case)
+unfolding curveOf
+caseCurve-sized case a =
+    curveAt-sized (case .road .kind) (freeFlowSpeed (case .road) (case .lanes)) (accepted-speed case a)
+    (freeFlowSpeed-le (case .road) (case .lanes))
+
+pub caseCurve-kind : (case : Case) → caseCurve case .kind ≡ case .road .kind
+unfolding curveOf curveAt
+caseCurve-kind case = refl
+
+pub checkedCurve-eq : (case : Case) → FieldsFit case → checkedCurve (case .road) (case .lanes) ≡ checked case
+checkedCurve-eq case z =
+    ap (λ n. unlessRefused n (Checked.Accepted (caseCurve case)) Checked.Refused) (sym (refusals-fields case z))
+
+pub checked-accepted : (case : Case) (curve : Curve) → checked case ≡ Checked.Accepted curve → Accepted case × (curve ≡ caseCurve case)
+checked-accepted case curve e =
+    let found = unlessRefused-found (refusal case) (Checked.Accepted (caseCurve case)) Checked.Refused refusalNumber refl
+    (λ k. refl) (Checked.Accepted curve) e refl in
+    (found .0, cc (found .1))
+
+-- what is found is well formed and within the sizes
+pub checked-curve : (case : Case) (curve : Curve) → checked case ≡ Checked.Accepted curve → WellFormed curve × Sized curve
+checked-curve case curve e =
+    let found = checked-accepted case curve e in rw (found .1) (caseCurve-wellFormed case (found .0), caseCurve-sized case (found .0))
+
+pub checked-refused : (case : Case) (n : ℕ) → checked case ≡ Checked.Refused n → 0 < refusal case
+checked-refused case n e =
+    unlessRefused-refused (refusal case) (Checked.Accepted (caseCurve case)) Checked.Refused (Checked.Refused n) e
+    (λ d. let o : _≡_ {A = ℕ} 0 1 = cc d in omega arith)
+
+-- the same where 10 alone is checked, of a case that 1 to 9 do not refuse
+pub checkedCurve-accepted : (case : Case) (curve : Curve) → FieldsFit case
+    → checkedCurve (case .road) (case .lanes) ≡ Checked.Accepted curve
+    → Accepted case × (curve ≡ caseCurve case)
+checkedCurve-accepted case curve z e = checked-accepted case curve (sym (checkedCurve-eq case z) ∙ e)
+
+pub checkedCurve-refused : (case : Case) (n : ℕ) → FieldsFit case → checkedCurve (case .road) (case .lanes) ≡ Checked.Refused n
+    → 0 < refusal case
+checkedCurve-refused case n z e = checked-refused case n (sym (checkedCurve-eq case z) ∙ e)

@@ -1,0 +1,45 @@
+// The curve of a case, or its refusal.
+//   SPEED_BELOW_LOWER_END   refusal 10
+//   Checked                 a curve or a refusal
+//   checked_curve           the curve of a road with a lane count, or 10
+//   check                   the curve of a case, or the first of 1 to 10 that refuses it
+use curve::Curve;
+use curve::curve_at;
+use curve::kind;
+use road::Case;
+use road::Road;
+use road::free_flow;
+use road::refusal;
+ghost use mathlib.Core.Path.{_≡_};
+ghost use Rattle.road.specs.Refusals.{RoadFits};
+ghost use Rattle.method.specs.Checked.{checkedCurve, checked};
+
+pub const SPEED_BELOW_LOWER_END: u64 = 10;
+
+pub enum Checked {
+    Accepted(Curve),
+    Refused(u64),
+}
+
+pub fn checked_curve(road: Road, lanes: u64) -> Checked
+    requires { ⌜ RoadFits road ⌝ }
+    ensures { λ r. ⌜ r ≡ checkedCurve road lanes ⌝ }
+{
+    let kind = road.kind;
+    let speed = free_flow::free_flow_speed(road, lanes);
+    if speed < kind::lowest_speed(kind) {
+        return Checked::Refused(SPEED_BELOW_LOWER_END);
+    }
+    Checked::Accepted(curve_at(kind, speed))
+}
+
+pub fn check(case: Case) -> Checked
+    ensures { λ r. ⌜ r ≡ checked case ⌝ }
+{
+    let number = refusal::field_refusal(case);
+    if number == 0 {
+        let road = case.road;
+        return checked_curve(road, case.lanes);
+    }
+    Checked::Refused(number)
+}

@@ -1,0 +1,5 @@
+-- What is printed for lines.
+--   Texts    answers as text
+--   Output   what `los` prints
+pub mod Texts
+pub mod Output

@@ -1,0 +1,103 @@
+-- Refusals 1 to 9 (specs/Refusals).
+--   fieldRefusals-road, fieldRefusals-some   a road that 1 to 5 do not refuse: 6 to 9 decide; one that they refuse: its number
+--   fields-road          a case that 1 to 9 do not refuse: 1 to 5 do not refuse its road
+--   fields-numbered      every number is above 0
+--   RoadEnds, road-ends  the ends that 1 and 5 leave to a road
+--   LoadEnds, load-ends  the ends that 6 to 9 leave to a case
+--   fields-withDemand    a case that 1 to 9 do not refuse is so with every demand up to the greatest
+--   fields-withLanes     and with every lane count of the kind
+-- Assumes nothing.
+use mathlib.Core.Path.{_≡_, _∙_}
+use Prim.Native.Nat.{ℕ, _≤_, _<_}
+use borrow.Author.Tests.{ltb-false, le-ltb}
+use lib.Dec.{T}
+use Rattle.checks.specs.Refusals.{firstRefusal}
+use Rattle.checks.proofs.RefusalLaws.{numbered, firstRefusal-none, firstRefusal-some, firstRefusal-join, NoneMet, none-met, none-of, within}
+use Rattle.checks.proofs.RefusalLaws.{inside}
+use Rattle.curve.specs.Kinds.{fewestLanes, mostLanes}
+use Rattle.road.specs.declared.Road.{Road}
+use Rattle.road.specs.declared.Case.{Case}
+use Rattle.road.specs.Cases.{withDemand, withLanes}
+use Rattle.road.specs.Refusals.{mostAccess, greatestDemand, roadRefusals, loadRefusals, fieldRefusals, RoadFits, FieldsFit}
+
+-- ---- the two lists
+road-numbered : (road : Road) → T (numbered (roadRefusals road))
+unfolding roadRefusals
+road-numbered road = tt
+
+pub fields-numbered : (case : Case) → T (numbered (fieldRefusals case))
+unfolding fieldRefusals roadRefusals loadRefusals
+fields-numbered case = tt
+
+pub fieldRefusals-road : (case : Case) → RoadFits (case .road) → firstRefusal (fieldRefusals case) ≡ firstRefusal (loadRefusals case)
+unfolding fieldRefusals
+fieldRefusals-road case z = firstRefusal-none (roadRefusals (case .road)) (loadRefusals case) (road-numbered (case .road)) z
+
+pub fieldRefusals-some : (case : Case) → 0 < firstRefusal (roadRefusals (case .road))
+    → firstRefusal (fieldRefusals case) ≡ firstRefusal (roadRefusals (case .road))
+unfolding fieldRefusals
+fieldRefusals-some case p = firstRefusal-some (roadRefusals (case .road)) (loadRefusals case) p
+
+parts : (case : Case) → FieldsFit case → RoadFits (case .road) × (firstRefusal (loadRefusals case) ≡ 0)
+unfolding fieldRefusals
+parts case z = firstRefusal-join (roadRefusals (case .road)) (loadRefusals case) (road-numbered (case .road)) z
+
+pub fields-road : (case : Case) → FieldsFit case → RoadFits (case .road)
+fields-road case z = parts case z .0
+
+-- ---- the ends that they leave
+pub record RoadEnds (road : Road) : Type 0 where
+  pub speed-low : 30000 ≤ road .speed
+  pub access-high : road .access ≤ mostAccess (road .kind)
+
+pub road-ends : (road : Road) → RoadFits road → RoadEnds road
+unfolding roadRefusals
+road-ends road z =
+    let none = none-met (roadRefusals road) tt z in
+    record {
+      speed-low = within 30000 90000 (road .speed) (none .0) .0;
+      access-high = ltb-false (mostAccess (road .kind)) (road .access) (none .1 .1 .1 .1 .0);
+    }
+
+load-none : (case : Case) → FieldsFit case → NoneMet (loadRefusals case)
+unfolding loadRefusals
+load-none case z = none-met (loadRefusals case) tt (parts case z .1)
+
+pub record LoadEnds (case : Case) : Type 0 where
+  pub lanes-low : fewestLanes (case .road .kind) ≤ case .lanes
+  pub lanes-high : case .lanes ≤ mostLanes (case .road .kind)
+  pub demand-high : case .demand ≤ greatestDemand
+  pub factor-low : 250 ≤ case .«peak_hour_factor»
+  pub factor-high : case .«peak_hour_factor» ≤ 1000
+  pub share-high : case .«heavy_share» ≤ 1000
+
+pub load-ends : (case : Case) → FieldsFit case → LoadEnds case
+unfolding loadRefusals
+load-ends case z =
+    let none = load-none case z in
+    let lanes = within (fewestLanes (case .road .kind)) (mostLanes (case .road .kind)) (case .lanes) (none .0) in
+    let factor = within 250 1000 (case .«peak_hour_factor») (none .1 .1 .0) in
+    record {
+      lanes-low = lanes .0;
+      lanes-high = lanes .1;
+      demand-high = ltb-false greatestDemand (case .demand) (none .1 .0);
+      factor-low = factor .0;
+      factor-high = factor .1;
+      share-high = ltb-false 1000 (case .«heavy_share») (none .1 .1 .1 .0);
+    }
+
+-- ---- a case with one field changed
+pub fields-withDemand : (case : Case) (demand : ℕ) → FieldsFit case → demand ≤ greatestDemand → FieldsFit (withDemand case demand)
+unfolding loadRefusals
+fields-withDemand case demand z h =
+    let none = load-none case z in
+    fieldRefusals-road (withDemand case demand) (fields-road case z)
+    ∙ none-of (loadRefusals (withDemand case demand)) (none .0, (le-ltb greatestDemand demand h, none .1 .1))
+
+pub fields-withLanes : (case : Case) (n : ℕ) → FieldsFit case → fewestLanes (case .road .kind) ≤ n → n ≤ mostLanes (case .road .kind)
+    → FieldsFit (withLanes case n)
+unfolding loadRefusals
+fields-withLanes case n z h k =
+    let none = load-none case z in
+    fieldRefusals-road (withLanes case n) (fields-road case z)
+    ∙ none-of (loadRefusals (withLanes case n)) (inside (fewestLanes (case .road .kind)) (mostLanes (case .road .kind)) n h k, none .1)
