@@ -5,7 +5,7 @@
 --   meets-demand         what the search tries at a demand is meeting the letter with that demand
 --   serviceVolume-eq     the service volume of an accepted case is the greatest demand that the search's test passes
 --   serviceVolume-iff    a demand meets a letter exactly when it is at most the service volume
---   volume-ready, serviceVolume-terms   the search for a service volume, from the terms of the case's curve
+--   volume-ready, serviceVolume-terms   the search for a service volume, from the terms of the case
 -- Assumes nothing.
 use mathlib.Core.Path.{_≡_, refl, sym}
 use mathlib.Core.Bool.{Bool, false}
@@ -20,7 +20,6 @@ use Rattle.numbers.specs.Search.{greatest, DownwardClosed}
 use Rattle.numbers.proofs.SearchLaws.{greatest-iff, greatest-cong}
 use Rattle.numbers.proofs.BoolLaws.{and-left, leb-test}
 use Rattle.curve.specs.declared.Curve.{Curve}
-use Rattle.curve.specs.declared.speed.CurveTerms.{CurveTerms}
 use Rattle.curve.specs.Curves.{WellFormed}
 use Rattle.curve.specs.Terms.{curveTerms, Ready}
 use Rattle.curve.specs.Service.{letterAt, letterNumber, performance, meetsLimit, densityLimit}
@@ -29,6 +28,7 @@ use Rattle.road.specs.declared.Case.{Case}
 use Rattle.road.specs.Cases.{withDemand}
 use Rattle.road.specs.Refusals.{greatestDemand}
 use Rattle.method.specs.declared.flow.Load.{Load}
+use Rattle.method.specs.declared.assess.CaseTerms.{CaseTerms}
 use Rattle.method.specs.Refusals.{refusal, Accepted}
 use Rattle.method.specs.Checked.{caseCurve}
 use Rattle.method.specs.Flow.{heavyFactor, loadOf, flowRate, caseFlowRate, LoadFits}
@@ -97,11 +97,11 @@ module _ (case : Case) (l : ℕ) (a : Accepted case) (h : 1 ≤ l) (k : l ≤ 5)
       (demandMeets-down (caseCurve case) (loadOf case (case .lanes)) (densityLimit l) ok pos) d)
 
 -- what the search for a service volume needs
-module _ (case : Case) (load : Load) (terms : CurveTerms) (table : List ℕ) (r : CaseReady case load terms table) where
-  pub volume-ready : Ready terms table × LoadFits load
-  volume-ready = (case-ready case load terms table r, case-load case load terms table r)
+module _ (case : Case) (terms : CaseTerms) (table : List ℕ) (r : CaseReady case terms table) where
+  pub volume-ready : Ready (terms .«curve_terms») table × LoadFits (terms .load)
+  volume-ready = (case-ready case terms table r, case-load case terms table r)
 
   pub serviceVolume-terms : (l : ℕ) → 1 ≤ l → l ≤ 5
-      → greatest (demandMeets (terms .curve) load (densityLimit l)) greatestDemand ≡ serviceVolume case l
+      → greatest (demandMeets (terms .«curve_terms» .curve) (terms .load) (densityLimit l)) greatestDemand ≡ serviceVolume case l
   unfolding curveTerms
-  serviceVolume-terms l h k = rw (r .own-terms, r .own-load) (sym (serviceVolume-eq case l (r .accepted) h k))
+  serviceVolume-terms l h k = rw (r .own-terms) (sym (serviceVolume-eq case l (r .accepted) h k))

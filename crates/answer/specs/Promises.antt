@@ -49,8 +49,7 @@ hardness Terrain.Level = 0
 hardness Terrain.Rolling = 1
 
 -- Part 1. Of two accepted cases of the same road, the one with no less demand, no smaller share, no easier terrain, no higher peak-hour
--- factor
--- and no more lanes never gets the better letter.
+-- factor and no more lanes never gets the better letter.
 abbrev pub NoBetterUnderMoreLoad : Type 0
 NoBetterUnderMoreLoad =
     (c d : Case) → Accepted c → Accepted d → SameRoad c d
@@ -68,8 +67,7 @@ MeetsUpToTheServiceVolume =
     → Meets (withDemand c demand) n ↔ (demand ≤ volumeIn (answerTo c) n)
 
 -- Part 3. For a letter number from 1 to 5 and a case that none of 1 to 9 refuses: the lanes question answers a count exactly when the count
--- is
--- accepted, meets the letter, and no smaller accepted count does; and it answers 14 exactly when no accepted count does.
+-- is accepted, meets the letter, and no smaller accepted count does; and it answers 14 exactly when no accepted count does.
 abbrev pub LeastAcceptedCount : Type 0
 LeastAcceptedCount =
     (case : Case) (n : ℕ) → 1 ≤ n → n ≤ 5 → FieldsFit case

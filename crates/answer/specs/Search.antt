@@ -1,6 +1,5 @@
 -- What the searches try, and what they need. It is no part of the method: proofs/VolumeLaws shows that a demand that is tried passes
--- exactly when
--- it meets the letter.
+-- exactly when it meets the letter.
 --   demandMeets curve load limit demand   the flow rate of the demand keeps to capacity and to the density
 --   Trying terms table load limit demand  a demand, or an end of demands, that 64 bits hold with these terms and this load
 --   Asking case n                         none of 16 and 1 to 9 refuses the lanes question

@@ -6,9 +6,9 @@ use curve::Curve;
 use curve::kind::Kind;
 use curve::service;
 use curve::service::Letter;
-use curve::speed;
 use curve::speed::CurveTerms;
 use method::assess;
+use method::assess::CaseTerms;
 use method::checked;
 use method::checked::Checked;
 use method::flow;
@@ -86,11 +86,13 @@ fn service_volume(terms: CurveTerms, table: &[u32], load: Load, letter: u64) -> 
     )
 }
 
-fn graded_with(case: Case, load: Load, terms: CurveTerms, table: &[u32]) -> Grade
-    requires { ⌜ CaseReady case load terms (now table) ⌝ }
+fn graded_with(case: Case, terms: CaseTerms, table: &[u32]) -> Grade
+    requires { ⌜ CaseReady case terms (now table) ⌝ }
     ensures { λ r. ⌜ r ≡ graded case ⌝ }
 {
-    let measures = assess::measures_with(case, load, terms, table);
+    let measures = assess::measures_with(case, terms, table);
+    let load = terms.load;
+    let curve_terms = terms.curve_terms;
     let curve = measures.curve;
     let performance = measures.performance;
     let letter = performance.letter;
@@ -101,27 +103,26 @@ fn graded_with(case: Case, load: Load, terms: CurveTerms, table: &[u32]) -> Grad
         flow_rate: measures.flow_rate,
         speed: performance.speed,
         density: performance.density,
-        volume_a: service_volume(terms, table, load, 1),
-        volume_b: service_volume(terms, table, load, 2),
-        volume_c: service_volume(terms, table, load, 3),
-        volume_d: service_volume(terms, table, load, 4),
-        volume_e: service_volume(terms, table, load, 5),
+        volume_a: service_volume(curve_terms, table, load, 1),
+        volume_b: service_volume(curve_terms, table, load, 2),
+        volume_c: service_volume(curve_terms, table, load, 3),
+        volume_d: service_volume(curve_terms, table, load, 4),
+        volume_e: service_volume(curve_terms, table, load, 5),
     }
 }
 
-// The load and the terms of the curve are worked out, and the table of powers is made where the kind reads it, once a case.
+// The terms of the case are worked out, and the table of powers is made where the kind reads it, once a case.
 fn graded(case: Case, curve: Curve) -> Grade
     requires { ⌜ checked case ≡ Checked.Accepted curve ⌝ }
     ensures { λ r. ⌜ r ≡ graded case ⌝ }
 {
-    let load = flow::load_of(case, case.lanes);
-    let terms = speed::curve_terms(curve);
+    let terms = assess::case_terms(case, curve);
     let kind = curve.kind;
     match kind {
-        Kind::Freeway => graded_with(case, load, terms, &[]),
+        Kind::Freeway => graded_with(case, terms, &[]),
         Kind::Multilane => {
             let table = powers::power_table();
-            graded_with(case, load, terms, &table)
+            graded_with(case, terms, &table)
         }
     }
 }

@@ -1,5 +1,7 @@
 // The two kinds of road and what each carries: the ends of F in thousandths of mi/h, of the lane count, and of capacity, at those ends
 // of F, in hundredths of passenger cars per hour per lane.
+//   Freeway, Multilane            the two kinds, with what they carry as constants
+//   Kind                          one of the two
 //   lowest_speed, highest_speed   the ends of F
 //   fewest_lanes, most_lanes      the ends of the lane count
 ghost use mathlib.Core.Path.{_≡_};

@@ -28,7 +28,6 @@ use Rattle.numbers.proofs.BoolLaws.{and-left, and-right, T-true}
 use Rattle.text.specs.Bytes.{tab}
 use Rattle.text.specs.Parts.{countBefore}
 use Rattle.text.proofs.PartsLaws.{countBefore-le, countBefore-hit, countBefore-miss, countBefore-end}
-use Rattle.lines.specs.declared.field.FieldValue.{FieldValue}
 use Rattle.lines.specs.declared.field.FieldValue.the-variants.{Value, Malformed}
 use Rattle.lines.specs.Fields.{Field, digit, spelled, number, fieldAs}
 use Rattle.lines.specs.Places.{fieldEnd, fieldFrom, DigitsRead, ReadAs}

@@ -33,8 +33,7 @@ printedAnswer = "C\t60783\t230783\t1196\t60783\t197\t1117\t1829\t2642\t3360\t385
 
 -- Starred: the printed line. Not starred: what is printed for it between an empty line and a last line without newline; an empty input;
 -- its 13 values, letters by their bytes; the line with a leading zero, six digits and an empty field as its demand, with a 14th field, and
--- with
--- an unknown terrain.
+-- with an unknown terrain.
 unfoldable pub addedFigures : List Figure
 addedFigures =
     figure (lineText (bytesOf printedLine)) (bytesOf printedAnswer)

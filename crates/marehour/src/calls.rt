@@ -1,6 +1,8 @@
 // Evaluation and lanes question for a host in C: a lent line without its newline, and a lent answer buffer.
-//   marehour_answer   the answer to a line
-//   marehour_lanes    the lanes question for a line and a letter number
+//   BUFFER_TOO_SHORT   refusal 17
+//   refused            a refusal as a call hands it back
+//   marehour_answer    the answer to a line
+//   marehour_lanes     the lanes question for a line and a letter number
 use answer::evaluate;
 use answer::evaluate::Answer;
 use answer::lanes;

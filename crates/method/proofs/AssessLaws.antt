@@ -1,7 +1,7 @@
 -- What a case gets, or its refusal (specs/Assess).
 --   assessment-refusal    its number is the case's refusal
 --   assessed, assessment-checked   what is made of a case that was checked
---   case-readied          an accepted case with its load, the terms of the curve found and a table
+--   case-readied          an accepted case with its terms and a table
 --   case-ready, case-load   what they are ready for
 -- Assumes nothing.
 use mathlib.Core.Path.{_≡_, refl, sym, ap, _∙_, subst}
@@ -9,19 +9,18 @@ use mathlib.Core.List.{List}
 use Prim.Native.Nat.{ℕ}
 use Rattle.checks.proofs.RefusalLaws.{unlessRefused-number, unlessRefused-map}
 use Rattle.curve.specs.declared.Curve.{Curve}
-use Rattle.curve.specs.declared.speed.CurveTerms.{CurveTerms}
 use Rattle.curve.specs.Terms.{curveTerms, TableFor, Ready}
 use Rattle.curve.proofs.TermsLaws.{curveTerms-prepared}
 use Rattle.road.specs.declared.Case.{Case}
-use Rattle.method.specs.declared.flow.Load.{Load}
+use Rattle.method.specs.declared.assess.CaseTerms.{CaseTerms}
 use Rattle.method.specs.declared.checked.Checked.{Checked}
 use Rattle.method.specs.declared.checked.Checked.the-variants as Checked
 use Rattle.method.specs.declared.assess.Assessment.{Assessment}
 use Rattle.method.specs.declared.assess.Assessment.the-variants as Assessment
 use Rattle.method.specs.Refusals.{refusal, Accepted}
 use Rattle.method.specs.Checked.{caseCurve, checked}
-use Rattle.method.specs.Flow.{loadOf, LoadFits}
-use Rattle.method.specs.Assess.{measures, assessment, refusalNumber, CaseReady}
+use Rattle.method.specs.Flow.{LoadFits}
+use Rattle.method.specs.Assess.{measures, assessment, refusalNumber, caseTerms, CaseReady}
 use Rattle.method.proofs.RefusalLaws.{accepted-fields}
 use Rattle.method.proofs.CheckedLaws.{caseCurve-wellFormed, caseCurve-sized, caseCurve-kind, checked-accepted}
 use Rattle.method.proofs.FlowLaws.{caseLoad-fits}
@@ -37,20 +36,18 @@ assessed case (Checked.Refused n) = Assessment.Refused n
 pub assessment-checked : (case : Case) → assessed case (checked case) ≡ assessment case
 assessment-checked case = unlessRefused-map (refusal case) (Checked.Accepted (caseCurve case)) Checked.Refused (assessed case)
 
-pub case-readied : (case : Case) (curve : Curve) (load : Load) (terms : CurveTerms) (table : List ℕ)
-    → checked case ≡ Checked.Accepted curve → load ≡ loadOf case (case .lanes) → terms ≡ curveTerms curve → TableFor (curve .kind) table
-    → CaseReady case load terms table
-case-readied case curve load terms table e l t f =
+pub case-readied : (case : Case) (curve : Curve) (terms : CaseTerms) (table : List ℕ)
+    → checked case ≡ Checked.Accepted curve → terms ≡ caseTerms case → TableFor (curve .kind) table → CaseReady case terms table
+case-readied case curve terms table e t f =
     let found = checked-accepted case curve e in
     record {
       accepted = found .0;
-      own-load = l;
-      own-terms = t ∙ ap curveTerms (found .1);
+      own-terms = t;
       read = subst (λ k. TableFor k table) (ap (λ c. c .kind) (found .1) ∙ caseCurve-kind case) f;
     }
 
-module _ (case : Case) (load : Load) (terms : CurveTerms) (table : List ℕ) (r : CaseReady case load terms table) where
-  pub case-ready : Ready terms table
+module _ (case : Case) (terms : CaseTerms) (table : List ℕ) (r : CaseReady case terms table) where
+  pub case-ready : Ready (terms .«curve_terms») table
   unfolding curveTerms
   case-ready =
       record {
@@ -59,5 +56,5 @@ module _ (case : Case) (load : Load) (terms : CurveTerms) (table : List ℕ) (r 
         read = rw (r .own-terms) (subst (λ k. TableFor k table) (sym (caseCurve-kind case)) (r .read));
       }
 
-  pub case-load : LoadFits load
-  case-load = rw (r .own-load) (caseLoad-fits case (accepted-fields case (r .accepted)))
+  pub case-load : LoadFits (terms .load)
+  case-load = rw (r .own-terms) (caseLoad-fits case (accepted-fields case (r .accepted)))

@@ -3,17 +3,17 @@
 --   assessment case   its measures, or the number of the first of 1 to 10 that refuses it
 --   refusalNumber a   the number of the refusal, 0 where there is none
 --   values a          letter, F, c, v, speed and density; of a refusal no value
---   CaseReady case load terms table   an accepted case, its load, the terms of its curve, and the table of powers that its kind reads
+--   caseTerms case    what the code works out once a case: its load, and the terms of its curve. It is no part of the method
+--   CaseReady case terms table   an accepted case, its terms, and the table of powers that its kind reads
 -- Assumes nothing.
 use Prim.Native.Nat.{ℕ}
 use mathlib.Core.Path.{_≡_}
 use mathlib.Core.List.{List, [], _∷_}
 use Rattle.checks.specs.Refusals.{unlessRefused}
-use Rattle.curve.specs.declared.speed.CurveTerms.{CurveTerms}
 use Rattle.curve.specs.Terms.{curveTerms, TableFor}
 use Rattle.curve.specs.Service.{letterNumber, performance}
 use Rattle.road.specs.declared.Case.{Case}
-use Rattle.method.specs.declared.flow.Load.{Load}
+use Rattle.method.specs.declared.assess.CaseTerms.{CaseTerms}
 use Rattle.method.specs.declared.assess.Measures.{Measures}
 use Rattle.method.specs.declared.assess.Assessment.{Assessment}
 use Rattle.method.specs.declared.assess.Assessment.the-variants as Assessment
@@ -44,8 +44,10 @@ values (Assessment.Measured m) =
     ∷ []
 values (Assessment.Refused n) = []
 
-pub record CaseReady (case : Case) (load : Load) (terms : CurveTerms) (table : List ℕ) : Type 0 where
+abbrev pub caseTerms : Case → CaseTerms
+caseTerms case = record { load = loadOf case (case .lanes); «curve_terms» = curveTerms (caseCurve case) }
+
+pub record CaseReady (case : Case) (terms : CaseTerms) (table : List ℕ) : Type 0 where
   pub accepted : Accepted case
-  pub own-load : load ≡ loadOf case (case .lanes)
-  pub own-terms : terms ≡ curveTerms (caseCurve case)
+  pub own-terms : terms ≡ caseTerms case
   pub read : TableFor (case .road .kind) table

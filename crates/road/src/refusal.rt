@@ -1,4 +1,6 @@
 // Refusals 1 to 9 of a case, in document 01's order, and their numbers.
+//   SPEED_OUT_OF_RANGE to SHARE_TOO_LARGE   the numbers 1 to 9
+//   GREATEST_DEMAND                         the greatest demand that 7 lets pass
 //   road_refusal    the first of 1 to 5 that refuses a road, 0 where none does
 //   field_refusal   the first of 1 to 9 that refuses a case, 0 where none does
 use crate::Case;

@@ -1,6 +1,5 @@
--- Runs over an input that comes in pieces, and what they print: stated over any text of a line and any length at which lines count as too
--- long;
--- proofs/RunLaws proves it.
+-- Runs over an input that comes in pieces, and what they print: stated over any text of a line and any length from which on lines count as
+-- too long; proofs/RunLaws proves it.
 --   Run t room held ps out   a run that holds some bytes, with the pieces ps still to come, prints out from there on
 --   joinedPieces ps          the pieces ps, one after the other
 --   TooLongAlike t           lines that are too long all get the same text
@@ -17,8 +16,7 @@ use Rattle.stream.specs.Stream.{LineTexts, texts, lastLine, outputOf}
 use Rattle.stream.specs.Turns.{answered, carried}
 
 -- feed: a piece comes in; turn: whole lines are answered and the rest is carried over; end: the input has ended, and what is left is the
--- last
--- line, if it is one
+-- last line, if it is one
 pub data Run (t : LineTexts) (room : ℕ) : List ℕ → List (List ℕ) → List ℕ → Type 0 where
   feed : (held piece : List ℕ) (pieces : List (List ℕ)) (out : List ℕ) → Run t room (held ++ piece) pieces out
       → Run t room held (piece ∷ pieces) out

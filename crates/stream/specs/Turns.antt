@@ -1,6 +1,5 @@
 -- A turn, which answers whole lines of the bytes that are held and carries the rest over: the words in which the contracts of src/ speak.
--- What it
--- comes to is specs/Runs.
+-- What it comes to is in specs/Runs.
 --   endedParts ps           the parts that a newline ends: all but the last
 --   fitting t room ls       of the lines ls, those that are answered in a buffer with this room
 --   answered t room bytes   the lines of some bytes that a turn answers

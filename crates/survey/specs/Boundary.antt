@@ -24,10 +24,9 @@ miles x = surveyOf (SurveyedSpeed.MilesPerHour x)
 abbrev answered : Survey → List ℕ
 answered survey = refusalNumber (surveyAnswer survey) ∷ values (surveyAnswer survey)
 
--- Of a survey that is accepted 0 and the speed, of one that is refused its number. A float is written m × 2 ^ e with an odd m: 100 is 25 ×
--- 2 ^ 2.
--- Starred: 100.0 km/h. Not starred: 30 and 90 mi/h; the float below 30 mi/h; 99 cars with a flow of 1,000 and NaN; a flow of 1,000
--- with NaN; NaN, both infinities, -0, -100 and the least float above 0.
+-- Of a survey that is accepted 0 and the speed, of one that is refused its number. A float is written m × 2 ^ e with an odd m: 100 is
+-- 25 × 2 ^ 2. Starred: 100.0 km/h. Not starred: 30 and 90 mi/h; the float below 30 mi/h; 99 cars with a flow of 1,000 and NaN; a flow of
+-- 1,000 with NaN; NaN, both infinities, -0, -100 and the least float above 0.
 unfoldable pub surveyFigures : List Figure
 surveyFigures =
     figure (answered (surveyOf (SurveyedSpeed.KilometresPerHour (fin false 25 (pos 2))))) (0 ∷ 62137 ∷ [])

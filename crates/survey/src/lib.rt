@@ -1,4 +1,5 @@
 // Survey: a surveyed speed in thousandths of mi/h, or its refusal.
+//   CARS_TOO_FEW, FLOW_TOO_LARGE, SURVEYED_SPEED_OUT_OF_RANGE   refusals 11 to 13
 //   SurveyedSpeed    the speed in its unit
 //   Survey           that speed, the cars counted and the flow
 //   SurveyAnswer     a speed or a refusal

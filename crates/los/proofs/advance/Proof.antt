@@ -1,6 +1,5 @@
 -- `los::advance` meets its contract: a turn carries over what the next step begins with; with nothing answered no newline is left, and
--- there is
--- room to read.
+-- there is room to read.
 -- Assumes nothing.
 use mathlib.Core.Path.{refl, sym, _∙_}
 use mathlib.Core.Bool.{true≢false}

@@ -13,10 +13,11 @@ returns : tie.Need-returns
 unfolding measures graded
 returns c =
     let last = c .before in
-    let s = last .before .before .before .before .before .before .before .before in
-    let volume = serviceVolume-terms (s .args .case) (s .args .load) (s .args .terms) (s .args .table .now) (s .pre) in
+    let measured = last .before .before .before .before .before .before .before .before in
+    let s = measured .before .before in
+    let volume = serviceVolume-terms (s .args .case) (s .args .terms) (s .args .table .now) (s .pre) in
     simp (
-      last .before .before .before .before .before .before .measures-with .ensures,
+      measured .measures-with .ensures,
       last .before .before .before .service-volume .ensures ∙ volume 1 (omega arith) (omega arith),
       last .before .before .service-volume2 .ensures ∙ volume 2 (omega arith) (omega arith),
       last .before .service-volume3 .ensures ∙ volume 3 (omega arith) (omega arith),
@@ -28,9 +29,9 @@ pub graded-with-spec : {M : Type 1} → statement M
 graded-with-spec =
     tie.close
     (tie.spec (λ c κs. search needs)
-    (λ c κs. volume-ready _ _ _ _ (c .before .before .before .before .pre))
-    (λ c κs. volume-ready _ _ _ _ (c .before .before .before .before .before .pre))
-    (λ c κs. volume-ready _ _ _ _ (c .before .before .before .before .before .before .pre))
-    (λ c κs. volume-ready _ _ _ _ (c .before .before .before .before .before .before .before .pre))
-    (λ c κs. volume-ready _ _ _ _ (c .before .before .before .before .before .before .before .before .pre))
+    (λ c κs. volume-ready _ _ _ (c .before .before .before .before .before .before .pre))
+    (λ c κs. volume-ready _ _ _ (c .before .before .before .before .before .before .before .pre))
+    (λ c κs. volume-ready _ _ _ (c .before .before .before .before .before .before .before .before .pre))
+    (λ c κs. volume-ready _ _ _ (c .before .before .before .before .before .before .before .before .before .pre))
+    (λ c κs. volume-ready _ _ _ (c .before .before .before .before .before .before .before .before .before .before .pre))
     returns)

@@ -1,6 +1,5 @@
--- `answer::evaluate::greatest_meeting` meets its contract: the halving keeps a demand that passes below one that fails, or that is past the
--- end,
--- until they are neighbours.
+-- `answer::evaluate::greatest_meeting` meets its contract: the halving keeps a demand that passes below one that fails or is past the
+-- end, until they are neighbours.
 -- Assumes nothing.
 use mathlib.Core.Path.{_≡_, sym, _∙_}
 use Prim.Native.Nat.{suc, _+_, _-_, _≤_, _<_}

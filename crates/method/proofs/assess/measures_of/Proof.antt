@@ -1,35 +1,23 @@
--- `method::assess::measures_of` meets its contract: the curve is the case's own; kind F reads no table, and kind M gets the table of powers.
+-- `method::assess::measures_of` meets its contract: kind F reads no table, and kind M gets the table of powers.
 -- Assumes nothing.
 use Rattle.curve.proofs.TermsLaws.{table-none, table-lent}
-use Rattle.method.proofs.RefusalLaws.{accepted-fields}
-use Rattle.method.proofs.CheckedLaws.{checked-accepted, checked-curve}
 use Rattle.method.proofs.AssessLaws.{case-readied}
 use borrow.Author.Needs.{needs}
 use Rattle.method.proofs.assess.measures_of.Statement.{statement}
 use Rattle.method.proofs.assess.measures_of.Tie as tie
 
-load-of-requires : tie.Need-load-of-requires
-load-of-requires c κs =
-    let case = c .args .case in accepted-fields case (checked-accepted case (c .args .curve) (c .pre) .0)
-
-curve-terms-requires : tie.Need-curve-terms-requires
-curve-terms-requires c κs = checked-curve (c .before .args .case) (c .before .args .curve) (c .before .pre)
-
 measures-with-requires : tie.Need-measures-with-requires
 measures-with-requires c κs =
-    let s = c .before .before .before .before .before in
-    case-readied (s .args .case) (s .args .curve) _ _ _ (s .pre) (c .before .before .before .before .load-of .ensures)
-    (c .before .before .before .curve-terms .ensures) (table-none _ _ (c .before .enum-told .given .1))
+    case-readied _ _ _ _ (c .before .before .before .before .pre) (c .before .before .before .case-terms .ensures)
+    (table-none _ _ (c .before .enum-told .given .1))
 
 measures-with-requires-2 : tie.Need-measures-with-requires-2
 measures-with-requires-2 c κs =
-    let s = c .before .before .before .before .before .before in
-    case-readied (s .args .case) (s .args .curve) _ _ _ (s .pre) (c .before .before .before .before .before .load-of .ensures)
-    (c .before .before .before .before .curve-terms .ensures)
+    case-readied _ _ _ _ (c .before .before .before .before .before .pre) (c .before .before .before .before .case-terms .ensures)
     (table-lent _ _ (c .before .before .enum-told2 .given .1) (c .before .power-table .ensures))
 
 pub measures-of-spec : {M : Type 1} → statement M
 measures-of-spec =
     tie.close
-    (tie.spec load-of-requires curve-terms-requires (λ c. search needs) (λ c. search needs) measures-with-requires (λ c. search needs)
+    (tie.spec (λ c κs. search needs) (λ c. search needs) (λ c. search needs) measures-with-requires (λ c. search needs)
     (λ c κs. search needs) (λ c. search needs) measures-with-requires-2 (λ c. search needs) (λ c. search needs))
