@@ -8,13 +8,15 @@ use libc::STDOUT_FILENO;
 use replies::block;
 ghost use mathlib.Core.Path.{_≡_};
 ghost use mathlib.Core.Bool.{true, false};
+ghost use mathlib.Core.Logic.{_↔_};
 ghost use Prim.Native.Nat.{_+_, _≤_, _<_};
 ghost use lib.ListN.{length, take};
 ghost use Rattle.text.specs.Bytes.{newline};
 ghost use Rattle.text.specs.Parts.{countBefore};
 ghost use Rattle.lines.specs.Reading.{longestLine};
 ghost use Rattle.replies.specs.Texts.{longestAnswer};
-ghost use Rattle.stream.specs.Turns.{carried};
+ghost use Rattle.stream.specs.Stream.{texts};
+ghost use Rattle.stream.specs.Turns.{answered, carried};
 ghost use Rattle.replies.specs.Output.{lineTexts};
 
 // After a step: the bytes held, whether there may be more, and whether reading and writing went well.
@@ -33,12 +35,12 @@ fn write_out(answers: &[u8]) -> bool {
     sound
 }
 
-// Reads a piece behind the bytes held. There has to be room: nothing read is the end of the input.
+// Reads a piece behind the bytes held. There has to be room: nothing read is the end of the input, and nothing else is.
 fn read_more(buffer: &mut [u8], held: usize) -> Step
     requires { ⌜ held < length (now buffer) ⌝ }
     ensures { λ r. ⌜ (held ≤ r .held) × (r .held ≤ length (now (buffer .entry))) ⌝ }
     ensures kept { λ r. ⌜ take held (now (buffer .exit)) ≡ take held (now (buffer .entry)) ⌝ }
-    ensures ended { λ r. ⌜ (r .more ≡ false → r .held ≡ held) ⌝ }
+    ensures ended { λ r. ⌜ (r .more ≡ false) ↔ (r .held ≡ held) ⌝ }
 {
     let part = &mut buffer[held..];
     let got = libc::read(STDIN_FILENO, part);
@@ -58,10 +60,13 @@ fn read_more(buffer: &mut [u8], held: usize) -> Step
     }
 }
 
-// Answers the whole lines that are held, or reads more where there is none.
+// Answers the whole lines that are held, or reads more where there is none. Where lines are answered, what is held is what is carried over,
+// and only a failed write ends it.
 fn advance(buffer: &mut [u8], held: usize, out: &mut [u8]) -> Step
     requires { ⌜ (held ≤ length (now buffer)) × ((longestLine + 2 ≤ length (now buffer)) × (longestAnswer ≤ length (now out))) ⌝ }
     ensures { λ r. ⌜ r .held ≤ length (now (buffer .entry)) ⌝ }
+    ensures answered { λ r. ⌜ (0 < length (texts lineTexts (answered lineTexts (length (now (out .entry))) (take held (now (buffer .entry)))))
+        → (r .held ≡ length (carried lineTexts (length (now (out .entry))) (take held (now (buffer .entry))))) × (r .more ≡ r .sound)) ⌝ }
     ensures kept { λ r. ⌜ take (length (carried lineTexts (length (now (out .entry))) (take held (now (buffer .entry)))))
         (take (r .held) (now (buffer .exit)))
         ≡ carried lineTexts (length (now (out .entry))) (take held (now (buffer .entry))) ⌝ }

@@ -35,9 +35,12 @@ returns c =
     (omega (arith, t .ensures .1 .1 .0 .ends, c .before .before .before .before .if1 .taken)) in (
       search needs,
       (
-        begins _ _ _ _ _ _ (t .ensures .0) (t .ensures .1 .0) (r .ensures .1 .0) (r .ensures .0 .0),
-        λ m s. ends-held _ _ _ _ _ _ (t .ensures .0) (t .ensures .1 .0) (r .ensures .1 .0) (r .ensures .1 .1 m)
-            (carried-newline lineTexts _ held none),
+        λ h. absurd (omega (arith, t .ensures .1 .1 .0 .ends, c .before .before .before .before .if1 .taken)),
+        (
+          begins _ _ _ _ _ _ (t .ensures .0) (t .ensures .1 .0) (r .ensures .1 .0) (r .ensures .0 .0),
+          λ m s. ends-held _ _ _ _ _ _ (t .ensures .0) (t .ensures .1 .0) (r .ensures .1 .0) (r .ensures .1 .1 .0 m)
+              (carried-newline lineTexts _ held none),
+        ),
       ),
     )
 
@@ -45,7 +48,13 @@ returns-2 : tie.Need-returns-2
 returns-2 c =
     let t = c .before .before .before .before .before .before .before .answer-turn in (
       search needs,
-      (begins _ _ _ _ _ (t .result .carried) (t .ensures .0) (t .ensures .1 .0) refl (omega arith), λ m s. absurd (true≢false (sym s ∙ m))),
+      (
+        λ h. (t .ensures .0, refl),
+        (
+          begins _ _ _ _ _ (t .result .carried) (t .ensures .0) (t .ensures .1 .0) refl (omega arith),
+          λ m s. absurd (true≢false (sym s ∙ m)),
+        ),
+      ),
     )
 
 pub advance-spec : {M : Type 1} → statement M

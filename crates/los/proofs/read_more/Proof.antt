@@ -2,7 +2,7 @@
 -- Assumes nothing.
 use mathlib.Core.Path.{refl}
 use native.Mathlib.Omega.{arith}
-use borrow.Author.Tests.{ltb-false}
+use borrow.Author.Tests.{ltb-false, le-ltb}
 use lib.ListN.{take}
 use lib.Seq.{take-at, length-take-le}
 use borrow.Author.Needs.{needs}
@@ -14,7 +14,7 @@ returns c =
     let s = c .before .before .before .before .before .before .before .before .before .before .before in
     let held = take (s .args .held) (s .args .buffer .now) in (
       search needs,
-      (take-at held _ (s .args .held) (length-take-le (s .args .held) (s .args .buffer .now) (omega (arith, s .pre))), λ e. refl),
+      (take-at held _ (s .args .held) (length-take-le (s .args .held) (s .args .buffer .now) (omega (arith, s .pre))), (λ e. refl, λ e. refl)),
     )
 
 returns-2 : tie.Need-returns-2
@@ -24,7 +24,7 @@ returns-2 c =
       search needs,
       (
         take-at held _ (s .args .held) (length-take-le (s .args .held) (s .args .buffer .now) (omega (arith, s .pre))),
-        λ e. omega (arith, ltb-false 0 (c .before .before .count .result) e),
+        (λ e. omega (arith, ltb-false 0 (c .before .before .count .result) e), λ e. le-ltb 0 (c .before .before .count .result) (omega arith)),
       ),
     )
 

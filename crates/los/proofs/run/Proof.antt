@@ -34,7 +34,7 @@ run-spec =
     tie.close
     (tie.spec Inv-loop μ-loop (λ c. (refl, refl, search needs, λ m s. absurd (true≢false m))) (λ c. search needs) (λ c. search needs)
     (λ c. search needs) (λ c κs. search needs) (λ c. search needs) (λ c. search needs)
-    (λ c. (search needs, search needs, search needs, c .before .before .before .before .advance .ensures .1 .1)) (λ c. search needs)
+    (λ c. (search needs, search needs, search needs, c .before .before .before .before .advance .ensures .1 .1 .1)) (λ c. search needs)
     (λ c. search needs) (λ c. search needs) (λ c. search needs)
     (λ c. let l = c .before .before .before .loop in sym (length-take-le (l .held) (l .buffer) (omega arith))) answer-last-requires
     (λ c. search needs)
