@@ -1,12 +1,13 @@
--- An instance of each part of demand 3 (specs/Instances), proved by the part.
---   no-better-letter-under-more-load, service-volume-of-the-example
---   four-lanes-for-every-letter, no-lanes-for-the-greatest-demand
+-- Instances of each part of demand 3 (specs/Instances), proved by the part.
+--   no-better-letter-under-more-load, no-better-letter-under-more-demand, no-better-letter-on-a-multilane
+--   service-volume-of-the-example, first-and-last-service-volume
+--   four-lanes-for-every-letter, no-lanes-for-the-greatest-demand, three-lanes-on-a-multilane
 -- Assumes nothing.
 use mathlib.Core.Path.{_≡_, refl, ap, _∙_}
 use mathlib.Core.List.{[], _∷_}
 use Prim.Native.Nat.{ℕ, zero, suc, _≤_, _<_}
 use native.Mathlib.Omega.{arith}
-use lib.Dec.{leb, le→leb}
+use lib.Dec.{T, leb, le→leb}
 use lib.ListN.{getD}
 use Rattle.numbers.specs.Division.{divUp}
 use Rattle.curve.specs.Curves.{capacity, breakpoint, curveAt}
@@ -22,18 +23,20 @@ use Rattle.method.specs.Flow.{heavyFactor, flowRate}
 use Rattle.method.specs.Assess.{measures}
 use Rattle.method.specs.Boundary.{example}
 use Rattle.method.proofs.RefusalLaws.{accepted-withDemand}
-use Rattle.method.proofs.Boundary.{ramp-6, ramp-24}
-use Rattle.answer.specs.Volumes.{meets}
+use Rattle.method.proofs.Boundary.{ramp-6, ramp-24, power-500}
+use Rattle.answer.specs.Volumes.{meets, serviceVolume}
 use Rattle.answer.specs.Answers.{graded, answerTo, refusalNumber}
 use Rattle.answer.specs.Lanes.{lanesAnswer, values}
 use Rattle.answer.specs.Promises.{letterIn, Meets, AcceptedCount, volumeIn}
 use Rattle.answer.specs.Boundary.{exampleWith, estimated}
-use Rattle.answer.specs.Instances.{lighter, NoBetterLetterUnderMoreLoad, ServiceVolumeOfTheExample, FourLanesForEveryLetter}
-use Rattle.answer.specs.Instances.{NoLanesForTheGreatestDemand}
+use Rattle.answer.specs.Instances.{lighter, multilane, NoBetterLetterUnderMoreLoad, NoBetterLetterUnderMoreDemand}
+use Rattle.answer.specs.Instances.{NoBetterLetterOnAMultilane, ServiceVolumeOfTheExample, FirstAndLastServiceVolume}
+use Rattle.answer.specs.Instances.{FourLanesForEveryLetter, NoLanesForTheGreatestDemand, ThreeLanesOnAMultilane}
+use Rattle.answer.proofs.VolumeLaws.{meets-only-accepted}
 use Rattle.answer.proofs.AnswerLaws.{Meets-iff}
 use Rattle.answer.proofs.Promises.{volumeIn-accepted, no-better-under-more-load, meets-up-to-the-service-volume}
 use Rattle.answer.proofs.Promises.{least-accepted-count}
-use Rattle.answer.proofs.Boundary.{example-accepted, volumes, none-at-99999}
+use Rattle.answer.proofs.Boundary.{example-accepted, volumes, example-figures, none-at-99999}
 
 lighter-accepted : Accepted lighter
 unfolding laneWidthAdjustment perMissingFoot rightClearanceAdjustment estimatedBy uncappedBy freeFlowSpeed roadRefusals loadRefusals
@@ -46,21 +49,61 @@ unfolding divUp laneWidthAdjustment perMissingFoot rightClearanceAdjustment esti
     shownDensity densityLimit densityLetter letterAt performance measures graded
 letters = (simp ramp-24, simp ramp-24)
 
+heavier-accepted : Accepted (exampleWith 2643)
+heavier-accepted = accepted-withDemand example 2643 example-accepted (omega arith)
+
 pub no-better-letter-under-more-load : NoBetterLetterUnderMoreLoad
 no-better-letter-under-more-load = (
   letters .0,
   letters .1,
-  no-better-under-more-load lighter (exampleWith 2643) lighter-accepted
-      (accepted-withDemand example 2643 example-accepted (omega arith)) refl
+  no-better-under-more-load lighter (exampleWith 2643) lighter-accepted heavier-accepted refl
       (omega arith) (omega arith) (omega arith) (omega arith) (omega arith),
 )
 
+pub no-better-letter-under-more-demand : NoBetterLetterUnderMoreDemand
+no-better-letter-under-more-demand = (
+  ap (λ ns. getD ns 0 0) example-figures,
+  letters .1,
+  no-better-under-more-load example (exampleWith 2643) example-accepted heavier-accepted refl
+      (omega arith) (omega arith) (omega arith) (omega arith) (omega arith),
+)
+
+multilane-letters : (letterIn (answerTo (multilane 2800)) ≡ 3) × (letterIn (answerTo (multilane 3600)) ≡ 4)
+unfolding divUp uncappedBy freeFlowSpeed roadRefusals loadRefusals fieldRefusals speedRefusals refusals capacity breakpoint curveAt curveOf
+    heavyFactor flowRate fallShareBy speed shownSpeed density shownDensity densityLimit densityLetter letterAt performance measures graded
+multilane-letters = (refl, simp power-500)
+
+multilane-accepted : Accepted (multilane 2800) × Accepted (multilane 3600)
+unfolding uncappedBy freeFlowSpeed roadRefusals loadRefusals fieldRefusals speedRefusals refusals
+multilane-accepted = (refl, refl)
+
+pub no-better-letter-on-a-multilane : NoBetterLetterOnAMultilane
+no-better-letter-on-a-multilane = (
+  multilane-letters .0,
+  multilane-letters .1,
+  no-better-under-more-load (multilane 2800) (multilane 3600) (multilane-accepted .0) (multilane-accepted .1) refl
+      (omega arith) (omega arith) (omega arith) (omega arith) (omega arith),
+)
+
+-- what part 2 says of the printed case, by the service volume s of letter number n
+by-volume : (n s : ℕ) → 1 ≤ n → n ≤ 5 → s < 99999 → serviceVolume example n ≡ s
+    → ((demand : ℕ) → demand ≤ s → Meets (exampleWith demand) n) × (Meets (exampleWith (suc s)) n → ⊥)
+by-volume n s h k l e =
+    let volume : volumeIn (answerTo example) n ≡ s = volumeIn-accepted example n example-accepted h k ∙ e in (
+      λ demand d. meets-up-to-the-service-volume example example-accepted n h k demand (omega arith) .1 (omega arith),
+      λ m. omega (arith, meets-up-to-the-service-volume example example-accepted n h k (suc s) (omega arith) .0 m),
+    )
+
 pub service-volume-of-the-example : ServiceVolumeOfTheExample
-service-volume-of-the-example =
-    let volume : volumeIn (answerTo example) 3 ≡ 2642 = volumeIn-accepted example 3 example-accepted (omega arith) (omega arith)
-    ∙ volumes .2 in (
-      meets-up-to-the-service-volume example example-accepted 3 (omega arith) (omega arith) 2642 (omega arith) .1 (omega arith),
-      λ m. omega (arith, meets-up-to-the-service-volume example example-accepted 3 (omega arith) (omega arith) 2643 (omega arith) .0 m),
+service-volume-of-the-example = let c = by-volume 3 2642 (omega arith) (omega arith) (omega arith) (volumes .2) in
+    (c .0 2642 (omega arith), c .1)
+
+pub first-and-last-service-volume : FirstAndLastServiceVolume
+first-and-last-service-volume =
+    let a = by-volume 1 1117 (omega arith) (omega arith) (omega arith) (volumes .0) in
+    let e = by-volume 5 3858 (omega arith) (omega arith) (omega arith) (volumes .4) in (
+      (a .0 0 (omega arith), a .0 1117 (omega arith), a .1),
+      (e .0 0 (omega arith), e .0 3858 (omega arith), e .1),
     )
 
 fields-fit : FieldsFit estimated
@@ -108,3 +151,27 @@ example-fits = refl
 pub no-lanes-for-the-greatest-demand : NoLanesForTheGreatestDemand
 no-lanes-for-the-greatest-demand =
     least-accepted-count (exampleWith 99999) 3 (omega arith) (omega arith) example-fits .1 .0 (ap (λ ns. getD ns 0 0) none-at-99999)
+
+-- with 3 lanes the letter is C
+three-meet : T (meets (withLanes (multilane 3600) 3) 3)
+unfolding divUp uncappedBy freeFlowSpeed roadRefusals loadRefusals fieldRefusals speedRefusals refusals capacity breakpoint curveAt curveOf
+    heavyFactor flowRate fallShareBy speed shownSpeed density shownDensity densityLimit densityLetter letterAt performance measures meets
+three-meet = tt
+
+multilane-fits : FieldsFit (multilane 3600)
+unfolding roadRefusals loadRefusals fieldRefusals
+multilane-fits = refl
+
+two-fail : (fewer : ℕ) → AcceptedCount (multilane 3600) fewer → fewer < 3 → Meets (withLanes (multilane 3600) fewer) 3 → ⊥
+two-fail zero a f m = omega (arith, a .0)
+two-fail (suc zero) a f m = omega (arith, a .0)
+two-fail (suc (suc zero)) a f m = omega (arith, m .1, multilane-letters .1)
+two-fail (suc (suc (suc fewer))) a f m = omega arith
+
+pub three-lanes-on-a-multilane : ThreeLanesOnAMultilane
+three-lanes-on-a-multilane =
+    least-accepted-count (multilane 3600) 3 (omega arith) (omega arith) multilane-fits .0 3 .1 (
+      (omega arith, omega arith, meets-only-accepted (withLanes (multilane 3600) 3) 3 three-meet),
+      Meets-iff (withLanes (multilane 3600) 3) 3 .1 three-meet,
+      two-fail,
+    )

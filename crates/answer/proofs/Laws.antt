@@ -1,7 +1,7 @@
 -- The laws of specs/Laws, proved.
 --   serviceVolume-le   no service volume is above 19,200
 --   lanesAnswer-number   the number of the answer to the lanes question is the first of its list
---   figures-within-ends, refusals-within-ends, counts-are-digits
+--   figures-within-ends, refusals-within-ends, refusals-reach-ends, counts-are-digits
 -- Assumes nothing.
 use mathlib.Core.Path.{_≡_, refl, ap}
 use mathlib.Core.List.{[], _∷_}
@@ -42,9 +42,10 @@ use Rattle.answer.specs.Volumes.{serviceVolume}
 use Rattle.answer.specs.Answers.{graded}
 use Rattle.answer.specs.Lanes.{lanesMeet, lanesFound, lanesRefusals, lanesAnswer, refusalNumber, values}
 use Rattle.answer.specs.Search.{demandMeets}
-use Rattle.answer.specs.Laws.{FiguresWithinEnds, RefusalsWithinEnds, CountsAreDigits}
+use Rattle.answer.specs.Laws.{FiguresWithinEnds, RefusalsWithinEnds, RefusalsReachEnds, CountsAreDigits}
 use Rattle.answer.proofs.VolumeLaws.{demandMeets-zero, serviceVolume-eq}
 use Rattle.answer.proofs.AnswerLaws.{answerTo-accepted, answerTo-number}
+use Rattle.answer.proofs.Instances.{four-lanes-for-every-letter}
 
 -- ---- figures
 -- what keeps to a capacity of at most 240,000 is at most 19,200 vehicles, each at least a passenger car, on at most 8 lanes
@@ -133,6 +134,10 @@ refusals-within-ends case n = (
   omega (arith, answerTo-number case, refusal-le case),
   omega (arith, lanesAnswer-number case n, firstRefusal-le 16 (lanesRefusals case n) tt),
 )
+
+pub refusals-reach-ends : RefusalsReachEnds
+unfolding lanesRefusals
+refusals-reach-ends = (four-lanes-for-every-letter .0, refl)
 
 pub counts-are-digits : CountsAreDigits
 unfolding lanesFound

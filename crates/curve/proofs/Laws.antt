@@ -1,10 +1,14 @@
 -- The laws that specs/Laws states, proved: each by the law of the file beside its definition.
---   capacity-within-ends, speed-is-above-zero, speed-never-below-capacity-speed, speed-never-rises-with-flow,
+--   capacity-within-ends, capacity-reaches-ends, speed-is-above-zero, speed-never-below-capacity-speed, speed-never-rises-with-flow,
 --   density-never-falls-with-flow, speed-never-falls-with-free-flow-speed, density-meets-limit-by-exact-speed,
 --   density-at-most-450, letter-never-better
 -- Assumes nothing.
+use mathlib.Core.Path.{refl}
 use native.Mathlib.Omega.{arith}
-use Rattle.curve.specs.Laws.{CapacityWithinEnds, SpeedIsAboveZero, SpeedNeverBelowCapacitySpeed, SpeedNeverRisesWithFlow}
+use Rattle.curve.specs.declared.kind.Kind.the-variants as Kind
+use Rattle.curve.specs.Curves.{capacity}
+use Rattle.curve.specs.Laws.{CapacityWithinEnds, CapacityReachesEnds, SpeedIsAboveZero, SpeedNeverBelowCapacitySpeed}
+use Rattle.curve.specs.Laws.{SpeedNeverRisesWithFlow}
 use Rattle.curve.specs.Laws.{DensityNeverFallsWithFlow, SpeedNeverFallsWithFreeFlowSpeed, DensityMeetsLimitByExactSpeed}
 use Rattle.curve.specs.Laws.{DensityAtMost450, LetterNeverBetter}
 use Rattle.curve.proofs.CurveLaws.{capacity-within}
@@ -13,6 +17,11 @@ use Rattle.curve.proofs.ServiceLaws.{density-le-iff, shownDensity-eq, d
 
 pub capacity-within-ends : CapacityWithinEnds
 capacity-within-ends = capacity-within
+
+pub capacity-reaches-ends : CapacityReachesEnds
+unfolding capacity
+capacity-reaches-ends Kind.Freeway = (refl, refl)
+capacity-reaches-ends Kind.Multilane = (refl, refl)
 
 pub speed-is-above-zero : SpeedIsAboveZero
 speed-is-above-zero curve v ok h = (speed-numerator-pos curve v ok h, speed-denominator-pos curve v ok)

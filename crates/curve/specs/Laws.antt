@@ -1,7 +1,8 @@
 -- The laws of the curve, stated over the definitions that the contracts cite; proofs/Laws proves each.
---   CapacityWithinEnds, SpeedIsAboveZero, SpeedNeverBelowCapacitySpeed, SpeedNeverRisesWithFlow, DensityNeverFallsWithFlow,
---   SpeedNeverFallsWithFreeFlowSpeed, DensityMeetsLimitByExactSpeed, DensityAtMost450, LetterNeverBetter
+--   CapacityWithinEnds, CapacityReachesEnds, SpeedIsAboveZero, SpeedNeverBelowCapacitySpeed, SpeedNeverRisesWithFlow,
+--   DensityNeverFallsWithFlow, SpeedNeverFallsWithFreeFlowSpeed, DensityMeetsLimitByExactSpeed, DensityAtMost450, LetterNeverBetter
 -- Assumes nothing.
+use mathlib.Core.Path.{_≡_}
 use mathlib.Core.Logic.{_↔_}
 use Prim.Native.Nat.{ℕ, _*_, _≤_, _<_}
 use Rattle.numbers.specs.Fraction.{over, whole, times, AtMost}
@@ -18,6 +19,11 @@ abbrev pub CapacityWithinEnds : Type 0
 CapacityWithinEnds =
     (kind : Kind) (f : ℕ) → lowestSpeed kind ≤ f → f ≤ highestSpeed kind
     → (lowestCapacity kind ≤ capacity kind f) × (capacity kind f ≤ highestCapacity kind)
+
+-- and it reaches them, at the ends of F.
+abbrev pub CapacityReachesEnds : Type 0
+CapacityReachesEnds =
+    (kind : Kind) → (capacity kind (lowestSpeed kind) ≡ lowestCapacity kind) × (capacity kind (highestSpeed kind) ≡ highestCapacity kind)
 
 -- ---- speed
 -- Up to capacity the speed is a fraction above 0: what the laws below say by cross-multiplying has its meaning.

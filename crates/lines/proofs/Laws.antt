@@ -1,7 +1,7 @@
 -- The laws of specs/Laws, proved.
 --   FieldFits, Fits   what the value of a field is; values that fit some fields
 --   valuesOf-fits     the values of well-formed parts fit their fields
---   values-are-the-fields, demand-on-a-line
+--   values-are-the-fields, demand-on-a-line, refusal-has-its-number
 -- Assumes nothing.
 use mathlib.Core.Path.{_≡_, refl, sym, ap, _∙_, subst}
 use mathlib.Core.Bool.{Bool, true, false, cond, _&&_, _||_}
@@ -29,7 +29,7 @@ use Rattle.lines.specs.Fields.{Field, letters, digits, layout, digit, sp
 use Rattle.lines.specs.Fields.{valuesOf}
 use Rattle.lines.specs.Reading.{kindOf, wayOf, medianOf, terrainOf, caseOf, readValues, longestLine, readLine, kindByte, wayByte}
 use Rattle.lines.specs.Reading.{medianByte, terrainByte, values}
-use Rattle.lines.specs.Laws.{ValuesAreTheFields, DemandOnALine}
+use Rattle.lines.specs.Laws.{ValuesAreTheFields, DemandOnALine, RefusalHasItsNumber}
 use Rattle.lines.proofs.DigitsLaws.{more}
 use Rattle.lines.proofs.PlacesLaws.{not-malformed}
 
@@ -144,6 +144,9 @@ case-values vs f =
 pub values-are-the-fields : ValuesAreTheFields
 unfolding readValues readLine
 values-are-the-fields bs vs h e = rw (le-ltb longestLine (length bs) h, e) (case-values vs (valuesOf-fits layout (parts tab bs) vs e))
+
+pub refusal-has-its-number : RefusalHasItsNumber
+refusal-has-its-number n = (refl, refl)
 
 pub demand-on-a-line : DemandOnALine
 unfolding layout caseOf readValues readLine

@@ -65,7 +65,8 @@ fn read_more(buffer: &mut [u8], held: usize) -> Step
 fn advance(buffer: &mut [u8], held: usize, out: &mut [u8]) -> Step
     requires { ⌜ (held ≤ length (now buffer)) × ((longestLine + 2 ≤ length (now buffer)) × (longestAnswer ≤ length (now out))) ⌝ }
     ensures { λ r. ⌜ r .held ≤ length (now (buffer .entry)) ⌝ }
-    ensures answered { λ r. ⌜ (0 < length (texts lineTexts (answered lineTexts (length (now (out .entry))) (take held (now (buffer .entry)))))
+    ensures answered { λ r. ⌜ (0 < length (texts lineTexts (answered lineTexts (length (now (out .entry)))
+        (take held (now (buffer .entry)))))
         → (r .held ≡ length (carried lineTexts (length (now (out .entry))) (take held (now (buffer .entry))))) × (r .more ≡ r .sound)) ⌝ }
     ensures kept { λ r. ⌜ take (length (carried lineTexts (length (now (out .entry))) (take held (now (buffer .entry)))))
         (take (r .held) (now (buffer .exit)))

@@ -1,9 +1,9 @@
--- The law of specs/Laws, proved.
---   replies-within-ends
+-- The laws of specs/Laws, proved.
+--   replies-within-ends, last-refusal-is-reached
 -- Assumes nothing.
 use mathlib.Core.Bool.{Bool, true, false, cond}
 use mathlib.Core.List.{List}
-use mathlib.Core.Path.{ap}
+use mathlib.Core.Path.{refl, ap}
 use Prim.Native.Nat.{ℕ}
 use native.Mathlib.Omega.{arith}
 use lib.Dec.{ltb}
@@ -24,7 +24,7 @@ use Rattle.replies.specs.Texts.{longestAnswer}
 use Rattle.replies.proofs.TextsLaws.{answerText-le, answerText-pos}
 use Rattle.marehour.specs.Calls.{Reply, refusal as refusalReply, answerReply, countReply, caseReply, lanesReply, lineReply, inBuffer}
 use Rattle.marehour.specs.Calls.{lineCall}
-use Rattle.marehour.specs.Laws.{WithinEnds, RepliesWithinEnds}
+use Rattle.marehour.specs.Laws.{WithinEnds, RepliesWithinEnds, LastRefusalIsReached}
 use Rattle.marehour.proofs.CallLaws.{count-length}
 
 answer-ends : (case : Case) → WithinEnds (caseReply case)
@@ -60,3 +60,6 @@ replies-within-ends line letter room = (
   of-line caseReply answer-ends line room,
   of-line (lanesReply letter) (count-ends letter) line room,
 )
+
+pub last-refusal-is-reached : LastRefusalIsReached
+last-refusal-is-reached line letter = (refl, refl)

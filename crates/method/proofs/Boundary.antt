@@ -1,6 +1,6 @@
 -- The boundary sections (specs/Boundary), shown.
 --   boundary-shown   each figure of the list is what is to be shown
---   ramp-6, ramp-24   two entries of the ramp table
+--   ramp-6, ramp-24, power-500   entries of the two tables
 -- Assumes nothing.
 use mathlib.Core.Path.{_≡_, refl}
 use native.Mathlib.Omega.{arith}
@@ -36,7 +36,7 @@ ramp-0 : rampTerm 0 ≡ 0
 unfolding endsAt rampAtMost
 ramp-0 = rampTerm-eq 0 0 (omega arith) tt
 
-power-500 : power 500 ≡ 403321
+pub power-500 : power 500 ≡ 403321
 unfolding startsAt reachesPower
 power-500 = power-eq 500 403321 (omega arith) tt
 

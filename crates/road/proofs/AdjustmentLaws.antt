@@ -1,6 +1,7 @@
 -- What is taken off a base speed (specs/Adjustments): how much at most, and never more with more lanes.
---   NAME-le         the most that it is
---   NAME-antitone   with more lanes it is no more
+--   laneWidthAdjustment-le, perMissingFoot-le, rightClearanceAdjustment-le, countedLeftClearance-le, totalClearance-le,
+--   totalClearanceAdjustment-le, medianAdjustment-le, accessAdjustment-le          the most that it is
+--   rightClearanceAdjustment-antitone, totalClearanceAdjustment-antitone           with more lanes it is no more
 -- Assumes nothing.
 use Prim.Native.Nat.{ℕ, _-_, _/_, _≤_, _<_, min}
 use native.Mathlib.Omega.{arith}

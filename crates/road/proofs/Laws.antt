@@ -4,6 +4,7 @@
 use Prim.Native.Nat.{_≤_}
 use native.Mathlib.Omega.{arith}
 use Rattle.road.specs.Adjustments.{totalClearance}
+use Rattle.road.specs.FreeFlowSpeed.{estimatedBy}
 use Rattle.road.specs.Laws.{RampTermIsGreatest, EstimateNeverBelowZero, FreeFlowSpeedNeverFallsWithLanes}
 use Rattle.road.proofs.RampLaws.{rampTerm-rule}
 use Rattle.road.proofs.RefusalLaws.{road-ends}
@@ -13,10 +14,12 @@ pub ramp-term-is-greatest : RampTermIsGreatest
 ramp-term-is-greatest = rampTerm-rule
 
 pub estimate-never-below-zero : EstimateNeverBelowZero
+unfolding estimatedBy
 estimate-never-below-zero road n z =
     let base : 30000 ≤ road .speed = road-ends road z .speed-low in (
-      λ f. omega (arith, freewayTerms-le (road .«lane_width») (road .«right_clearance») n (road .access)),
-      λ m. omega (arith, multilaneTerms-le road n (totalClearance (road .median) (road .«right_clearance») (road .«left_clearance»))),
+      λ f. rw f (omega (arith, freewayTerms-le (road .«lane_width») (road .«right_clearance») n (road .access))),
+      λ m. rw m
+          (omega (arith, multilaneTerms-le road n (totalClearance (road .median) (road .«right_clearance») (road .«left_clearance»)))),
     )
 
 pub free-flow-speed-never-falls-with-lanes : FreeFlowSpeedNeverFallsWithLanes

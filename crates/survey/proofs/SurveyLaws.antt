@@ -5,6 +5,7 @@
 --   surveyAnswer-cars           fewer than 100 cars: 11
 --   surveyAnswer-flow           a flow of 1,000 or more: 12
 --   surveyAnswer-speed          else 13 alone decides
+--   surveyAnswer-in             every answer is within its ends
 --   surveyAnswer-speed-ends     a speed that is answered is 30,000 to 90,000
 --   surveyAnswer-refused-ends   a refusal that is answered is 11 to 13
 -- Assumes nothing.
@@ -24,6 +25,7 @@ use Rattle.survey.specs.declared.SurveyAnswer.the-variants as SurveyAnsw
 use Rattle.survey.specs.Survey.{RoundedSpeed, notFinite, thousandths, roundedSpeed, speedRefused, thousandthsIn, surveyRefusals}
 use Rattle.survey.specs.Survey.{surveyAnswer}
 use Rattle.survey.specs.Units.{speedAnswer}
+use Rattle.survey.specs.Laws.{AnswerWithinEnds}
 
 pub speedAnswer-out : (n : ℕ) → outside 30000 90000 n ≡ true → speedAnswer (thousandths (pos n)) ≡ SurveyAnswer.Refused 13
 speedAnswer-out n e = rw e
@@ -61,30 +63,26 @@ surveyAnswer-speed survey c h = simp (le-ltb (survey .cars) 100 c, lt-leb 1000 (
     by-test true = refl
     by-test false = refl
 
--- the numbers that an answer may hold
-abbrev Within : SurveyAnswer → Type 0
-Within (SurveyAnswer.Speed n) = (30000 ≤ n) × (n ≤ 90000)
-Within (SurveyAnswer.Refused n) = (11 ≤ n) × (n ≤ 13)
-
-speedAnswer-in : (r : RoundedSpeed) → Within (speedAnswer r)
+-- ---- the numbers that an answer may hold
+speedAnswer-in : (r : RoundedSpeed) → AnswerWithinEnds (speedAnswer r)
 speedAnswer-in notFinite = (omega arith, omega arith)
 speedAnswer-in (thousandths (negsuc n)) = (omega arith, omega arith)
 speedAnswer-in (thousandths (pos n)) = by-test (outside 30000 90000 n) refl
   where
-    by-test : (b : Bool) → outside 30000 90000 n ≡ b → Within (speedAnswer (thousandths (pos n)))
+    by-test : (b : Bool) → outside 30000 90000 n ≡ b → AnswerWithinEnds (speedAnswer (thousandths (pos n)))
     by-test true e = rw (speedAnswer-out n e) (omega arith, omega arith)
     by-test false e = rw (speedAnswer-within n e) (within 30000 90000 n e)
 
-surveyAnswer-in : (survey : Survey) → Within (surveyAnswer survey)
+pub surveyAnswer-in : (survey : Survey) → AnswerWithinEnds (surveyAnswer survey)
 surveyAnswer-in survey = by-counts (decLe 100 (survey .cars)) (decLe 1000 (survey .flow))
   where
-    by-counts : Dec (100 ≤ survey .cars) → Dec (1000 ≤ survey .flow) → Within (surveyAnswer survey)
+    by-counts : Dec (100 ≤ survey .cars) → Dec (1000 ≤ survey .flow) → AnswerWithinEnds (surveyAnswer survey)
     by-counts (no c) f = rw (surveyAnswer-cars survey (omega arith)) (omega arith, omega arith)
     by-counts (yes c) (yes f) = rw (surveyAnswer-flow survey c f) (omega arith, omega arith)
     by-counts (yes c) (no f) = rw (surveyAnswer-speed survey c (omega arith)) (speedAnswer-in (roundedSpeed (survey .speed)))
 
 pub surveyAnswer-speed-ends : (survey : Survey) (n : ℕ) → surveyAnswer survey ≡ SurveyAnswer.Speed n → (30000 ≤ n) × (n ≤ 90000)
-surveyAnswer-speed-ends survey n e = subst Within e (surveyAnswer-in survey)
+surveyAnswer-speed-ends survey n e = subst AnswerWithinEnds e (surveyAnswer-in survey)
 
 pub surveyAnswer-refused-ends : (survey : Survey) (n : ℕ) → surveyAnswer survey ≡ SurveyAnswer.Refused n → (11 ≤ n) × (n ≤ 13)
-surveyAnswer-refused-ends survey n e = subst Within e (surveyAnswer-in survey)
+surveyAnswer-refused-ends survey n e = subst AnswerWithinEnds e (surveyAnswer-in survey)

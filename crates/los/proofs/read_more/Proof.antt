@@ -14,17 +14,21 @@ returns c =
     let s = c .before .before .before .before .before .before .before .before .before .before .before in
     let held = take (s .args .held) (s .args .buffer .now) in (
       search needs,
-      (take-at held _ (s .args .held) (length-take-le (s .args .held) (s .args .buffer .now) (omega (arith, s .pre))), (λ e. refl, λ e. refl)),
+      (
+        take-at held _ (s .args .held) (length-take-le (s .args .held) (s .args .buffer .now) (omega (arith, s .pre))),
+        (λ e. refl, λ e. refl),
+      ),
     )
 
 returns-2 : tie.Need-returns-2
 returns-2 c =
     let s = c .before .before .before .before .before .before .before .before .before .before .before in
-    let held = take (s .args .held) (s .args .buffer .now) in (
+    let held = take (s .args .held) (s .args .buffer .now) in
+    let n = c .before .before .count .result in (
       search needs,
       (
         take-at held _ (s .args .held) (length-take-le (s .args .held) (s .args .buffer .now) (omega (arith, s .pre))),
-        (λ e. omega (arith, ltb-false 0 (c .before .before .count .result) e), λ e. le-ltb 0 (c .before .before .count .result) (omega arith)),
+        (λ e. omega (arith, ltb-false 0 n e), λ e. le-ltb 0 n (omega arith)),
       ),
     )
 
