@@ -1,22 +1,17 @@
 -- The answer to a case (specs/Answers).
 --   answerTo-accepted   an accepted case gets its grade
 --   answerTo-number     its number is the case's refusal
---   answered, answerTo-checked   what is made of a case that was checked
 --   Meets-iff           an answer meets a letter exactly when the case does
 -- Assumes nothing.
 use mathlib.Core.Path.{_≡_, refl, sym, _∙_}
 use mathlib.Core.Logic.{_↔_}
 use Prim.Native.Nat.{ℕ}
 use lib.Dec.{T, leb→le, le→leb}
-use Rattle.checks.proofs.RefusalLaws.{unlessRefused-none, unlessRefused-number, unlessRefused-map}
+use Rattle.checks.proofs.RefusalLaws.{unlessRefused-none, unlessRefused-number}
 use Rattle.curve.specs.Service.{letterNumber}
 use Rattle.road.specs.declared.Case.{Case}
-use Rattle.method.specs.declared.checked.Checked.{Checked}
-use Rattle.method.specs.declared.checked.Checked.the-variants as Checked
 use Rattle.method.specs.Refusals.{refusal, Accepted}
-use Rattle.method.specs.Checked.{caseCurve, checked}
 use Rattle.method.specs.Assess.{measures}
-use Rattle.answer.specs.declared.evaluate.Answer.{Answer}
 use Rattle.answer.specs.declared.evaluate.Answer.the-variants as Answer
 use Rattle.answer.specs.Volumes.{meets}
 use Rattle.answer.specs.Promises.{Meets}
@@ -29,13 +24,6 @@ module _ (case : Case) where
 
   pub answerTo-number : refusalNumber (answerTo case) ≡ refusal case
   answerTo-number = unlessRefused-number (refusal case) (Answer.Graded (graded case)) Answer.Refused refusalNumber refl (λ k. refl)
-
-  abbrev pub answered : Checked → Answer
-  answered (Checked.Accepted curve) = Answer.Graded (graded case)
-  answered (Checked.Refused n) = Answer.Refused n
-
-  pub answerTo-checked : answered (checked case) ≡ answerTo case
-  answerTo-checked = unlessRefused-map (refusal case) (Checked.Accepted (caseCurve case)) Checked.Refused answered
 
   pub Meets-iff : (n : ℕ) → Meets case n ↔ T (meets case n)
   unfolding meets graded

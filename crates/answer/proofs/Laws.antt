@@ -36,7 +36,6 @@ use Rattle.method.specs.Assess.{measures}
 use Rattle.method.proofs.RefusalLaws.{accepted-fields, refusal-le}
 use Rattle.method.proofs.CheckedLaws.{caseCurve-wellFormed}
 use Rattle.method.proofs.FlowLaws.{caseLoad-fits}
-use Rattle.answer.specs.declared.lanes.LanesAnswer.{LanesAnswer}
 use Rattle.answer.specs.declared.lanes.LanesAnswer.the-variants as LanesAnswer
 use Rattle.answer.specs.Volumes.{serviceVolume}
 use Rattle.answer.specs.Answers.{graded}

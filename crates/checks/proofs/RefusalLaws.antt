@@ -7,7 +7,6 @@
 --   within, inside         a number that is not outside a range
 --   unlessRefused-none, unlessRefused-some, unlessRefused-by   the answer by its number
 --   unlessRefused-refused  an answer that is another was refused
---   unlessRefused-map      a function of the answer
 --   unlessRefused-number   where a definition gives each answer's number: that of this one
 --   unlessRefused-found    an answer with number 0 was not refused
 -- Assumes nothing.
@@ -109,11 +108,6 @@ module _ {A : Type 0} (n : ℕ) (answer : A) (refused : ℕ → A) where
   pub unlessRefused-refused : (found : A) → unlessRefused n answer refused ≡ found → (found ≡ answer → ⊥) → 0 < n
   unlessRefused-refused found e differs =
       ⊎-elim (λ z. absurd (differs (sym e ∙ unlessRefused-none z))) (λ p. p) (eq-zero-or-pos n)
-
-  pub unlessRefused-map : {B : Type 0} (g : A → B) → g (unlessRefused n answer refused) ≡ unlessRefused n (g answer) (λ k. g (refused k))
-  unlessRefused-map g =
-      ⊎-elim (λ e. ap g (unlessRefused-none e) ∙ rw e) (λ p. ap g (unlessRefused-some p) ∙ simp (ne-eqb n 0 (λ e. omega arith)))
-      (eq-zero-or-pos n)
 
   module _ (number : A → ℕ) (none : number answer ≡ 0) (own : (k : ℕ) → number (refused k) ≡ k) where
     pub unlessRefused-number : number (unlessRefused n answer refused) ≡ n

@@ -23,7 +23,6 @@ use Rattle.checks.specs.Refusals.{outside}
 use Rattle.checks.proofs.RefusalLaws.{within}
 use Rattle.lines.specs.declared.field.FieldValue.{FieldValue}
 use Rattle.lines.specs.declared.field.FieldValue.the-variants.{Value, Malformed}
-use Rattle.lines.specs.declared.read.LineRead.{LineRead}
 use Rattle.lines.specs.declared.read.LineRead.the-variants as LineRead
 use Rattle.lines.specs.Fields.{Field, letters, digits, layout, digit, spelled, leadingZero, number, oneOf, letter, fieldAs, joined}
 use Rattle.lines.specs.Fields.{valuesOf}

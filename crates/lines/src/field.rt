@@ -4,8 +4,8 @@
 //   FieldValues    the values of all fields, where each is well formed
 //   field_values   the values of a line's fields, each byte of a number looked at once
 ghost use mathlib.Core.Path.{_≡_};
-ghost use mathlib.Core.Bool.{false};
-ghost use Prim.Native.Nat.{ℕ, _+_, _≤_};
+ghost use mathlib.Core.Bool.{true, false};
+ghost use Prim.Native.Nat.{ℕ, _+_, _≤_, _<_};
 ghost use lib.Dec.{eqb};
 ghost use lib.ListN.{length, getD};
 ghost use Rattle.text.specs.Bytes.{tab};
@@ -42,6 +42,7 @@ fn byte_value(b: u8) -> u64
 fn digit_at(line: &[u8], i: usize) -> bool
     requires { ⌜ i ≤ length (now line) ⌝ }
     ensures { λ r. ⌜ r ≡ digit (getD (now (line .entry)) i 0) ⌝ }
+    ensures { λ r. ⌜ (r ≡ true → i < length (now (line .entry))) ⌝ }
 {
     if i == line.len() {
         return false;

@@ -1,21 +1,18 @@
 -- What a case gets, or its refusal (specs/Assess).
 --   assessment-refusal    its number is the case's refusal
---   assessed, assessment-checked   what is made of a case that was checked
 --   case-readied          an accepted case with its terms and a table
 --   case-ready, case-load   what they are ready for
 -- Assumes nothing.
 use mathlib.Core.Path.{_≡_, refl, sym, ap, _∙_, subst}
 use mathlib.Core.List.{List}
 use Prim.Native.Nat.{ℕ}
-use Rattle.checks.proofs.RefusalLaws.{unlessRefused-number, unlessRefused-map}
+use Rattle.checks.proofs.RefusalLaws.{unlessRefused-number}
 use Rattle.curve.specs.declared.Curve.{Curve}
 use Rattle.curve.specs.Terms.{curveTerms, TableFor, Ready}
 use Rattle.curve.proofs.TermsLaws.{curveTerms-prepared}
 use Rattle.road.specs.declared.Case.{Case}
 use Rattle.method.specs.declared.assess.CaseTerms.{CaseTerms}
-use Rattle.method.specs.declared.checked.Checked.{Checked}
 use Rattle.method.specs.declared.checked.Checked.the-variants as Checked
-use Rattle.method.specs.declared.assess.Assessment.{Assessment}
 use Rattle.method.specs.declared.assess.Assessment.the-variants as Assessment
 use Rattle.method.specs.Refusals.{refusal, Accepted}
 use Rattle.method.specs.Checked.{caseCurve, checked}
@@ -28,13 +25,6 @@ use Rattle.method.proofs.FlowLaws.{caseLoad-fits}
 pub assessment-refusal : (case : Case) → refusalNumber (assessment case) ≡ refusal case
 assessment-refusal case =
     unlessRefused-number (refusal case) (Assessment.Measured (measures case)) Assessment.Refused refusalNumber refl (λ k. refl)
-
-abbrev pub assessed : Case → Checked → Assessment
-assessed case (Checked.Accepted curve) = Assessment.Measured (measures case)
-assessed case (Checked.Refused n) = Assessment.Refused n
-
-pub assessment-checked : (case : Case) → assessed case (checked case) ≡ assessment case
-assessment-checked case = unlessRefused-map (refusal case) (Checked.Accepted (caseCurve case)) Checked.Refused (assessed case)
 
 pub case-readied : (case : Case) (curve : Curve) (terms : CaseTerms) (table : List ℕ)
     → checked case ≡ Checked.Accepted curve → terms ≡ caseTerms case → TableFor (curve .kind) table → CaseReady case terms table

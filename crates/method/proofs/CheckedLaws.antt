@@ -5,13 +5,14 @@
 --   checked-accepted     a case that is checked and found with a curve is accepted, and the curve is its own
 --   checked-curve        which is well formed and within the sizes
 --   checked-refused      a case that is checked and refused is not
+--   by-accepted, by-refused   an answer to a case, of any type, by what the check found
 --   checkedCurve-accepted, checkedCurve-refused   the same where 10 alone is checked
 -- Assumes nothing.
 use mathlib.Core.Path.{_≡_, refl, sym, ap, _∙_}
 use Prim.Native.Nat.{ℕ, _<_}
 use native.Mathlib.Omega.{arith}
 use Rattle.checks.specs.Refusals.{unlessRefused}
-use Rattle.checks.proofs.RefusalLaws.{unlessRefused-found, unlessRefused-refused}
+use Rattle.checks.proofs.RefusalLaws.{unlessRefused-none, unlessRefused-some, unlessRefused-number, unlessRefused-found, unlessRefused-refused}
 use Rattle.curve.specs.declared.Curve.{Curve}
 use Rattle.curve.specs.Curves.{curveAt, WellFormed, Sized}
 use Rattle.curve.proofs.CurveLaws.{curveAt-wellFormed, curveAt-sized}
@@ -19,7 +20,6 @@ use Rattle.road.specs.declared.Case.{Case}
 use Rattle.road.specs.FreeFlowSpeed.{freeFlowSpeed}
 use Rattle.road.specs.Refusals.{FieldsFit}
 use Rattle.road.proofs.FreeFlowSpeedLaws.{freeFlowSpeed-le}
-use Rattle.method.specs.declared.checked.Checked.{Checked}
 use Rattle.method.specs.declared.checked.Checked.the-variants as Checked
 use Rattle.method.specs.Refusals.{refusal, Accepted}
 use Rattle.method.specs.Checked.{curveOf, caseCurve, checkedCurve, checked, refusalNumber}
@@ -60,6 +60,17 @@ pub checked-refused : (case : Case) (n : ℕ) → checked case ≡ Checked.Refus
 checked-refused case n e =
     unlessRefused-refused (refusal case) (Checked.Accepted (caseCurve case)) Checked.Refused (Checked.Refused n) e
     (λ d. let o : _≡_ {A = ℕ} 0 1 = cc d in omega arith)
+
+module _ {A : Type 0} (case : Case) (answer : A) (refused : ℕ → A) where
+  pub by-accepted : (curve : Curve) → checked case ≡ Checked.Accepted curve → answer ≡ unlessRefused (refusal case) answer refused
+  by-accepted curve e = sym (unlessRefused-none (refusal case) answer refused (checked-accepted case curve e .0))
+
+  pub by-refused : (n : ℕ) → checked case ≡ Checked.Refused n → refused n ≡ unlessRefused (refusal case) answer refused
+  by-refused n e =
+      let own : refusal case ≡ n =
+      sym (unlessRefused-number (refusal case) (Checked.Accepted (caseCurve case)) Checked.Refused refusalNumber refl (λ k. refl))
+      ∙ ap refusalNumber e in
+      sym (unlessRefused-some (refusal case) answer refused (checked-refused case n e) ∙ ap refused own)
 
 -- the same where 10 alone is checked, of a case that 1 to 9 do not refuse
 pub checkedCurve-accepted : (case : Case) (curve : Curve) → FieldsFit case

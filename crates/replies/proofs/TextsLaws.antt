@@ -22,7 +22,6 @@ use Rattle.answer.specs.Answers.{graded, answerTo, values}
 use Rattle.answer.specs.Laws.{figureEnds}
 use Rattle.answer.proofs.Laws.{figures-within-ends}
 use Rattle.answer.proofs.AnswerLaws.{answerTo-accepted}
-use Rattle.lines.specs.declared.read.LineRead.{LineRead}
 use Rattle.lines.specs.declared.read.LineRead.the-variants as LineRead
 use Rattle.lines.specs.Reading.{longestLine, readLine}
 use Rattle.lines.proofs.ReadingLaws.{readLine-by, readLine-refused, readLine-long}

@@ -25,7 +25,6 @@ use lib.Ieee.Fits.{down-pos}
 use lib.Ieee.Nearest.{div-same}
 use Rattle.numbers.specs.declared.Fraction.{Fraction}
 use Rattle.numbers.specs.Fraction.{times, roundedUp}
-use Rattle.survey.specs.declared.SurveyAnswer.{SurveyAnswer}
 use Rattle.survey.specs.declared.SurveyAnswer.the-variants as SurveyAnswer
 use Rattle.survey.specs.Survey.{thousandths, exactValue, roundedIn}
 use Rattle.survey.specs.Units.{UnitFits, speedAnswer}

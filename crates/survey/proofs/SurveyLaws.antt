@@ -20,7 +20,6 @@ use lib.IntN.{pos, negsuc, negℤ}
 use Rattle.checks.specs.Refusals.{outside}
 use Rattle.checks.proofs.RefusalLaws.{within}
 use Rattle.survey.specs.declared.Survey.{Survey}
-use Rattle.survey.specs.declared.SurveyAnswer.{SurveyAnswer}
 use Rattle.survey.specs.declared.SurveyAnswer.the-variants as SurveyAnswer
 use Rattle.survey.specs.Survey.{RoundedSpeed, notFinite, thousandths, roundedSpeed, speedRefused, thousandthsIn, surveyRefusals}
 use Rattle.survey.specs.Survey.{surveyAnswer}

@@ -2,21 +2,21 @@
 -- Assumes nothing.
 use mathlib.Core.Path.{sym, ap, _∙_}
 use Rattle.answer.specs.declared.evaluate.Answer.the-variants as Answer
-use Rattle.answer.proofs.AnswerLaws.{answered, answerTo-checked}
+use Rattle.method.proofs.CheckedLaws.{by-accepted, by-refused}
 use borrow.Author.Needs.{needs}
 use Rattle.answer.proofs.evaluate.evaluate.Statement.{statement}
 use Rattle.answer.proofs.evaluate.evaluate.Tie as tie
 
 returns : tie.Need-returns
 returns c =
-    let case = c .before .before .before .before .before .args .case in
-    ap Answer.Graded (c .graded .ensures) ∙ ap (answered case)
-    (sym (c .before .before .checked .given .1) ∙ c .before .before .before .before .check .ensures) ∙ answerTo-checked case
+    ap Answer.Graded (c .graded .ensures)
+    ∙ by-accepted (c .before .before .before .before .before .args .case) _ Answer.Refused _
+    (sym (c .before .before .before .before .check .ensures) ∙ c .before .before .checked .given .1)
 
 returns-2 : tie.Need-returns-2
 returns-2 c =
-    let case = c .before .before .before .before .args .case in
-    ap (answered case) (sym (c .before .checked2 .given .1) ∙ c .before .before .before .check .ensures) ∙ answerTo-checked case
+    by-refused (c .before .before .before .before .args .case) _ Answer.Refused _
+    (sym (c .before .before .before .check .ensures) ∙ c .before .checked2 .given .1)
 
 pub evaluate-spec : {M : Type 1} → statement M
 evaluate-spec =

@@ -7,7 +7,7 @@ use lib.ListN.{length, getD}
 use Rattle.lines.specs.Fields.{digits, fieldAs}
 use Rattle.lines.specs.Places.{DigitsRead}
 use Rattle.lines.proofs.DigitsLaws.{more, small}
-use Rattle.lines.proofs.PlacesLaws.{digit-ends, digit-within, digits-next, number-end, number-past, read-malformed}
+use Rattle.lines.proofs.PlacesLaws.{digit-ends, digits-next, number-end, number-past, read-malformed}
 use borrow.Author.Needs.{needs}
 use Rattle.lines.proofs.field.number_at.Statement.{statement}
 use Rattle.lines.proofs.field.number_at.Tie as tie
@@ -31,11 +31,11 @@ returns : tie.Need-returns Inv-loop μ-loop
 unfolding fieldAs
 returns c =
     let a = c .before .before .before .before .before .args in let l = c .before .before .before .loop in
-    let d = sym (c .before .before .digit-at .ensures) ∙ c .before .if1 .taken in
+    let d = sym (c .before .before .digit-at .ensures .0) ∙ c .before .if1 .taken in
     read-malformed (digits (a .most-digits)) (a .line .now) (a .at) (l .end)
     (number-past (a .line .now) (a .at) (l .end) (l .n) (l .inv .0) (a .most-digits) (l .inv .1)
     (omega (arith, l .inv .0 .begun, c .if2 .taken)) d
-    (digit-within (a .line .now) (l .end) (l .inv .0 .within) d))
+    (c .before .before .digit-at .ensures .1 (c .before .if1 .taken)))
 
 mul-n : tie.Need-mul-n Inv-loop μ-loop
 mul-n c =
@@ -46,15 +46,6 @@ mul-n c =
           (omega (arith, l .inv .1, c .before .before .before .before .before .pre .1)),
     )
 
-shared-slice-read-byte-value : tie.Need-shared-slice-read-byte-value Inv-loop μ-loop
-shared-slice-read-byte-value c =
-    let a = c .before .before .before .before .before .before .args in let l = c .before .before .before .before .loop in
-    omega (
-      arith,
-      digit-within (a .line .now) (l .end) (l .inv .0 .within)
-          (sym (c .before .before .before .digit-at .ensures) ∙ c .before .before .if1 .taken),
-    )
-
 sub-n : tie.Need-sub-n Inv-loop μ-loop
 sub-n c =
     let a = c .before .before .before .before .before .before .before .args in let l = c .before .before .before .before .before .loop in
@@ -62,13 +53,13 @@ sub-n c =
       arith,
       c .byte-value .ensures,
       digit-ends (getD (a .line .now) (l .end) 0)
-          (sym (c .before .before .before .before .digit-at .ensures) ∙ c .before .before .before .if1 .taken) .0,
+          (sym (c .before .before .before .before .digit-at .ensures .0) ∙ c .before .before .before .if1 .taken) .0,
     )
 
 add-n : tie.Need-add-n Inv-loop μ-loop
 add-n c =
     let a = c .before .before .before .before .before .before .before .args in let l = c .before .before .before .before .before .loop in
-    let d = sym (c .before .before .before .before .digit-at .ensures) ∙ c .before .before .before .if1 .taken in
+    let d = sym (c .before .before .before .before .digit-at .ensures .0) ∙ c .before .before .before .if1 .taken in
     omega (
       arith,
       small (l .n) (l .end - a .at) (l .inv .2)
@@ -77,29 +68,11 @@ add-n c =
       digit-ends (getD (a .line .now) (l .end) 0) d .1,
     )
 
-add-end : tie.Need-add-end Inv-loop μ-loop
-add-end c =
-    let a = c .before .before .before .before .before .before .before .args in let l = c .before .before .before .before .before .loop in
-    omega (
-      arith,
-      digit-within (a .line .now) (l .end) (l .inv .0 .within)
-          (sym (c .before .before .before .before .digit-at .ensures) ∙ c .before .before .before .if1 .taken),
-    )
-
-loop-less : tie.Need-loop-less Inv-loop μ-loop
-loop-less c =
-    let a = c .before .before .before .before .before .before .before .args in let l = c .before .before .before .before .before .loop in
-    omega (
-      arith,
-      digit-within (a .line .now) (l .end) (l .inv .0 .within)
-          (sym (c .before .before .before .before .digit-at .ensures) ∙ c .before .before .before .if1 .taken),
-    )
-
 loop-again : tie.Need-loop-again Inv-loop μ-loop
 loop-again c =
     let a = c .before .before .before .before .before .before .before .args in let l = c .before .before .before .before .before .loop in
     let b = c .byte-value .ensures in
-    let d = sym (c .before .before .before .before .digit-at .ensures) ∙ c .before .before .before .if1 .taken in
+    let d = sym (c .before .before .before .before .digit-at .ensures .0) ∙ c .before .before .before .if1 .taken in
     let k : l .end + 1 - a .at ≡ l .end - a .at + 1 = omega (arith, l .inv .0 .begun) in (
       rw b (digits-next (a .line .now) (a .at) (l .end) (l .n) (l .inv .0) d),
       omega (arith, l .inv .1, l .inv .0 .begun, c .before .before .if2 .left),
@@ -115,12 +88,15 @@ returns-2 c =
     record {
       as-field = value;
       at-end = λ v e. number-end (a .line .now) (a .at) (l .end) (l .n) (l .inv .0) (a .most-digits) (l .inv .1)
-          (sym (c .before .before .digit-at .ensures) ∙ c .before .if1 .left) v (sym value ∙ e);
+          (sym (c .before .before .digit-at .ensures .0) ∙ c .before .if1 .left) v (sym value ∙ e);
     }
 
 pub number-at-spec : {M : Type 1} → statement M
 number-at-spec =
     tie.close
     (tie.spec Inv-loop μ-loop loop-holds (λ c κs. c .loop .inv .0 .within) (λ c. omega (arith, c .before .before .loop .inv .0 .begun))
-    returns mul-n shared-slice-read-byte-value (λ c κs. search needs) sub-n add-n add-end loop-less loop-again
-    (λ c κs. (c .before .before .loop .inv .0, sym (c .before .digit-at .ensures) ∙ c .if1 .left)) returns-2)
+    returns mul-n (λ c. omega (arith, c .before .before .before .digit-at .ensures .1 (c .before .before .if1 .taken)))
+    (λ c κs. search needs) sub-n add-n
+    (λ c. omega (arith, c .before .before .before .before .digit-at .ensures .1 (c .before .before .before .if1 .taken)))
+    (λ c. omega (arith, c .before .before .before .before .digit-at .ensures .1 (c .before .before .before .if1 .taken))) loop-again
+    (λ c κs. (c .before .before .loop .inv .0, sym (c .before .digit-at .ensures .0) ∙ c .if1 .left)) returns-2)
