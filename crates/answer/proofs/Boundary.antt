@@ -1,15 +1,17 @@
 -- The boundary sections (specs/Boundary), shown, with those of the layer below.
+--   example-speeds, estimated-speeds   F of the printed case and of the one that 10 refuses, by the lanes
 --   example-accepted   the printed case is accepted
 --   volumes            its service volumes
 --   example-figures    the printed line's eleven figures
 --   none-at-99999      with V = 99,999 no count of the printed case meets C
 --   boundary-shown     each figure of the list is what is to be shown
 -- Assumes nothing.
-use mathlib.Core.Path.{_≡_, refl, _∙_}
+use mathlib.Core.Path.{_≡_, refl, ap, _∙_}
 use mathlib.Core.List.{[], _∷_}
 use Prim.Native.Nat.{ℕ, _≤_}
 use native.Mathlib.Omega.{arith}
 use lib.Dec.{T}
+use lib.ListN.{drop}
 use Rattle.numbers.specs.Division.{divUp}
 use Rattle.numbers.specs.Search.{leastFrom, least, endsAt}
 use Rattle.numbers.proofs.SearchLaws.{greatest-last}
@@ -38,17 +40,28 @@ use Rattle.answer.specs.Answers as answers
 use Rattle.answer.specs.Answers.{graded, answerTo}
 use Rattle.answer.specs.Lanes.{lanesFound, lanesRefusals, lanesAnswer, refusalNumber, values}
 use Rattle.answer.specs.Search.{demandMeets}
-use Rattle.answer.specs.Boundary.{exampleWith, addedFigures, boundaryFigures}
+use Rattle.answer.specs.Boundary.{exampleWith, estimated, addedFigures, boundaryFigures}
 use Rattle.answer.proofs.VolumeLaws.{demandMeets-down, serviceVolume-eq}
 
+-- F by the lanes, of the printed case and of the one that 10 refuses
+pub example-speeds : (freeFlowSpeed (example .road) 2 ≡ 60783) × (freeFlowSpeed (example .road) 3 ≡ 61583)
+    × (freeFlowSpeed (example .road) 4 ≡ 62383) × (freeFlowSpeed (example .road) 5 ≡ 62783) × (freeFlowSpeed (example .road) 6 ≡ 62783)
+    × (freeFlowSpeed (example .road) 7 ≡ 62783) × (freeFlowSpeed (example .road) 8 ≡ 62783)
+unfolding laneWidthAdjustment perMissingFoot rightClearanceAdjustment estimatedBy uncappedBy freeFlowSpeed
+example-speeds = (simp ramp-24, simp ramp-24, simp ramp-24, simp ramp-24, simp ramp-24, simp ramp-24, simp ramp-24)
+
+pub estimated-speeds : (freeFlowSpeed (estimated .road) 2 ≡ 53180) × (freeFlowSpeed (estimated .road) 3 ≡ 54380)
+    × (freeFlowSpeed (estimated .road) 4 ≡ 55580)
+unfolding laneWidthAdjustment perMissingFoot rightClearanceAdjustment estimatedBy uncappedBy freeFlowSpeed
+estimated-speeds = (simp ramp-6, simp ramp-6, simp ramp-6)
+
 pub example-accepted : Accepted example
-unfolding laneWidthAdjustment perMissingFoot rightClearanceAdjustment estimatedBy uncappedBy freeFlowSpeed roadRefusals loadRefusals
-    fieldRefusals speedRefusals refusals
-example-accepted = simp ramp-24
+unfolding roadRefusals loadRefusals fieldRefusals speedRefusals refusals
+example-accepted = simp (example-speeds .0)
 
 example-curve : caseCurve example ≡ curveAt Kind.Freeway 60783
-unfolding laneWidthAdjustment perMissingFoot rightClearanceAdjustment estimatedBy uncappedBy freeFlowSpeed curveOf
-example-curve = simp ramp-24
+unfolding curveOf
+example-curve = simp (example-speeds .0)
 
 -- a service volume of the printed case, by where the search's test ends
 volume : (l s : ℕ) → 1 ≤ l → l ≤ 5 → s ≤ greatestDemand
@@ -71,29 +84,47 @@ volumes = (
   volume 5 3858 (omega arith) (omega arith) (omega arith) tt,
 )
 
--- with V = 99,999 no count of the printed case meets C
-pub none-at-99999 : refusalNumber (lanesAnswer (exampleWith 99999) 3) ∷ values (lanesAnswer (exampleWith 99999) 3) ≡ 14 ∷ []
-unfolding divUp leastFrom least laneWidthAdjustment perMissingFoot rightClearanceAdjustment estimatedBy uncappedBy freeFlowSpeed
-    roadRefusals loadRefusals fieldRefusals speedRefusals refusals capacity breakpoint curveAt curveOf heavyFactor flowRate fallShareBy
-    speed shownSpeed density shownDensity densityLimit densityLetter letterAt performance measures meets lanesFound lanesRefusals
-none-at-99999 = simp ramp-24
+-- ---- the figures
+-- the printed line's eleven, and a case that 10 refuses
+answers-shown : (answers.refusalNumber (answerTo example) ∷ answers.values (answerTo example)
+    ≡ 0 ∷ 3 ∷ 60783 ∷ 230783 ∷ 1196 ∷ 60783 ∷ 197 ∷ 1117 ∷ 1829 ∷ 2642 ∷ 3360 ∷ 3858 ∷ [])
+    × (answers.refusalNumber (answerTo estimated) ∷ answers.values (answerTo estimated) ≡ 10 ∷ [])
+unfolding divUp roadRefusals loadRefusals fieldRefusals speedRefusals refusals capacity breakpoint curveAt curveOf heavyFactor flowRate
+    fallShareBy speed shownSpeed density shownDensity densityLimit densityLetter letterAt performance measures graded
+answers-shown = (
+  simp (example-speeds .0, volumes .0, volumes .1, volumes .2, volumes .3, volumes .4),
+  simp (estimated-speeds .0),
+)
 
--- the printed line's eleven figures
 pub example-figures : answers.values (answerTo example) ≡ 3 ∷ 60783 ∷ 230783 ∷ 1196 ∷ 60783 ∷ 197 ∷ 1117 ∷ 1829 ∷ 2642 ∷ 3360 ∷ 3858 ∷ []
-unfolding divUp laneWidthAdjustment perMissingFoot rightClearanceAdjustment estimatedBy uncappedBy freeFlowSpeed roadRefusals loadRefusals
-    fieldRefusals speedRefusals refusals capacity breakpoint curveAt curveOf heavyFactor flowRate fallShareBy speed shownSpeed density
-    shownDensity densityLimit densityLetter letterAt performance measures graded
-example-figures = simp (ramp-24, volumes .0, volumes .1, volumes .2, volumes .3, volumes .4)
+example-figures = ap (drop 1) (answers-shown .0)
+
+-- the lanes of the printed case, with more demand, with a letter number past E, and of the case that 10 refuses
+lanes-shown : (refusalNumber (lanesAnswer example 3) ∷ values (lanesAnswer example 3) ≡ 0 ∷ 2 ∷ [])
+    × (refusalNumber (lanesAnswer (exampleWith 2643) 3) ∷ values (lanesAnswer (exampleWith 2643) 3) ≡ 0 ∷ 3 ∷ [])
+    × (refusalNumber (lanesAnswer (exampleWith 99999) 3) ∷ values (lanesAnswer (exampleWith 99999) 3) ≡ 14 ∷ [])
+    × (refusalNumber (lanesAnswer example 6) ∷ values (lanesAnswer example 6) ≡ 16 ∷ [])
+    × (refusalNumber (lanesAnswer estimated 1) ∷ values (lanesAnswer estimated 1) ≡ 0 ∷ 4 ∷ [])
+unfolding divUp leastFrom least roadRefusals loadRefusals fieldRefusals speedRefusals refusals capacity breakpoint curveAt curveOf
+    heavyFactor flowRate fallShareBy speed shownSpeed density shownDensity densityLimit densityLetter letterAt performance measures meets
+    lanesFound lanesRefusals
+lanes-shown =
+    let speed = example-speeds in (
+      simp (speed .0, speed .1),
+      simp (speed .0, speed .1),
+      simp (speed .0, speed .1, speed .2, speed .3, speed .4, speed .5, speed .6),
+      refl,
+      simp (estimated-speeds .0, estimated-speeds .1, estimated-speeds .2),
+    )
+
+pub none-at-99999 : refusalNumber (lanesAnswer (exampleWith 99999) 3) ∷ values (lanesAnswer (exampleWith 99999) 3) ≡ 14 ∷ []
+none-at-99999 = lanes-shown .2
 
 added-shown : Shown addedFigures
-unfolding divUp leastFrom least laneWidthAdjustment perMissingFoot rightClearanceAdjustment estimatedBy uncappedBy freeFlowSpeed
-    roadRefusals loadRefusals fieldRefusals speedRefusals refusals capacity breakpoint curveAt curveOf heavyFactor flowRate fallShareBy
-    speed shownSpeed density shownDensity densityLimit densityLetter letterAt performance measures meets graded lanesFound lanesRefusals
-    addedFigures
-added-shown = (
-  simp (ramp-24, volumes .0, volumes .1, volumes .2, volumes .3, volumes .4),
-  (simp ramp-24, (simp ramp-24, (none-at-99999, (refl, (simp ramp-6, (simp ramp-6, tt)))))),
-)
+unfolding addedFigures
+added-shown =
+    let a = answers-shown in
+    let l = lanes-shown in (a .0, (l .0, (l .1, (l .2, (l .3, (a .1, (l .4, tt)))))))
 
 pub boundary-shown : Shown boundaryFigures
 boundary-shown = Shown-append specs-method.boundaryFigures addedFigures method.boundary-shown added-shown

@@ -14,8 +14,7 @@ use Rattle.curve.specs.Curves.{capacity, breakpoint, curveAt}
 use Rattle.curve.specs.Speed.{fallShareBy, speed, shownSpeed}
 use Rattle.curve.specs.Service.{density, shownDensity, densityLimit, densityLetter, letterAt, performance}
 use Rattle.road.specs.Cases.{withLanes}
-use Rattle.road.specs.Adjustments.{laneWidthAdjustment, perMissingFoot, rightClearanceAdjustment}
-use Rattle.road.specs.FreeFlowSpeed.{estimatedBy, uncappedBy, freeFlowSpeed}
+use Rattle.road.specs.FreeFlowSpeed.{uncappedBy, freeFlowSpeed}
 use Rattle.road.specs.Refusals.{roadRefusals, loadRefusals, fieldRefusals, FieldsFit}
 use Rattle.method.specs.Refusals.{speedRefusals, refusals, refusal, Accepted}
 use Rattle.method.specs.Checked.{curveOf}
@@ -23,7 +22,7 @@ use Rattle.method.specs.Flow.{heavyFactor, flowRate}
 use Rattle.method.specs.Assess.{measures}
 use Rattle.method.specs.Boundary.{example}
 use Rattle.method.proofs.RefusalLaws.{accepted-withDemand}
-use Rattle.method.proofs.Boundary.{ramp-6, ramp-24, power-500}
+use Rattle.method.proofs.Boundary.{power-500}
 use Rattle.answer.specs.Volumes.{meets, serviceVolume}
 use Rattle.answer.specs.Answers.{graded, answerTo, refusalNumber}
 use Rattle.answer.specs.Lanes.{lanesAnswer, values}
@@ -36,18 +35,16 @@ use Rattle.answer.proofs.VolumeLaws.{meets-only-accepted}
 use Rattle.answer.proofs.AnswerLaws.{Meets-iff}
 use Rattle.answer.proofs.Promises.{volumeIn-accepted, no-better-under-more-load, meets-up-to-the-service-volume}
 use Rattle.answer.proofs.Promises.{least-accepted-count}
-use Rattle.answer.proofs.Boundary.{example-accepted, volumes, example-figures, none-at-99999}
+use Rattle.answer.proofs.Boundary.{example-speeds, estimated-speeds, example-accepted, volumes, example-figures, none-at-99999}
 
 lighter-accepted : Accepted lighter
-unfolding laneWidthAdjustment perMissingFoot rightClearanceAdjustment estimatedBy uncappedBy freeFlowSpeed roadRefusals loadRefusals
-    fieldRefusals speedRefusals refusals
-lighter-accepted = simp ramp-24
+unfolding roadRefusals loadRefusals fieldRefusals speedRefusals refusals
+lighter-accepted = simp (example-speeds .1)
 
 letters : (letterIn (answerTo lighter) ≡ 1) × (letterIn (answerTo (exampleWith 2643)) ≡ 4)
-unfolding divUp laneWidthAdjustment perMissingFoot rightClearanceAdjustment estimatedBy uncappedBy freeFlowSpeed roadRefusals loadRefusals
-    fieldRefusals speedRefusals refusals capacity breakpoint curveAt curveOf heavyFactor flowRate fallShareBy speed shownSpeed density
-    shownDensity densityLimit densityLetter letterAt performance measures graded
-letters = (simp ramp-24, simp ramp-24)
+unfolding divUp roadRefusals loadRefusals fieldRefusals speedRefusals refusals capacity breakpoint curveAt curveOf heavyFactor flowRate
+    fallShareBy speed shownSpeed density shownDensity densityLimit densityLetter letterAt performance measures graded
+letters = (simp (example-speeds .1), simp (example-speeds .0))
 
 heavier-accepted : Accepted (exampleWith 2643)
 heavier-accepted = accepted-withDemand example 2643 example-accepted (omega arith)
@@ -112,16 +109,14 @@ fields-fit = refl
 
 -- 10 refuses 2 lanes and 3, and none of 1 to 10 refuses 4
 counts : (refusal (withLanes estimated 2) ≡ 10) × (refusal (withLanes estimated 3) ≡ 10) × (refusal (withLanes estimated 4) ≡ 0)
-unfolding laneWidthAdjustment perMissingFoot rightClearanceAdjustment estimatedBy uncappedBy freeFlowSpeed roadRefusals loadRefusals
-    fieldRefusals speedRefusals refusals
-counts = (simp ramp-6, simp ramp-6, simp ramp-6)
+unfolding roadRefusals loadRefusals fieldRefusals speedRefusals refusals
+counts = (simp (estimated-speeds .0), simp (estimated-speeds .1), simp (estimated-speeds .2))
 
 -- with 4 lanes the letter is A
 four-meet : (n : ℕ) → meets (withLanes estimated 4) n ≡ leb 1 n
-unfolding divUp laneWidthAdjustment perMissingFoot rightClearanceAdjustment estimatedBy uncappedBy freeFlowSpeed roadRefusals loadRefusals
-    fieldRefusals speedRefusals refusals capacity breakpoint curveAt curveOf heavyFactor flowRate fallShareBy speed shownSpeed density
-    shownDensity densityLimit densityLetter letterAt performance measures meets
-four-meet n = simp ramp-6
+unfolding divUp roadRefusals loadRefusals fieldRefusals speedRefusals refusals capacity breakpoint curveAt curveOf heavyFactor flowRate
+    fallShareBy speed shownSpeed density shownDensity densityLimit densityLetter letterAt performance measures meets
+four-meet n = simp (estimated-speeds .2)
 
 fewer-refused : (n fewer : ℕ) → AcceptedCount estimated fewer → fewer < 4 → Meets (withLanes estimated fewer) n → ⊥
 fewer-refused n zero a f m = omega (arith, a .0)
