@@ -28,7 +28,7 @@ use Rattle.answer.specs.Answers.{graded, answerTo, refusalNumber}
 use Rattle.answer.specs.Lanes.{lanesAnswer, values}
 use Rattle.answer.specs.Promises.{letterIn, Meets, AcceptedCount, volumeIn}
 use Rattle.answer.specs.Boundary.{exampleWith, estimated}
-use Rattle.answer.specs.Instances.{lighter, multilane, NoBetterLetterUnderMoreLoad, NoBetterLetterUnderMoreDemand}
+use Rattle.answer.specs.Instances.{lighter, multilaneWith, NoBetterLetterUnderMoreLoad, NoBetterLetterUnderMoreDemand}
 use Rattle.answer.specs.Instances.{NoBetterLetterOnAMultilane, ServiceVolumeOfTheExample, FirstAndLastServiceVolume}
 use Rattle.answer.specs.Instances.{FourLanesForEveryLetter, NoLanesForTheGreatestDemand, ThreeLanesOnAMultilane}
 use Rattle.answer.proofs.VolumeLaws.{meets-only-accepted}
@@ -65,12 +65,12 @@ no-better-letter-under-more-demand = (
       (omega arith) (omega arith) (omega arith) (omega arith) (omega arith),
 )
 
-multilane-letters : (letterIn (answerTo (multilane 2800)) ≡ 3) × (letterIn (answerTo (multilane 3600)) ≡ 4)
+multilane-letters : (letterIn (answerTo (multilaneWith 2800)) ≡ 3) × (letterIn (answerTo (multilaneWith 3600)) ≡ 4)
 unfolding divUp uncappedBy freeFlowSpeed roadRefusals loadRefusals fieldRefusals speedRefusals refusals capacity breakpoint curveAt curveOf
     heavyFactor flowRate fallShareBy speed shownSpeed density shownDensity densityLimit densityLetter letterAt performance measures graded
 multilane-letters = (refl, simp power-500)
 
-multilane-accepted : Accepted (multilane 2800) × Accepted (multilane 3600)
+multilane-accepted : Accepted (multilaneWith 2800) × Accepted (multilaneWith 3600)
 unfolding uncappedBy freeFlowSpeed roadRefusals loadRefusals fieldRefusals speedRefusals refusals
 multilane-accepted = (refl, refl)
 
@@ -78,7 +78,7 @@ pub no-better-letter-on-a-multilane : NoBetterLetterOnAMultilane
 no-better-letter-on-a-multilane = (
   multilane-letters .0,
   multilane-letters .1,
-  no-better-under-more-load (multilane 2800) (multilane 3600) (multilane-accepted .0) (multilane-accepted .1) refl
+  no-better-under-more-load (multilaneWith 2800) (multilaneWith 3600) (multilane-accepted .0) (multilane-accepted .1) refl
       (omega arith) (omega arith) (omega arith) (omega arith) (omega arith),
 )
 
@@ -148,16 +148,16 @@ no-lanes-for-the-greatest-demand =
     least-accepted-count (exampleWith 99999) 3 (omega arith) (omega arith) example-fits .1 .0 (ap (λ ns. getD ns 0 0) none-at-99999)
 
 -- with 3 lanes the letter is C
-three-meet : T (meets (withLanes (multilane 3600) 3) 3)
+three-meet : T (meets (withLanes (multilaneWith 3600) 3) 3)
 unfolding divUp uncappedBy freeFlowSpeed roadRefusals loadRefusals fieldRefusals speedRefusals refusals capacity breakpoint curveAt curveOf
     heavyFactor flowRate fallShareBy speed shownSpeed density shownDensity densityLimit densityLetter letterAt performance measures meets
 three-meet = tt
 
-multilane-fits : FieldsFit (multilane 3600)
+multilane-fits : FieldsFit (multilaneWith 3600)
 unfolding roadRefusals loadRefusals fieldRefusals
 multilane-fits = refl
 
-two-fail : (fewer : ℕ) → AcceptedCount (multilane 3600) fewer → fewer < 3 → Meets (withLanes (multilane 3600) fewer) 3 → ⊥
+two-fail : (fewer : ℕ) → AcceptedCount (multilaneWith 3600) fewer → fewer < 3 → Meets (withLanes (multilaneWith 3600) fewer) 3 → ⊥
 two-fail zero a f m = omega (arith, a .0)
 two-fail (suc zero) a f m = omega (arith, a .0)
 two-fail (suc (suc zero)) a f m = omega (arith, m .1, multilane-letters .1)
@@ -165,8 +165,8 @@ two-fail (suc (suc (suc fewer))) a f m = omega arith
 
 pub three-lanes-on-a-multilane : ThreeLanesOnAMultilane
 three-lanes-on-a-multilane =
-    least-accepted-count (multilane 3600) 3 (omega arith) (omega arith) multilane-fits .0 3 .1 (
-      (omega arith, omega arith, meets-only-accepted (withLanes (multilane 3600) 3) 3 three-meet),
-      Meets-iff (withLanes (multilane 3600) 3) 3 .1 three-meet,
+    least-accepted-count (multilaneWith 3600) 3 (omega arith) (omega arith) multilane-fits .0 3 .1 (
+      (omega arith, omega arith, meets-only-accepted (withLanes (multilaneWith 3600) 3) 3 three-meet),
+      Meets-iff (withLanes (multilaneWith 3600) 3) 3 .1 three-meet,
       two-fail,
     )

@@ -2,6 +2,7 @@
 --   serviceVolume-le   no service volume is above 19,200
 --   lanesAnswer-number   the number of the answer to the lanes question is the first of its list
 --   figures-within-ends, refusals-within-ends, refusals-reach-ends, counts-are-digits
+--   found-digit          the same of a count that is answered
 -- Assumes nothing.
 use mathlib.Core.Path.{_≡_, refl, ap}
 use mathlib.Core.List.{[], _∷_}
@@ -151,3 +152,6 @@ counts-are-digits case n count e =
     ))
     (λ p l. absurd (omega (arith, ap length l)))
     e
+
+pub found-digit : (case : Case) (n count : ℕ) → lanesAnswer case n ≡ LanesAnswer.Lanes count → count ≤ 9
+found-digit case n count e = counts-are-digits case n count (ap values e)

@@ -3,7 +3,7 @@
 --   lighter                          F E 75400 110 20 0 D 24 3 2000 1000 0 L: the printed case with less of every load
 --   NoBetterLetterUnderMoreLoad      part 1: it gets A, and the printed case with V = 2,643, with more of every load, gets D
 --   NoBetterLetterUnderMoreDemand    part 1, all but the demand equal: the printed case gets C with V = 2,000 and D with 2,643
---   multilane demand                 M G 60000 120 60 60 D 0 2 V 1000 0 L
+--   multilaneWith demand             M G 60000 120 60 60 D 0 2 V 1000 0 L
 --   NoBetterLetterOnAMultilane       part 1 on kind M with F given: C with V = 2,800, D with 3,600
 --   ServiceVolumeOfTheExample        part 2: with V = 2,642 the printed case meets C, with 2,643 it does not
 --   FirstAndLastServiceVolume        part 2: A up to 1,117 and E up to 3,858, each with V = 0 too
@@ -37,13 +37,13 @@ NoBetterLetterUnderMoreDemand =
     (letterIn (answerTo example) ≡ 3) × (letterIn (answerTo (exampleWith 2643)) ≡ 4)
     × (letterIn (answerTo example) ≤ letterIn (answerTo (exampleWith 2643)))
 
-abbrev pub multilane : ℕ → Case
-multilane demand = twoLanes (given Kind.Multilane 60000 120) demand
+abbrev pub multilaneWith : ℕ → Case
+multilaneWith demand = twoLanes (given Kind.Multilane 60000 120) demand
 
 abbrev pub NoBetterLetterOnAMultilane : Type 0
 NoBetterLetterOnAMultilane =
-    (letterIn (answerTo (multilane 2800)) ≡ 3) × (letterIn (answerTo (multilane 3600)) ≡ 4)
-    × (letterIn (answerTo (multilane 2800)) ≤ letterIn (answerTo (multilane 3600)))
+    (letterIn (answerTo (multilaneWith 2800)) ≡ 3) × (letterIn (answerTo (multilaneWith 3600)) ≡ 4)
+    × (letterIn (answerTo (multilaneWith 2800)) ≤ letterIn (answerTo (multilaneWith 3600)))
 
 abbrev pub ServiceVolumeOfTheExample : Type 0
 ServiceVolumeOfTheExample = Meets (exampleWith 2642) 3 × (Meets (exampleWith 2643) 3 → ⊥)
@@ -62,4 +62,4 @@ NoLanesForTheGreatestDemand =
     (count : ℕ) → AcceptedCount (exampleWith 99999) count → Meets (withLanes (exampleWith 99999) count) 3 → ⊥
 
 abbrev pub ThreeLanesOnAMultilane : Type 0
-ThreeLanesOnAMultilane = values (lanesAnswer (multilane 3600) 3) ≡ 3 ∷ []
+ThreeLanesOnAMultilane = values (lanesAnswer (multilaneWith 3600) 3) ≡ 3 ∷ []

@@ -6,7 +6,7 @@
 --   Promises   demand 3, stated
 --   Boundary   the boundary sections that this layer adds
 --   Laws       laws of the answers
---   Instances  an instance of each part of demand 3
+--   Instances  instances of each part of demand 3
 pub mod Volumes
 pub mod Answers
 pub mod Lanes

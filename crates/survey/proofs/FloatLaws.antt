@@ -1,7 +1,7 @@
 -- A float's exact value in a unit, rounded down (specs/Survey), by the bits of the float.
 --   bits-low      the bits of a float below 1, subnormals and 0 among them: 13
 --   bits-high     of 512 and more, infinite, NaN or negative, -0 among them: 13
---   bits-between  of 1 up to 512: the floor that the code works out
+--   bits-by       of 1 up to 512: by the range, the floor that the code works out or 13
 --   steps, quotient   what the code's shift gives, and its division
 --   numerator-fits, denominator-fits, denominator-pos   the code's products
 --   notNan, roundedIn-nan   a float by whether it differs from itself
@@ -25,6 +25,7 @@ use lib.Ieee.Fits.{down-pos}
 use lib.Ieee.Nearest.{div-same}
 use Rattle.numbers.specs.declared.Fraction.{Fraction}
 use Rattle.numbers.specs.Fraction.{times, roundedUp}
+use Rattle.checks.specs.Refusals.{outside}
 use Rattle.survey.specs.declared.SurveyAnswer.the-variants as SurveyAnswer
 use Rattle.survey.specs.Survey.{thousandths, exactValue, roundedIn}
 use Rattle.survey.specs.Units.{UnitFits, speedAnswer}
@@ -210,9 +211,16 @@ module _ (unit : Fraction) where
             rw (ofBits-fields b below) (fields-high (b / 8388608) (b % 8388608) h (omega arith))
 
     -- no sign here either; the shift is the power that is left
-    pub bits-between : (b : ℕ) → 127 ≤ b / 8388608 → b / 8388608 ≤ 135
+    bits-between : (b : ℕ) → 127 ≤ b / 8388608 → b / 8388608 ≤ 135
         → roundedIn unit (ofBits binary32 b) ≡ thousandths (pos (quotient unit b))
     bits-between b h l = rw (ofBits-fields b (omega arith), steps-eq (b / 8388608) h) (fields-between (b / 8388608) (b % 8388608) h l)
+
+    -- so the range alone decides
+    pub bits-by : (b : ℕ) (test : Bool) → 127 ≤ b / 8388608 → b / 8388608 ≤ 135 → outside 30000 90000 (quotient unit b) ≡ test
+        → cond test (SurveyAnswer.Refused 13) (SurveyAnswer.Speed (quotient unit b)) ≡ speedAnswer (roundedIn unit (ofBits binary32 b))
+    bits-by b test h l e =
+        sym
+        (ap speedAnswer (bits-between b h l) ∙ ap (λ t. cond t (SurveyAnswer.Refused 13) (SurveyAnswer.Speed (quotient unit b))) e)
 
     -- the code's products: 2 ^ 24 times 10 ^ 9
     pub numerator-fits : (t : ℕ) → t < 8388608 → (8388608 + t) * unit .numerator < 18446744073709551616

@@ -1,6 +1,5 @@
 -- The answer to a survey (specs/Survey).
---   speedAnswer-out, speedAnswer-within   what 13 makes of a whole number, by the range 30,000 to 90,000
---   speedAnswer-low, speedAnswer-high     what lies below it, and above
+--   speedAnswer-low, speedAnswer-high   13 refuses what lies below 30,000, and above 90,000
 --   speedAnswer-negative        what is 0 or below is refused
 --   surveyAnswer-cars           fewer than 100 cars: 11
 --   surveyAnswer-flow           a flow of 1,000 or more: 12
@@ -26,10 +25,10 @@ use Rattle.survey.specs.Survey.{surveyAnswer}
 use Rattle.survey.specs.Units.{speedAnswer}
 use Rattle.survey.specs.Laws.{AnswerWithinEnds}
 
-pub speedAnswer-out : (n : ℕ) → outside 30000 90000 n ≡ true → speedAnswer (thousandths (pos n)) ≡ SurveyAnswer.Refused 13
+speedAnswer-out : (n : ℕ) → outside 30000 90000 n ≡ true → speedAnswer (thousandths (pos n)) ≡ SurveyAnswer.Refused 13
 speedAnswer-out n e = rw e
 
-pub speedAnswer-within : (n : ℕ) → outside 30000 90000 n ≡ false → speedAnswer (thousandths (pos n)) ≡ SurveyAnswer.Speed n
+speedAnswer-within : (n : ℕ) → outside 30000 90000 n ≡ false → speedAnswer (thousandths (pos n)) ≡ SurveyAnswer.Speed n
 speedAnswer-within n e = rw e
 
 pub speedAnswer-low : (n : ℕ) → n < 30000 → speedAnswer (thousandths (pos n)) ≡ SurveyAnswer.Refused 13

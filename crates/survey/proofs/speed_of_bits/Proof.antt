@@ -1,13 +1,11 @@
 -- `survey::speed_of_bits` meets its contract: outside 1 to 512 the exponent alone refuses, and inside the quotient is the floor of the
 -- exact value.
 -- Assumes nothing.
-use mathlib.Core.Path.{sym, ap, _∙_}
+use mathlib.Core.Path.{sym, _∙_}
+use mathlib.Core.Bool.{true, false}
 use Prim.Native.Nat.{_/_, _%_}
 use native.Mathlib.Omega.{arith}
-use Rattle.survey.specs.Units.{speedAnswer}
-use Rattle.survey.proofs.SurveyLaws.{speedAnswer-out, speedAnswer-within}
-use Rattle.survey.proofs.FloatLaws.{steps, quotient, bits-low, bits-between, bits-high, numerator-fits, denominator-fits}
-use Rattle.survey.proofs.FloatLaws.{denominator-pos}
+use Rattle.survey.proofs.FloatLaws.{steps, bits-low, bits-by, bits-high, numerator-fits, denominator-fits, denominator-pos}
 use borrow.Author.Needs.{needs}
 use Rattle.survey.proofs.speed_of_bits.Statement.{statement}
 use Rattle.survey.proofs.speed_of_bits.Tie as tie
@@ -16,21 +14,15 @@ returns-3 : tie.Need-returns-3
 unfolding steps
 returns-3 c =
     let s = c .before .before .before .before .before .before in
-    sym
-    (ap speedAnswer
-    (bits-between (s .args .unit) (s .pre) (s .args .bits) (c .before .before .before .before .before .if1 .left)
-    (c .before .before .before .before .if2 .left))
-    ∙ speedAnswer-out (quotient (s .args .unit) (s .args .bits)) (sym (c .before .outside .ensures) ∙ c .if3 .taken))
+    bits-by (s .args .unit) (s .pre) (s .args .bits) true (c .before .before .before .before .before .if1 .left)
+    (c .before .before .before .before .if2 .left) (sym (c .before .outside .ensures) ∙ c .if3 .taken)
 
 returns-4 : tie.Need-returns-4
 unfolding steps
 returns-4 c =
     let s = c .before .before .before .before .before .before in
-    sym
-    (ap speedAnswer
-    (bits-between (s .args .unit) (s .pre) (s .args .bits) (c .before .before .before .before .before .if1 .left)
-    (c .before .before .before .before .if2 .left))
-    ∙ speedAnswer-within (quotient (s .args .unit) (s .args .bits)) (sym (c .before .outside .ensures) ∙ c .if3 .left))
+    bits-by (s .args .unit) (s .pre) (s .args .bits) false (c .before .before .before .before .before .if1 .left)
+    (c .before .before .before .before .if2 .left) (sym (c .before .outside .ensures) ∙ c .if3 .left)
 
 pub speed-of-bits-spec : {M : Type 1} → statement M
 unfolding steps
