@@ -1,6 +1,6 @@
 -- Bytes carried over to the start of a buffer (specs/Turns).
 --   moved                one byte moved
---   cut-short, cut-line, cut-long, cut-le, cut-is   how many bytes are kept
+--   cut-short, cut-line, cut-long, cut-le   how many bytes are kept
 --   cut-within, cut-moved   of the first n bytes from a place on
 --   carried-is           what a turn carries over of the first n bytes
 --   carried-short        where no whole line is left, one more than the longest line at most is carried over
