@@ -1,6 +1,7 @@
-// Compares the engine, linked as an archive, with the second implementation of document 01 (tests/second).
+// Compares the engine, linked as an archive, with the second implementation of document 01 and of request T-01 (tests/second).
 //
-//   compare quick         the document's figures, its traps, the manual's examples, curves by a stride, random cases, floats, the laws
+//   compare quick         the document's figures, its traps, the manual's examples, curves by a stride, random cases, floats, the laws,
+//                         whole days
 //   compare full-curves   every free-flow speed with every flow rate up to capacity and one more
 //   compare full-floats   every float in both units
 //   compare los PATH      random lines through the program los
@@ -9,6 +10,7 @@
 
 mod compare {
     pub mod curves;
+    pub mod days;
     pub mod draw;
     pub mod engine;
     pub mod floats;
@@ -21,6 +23,7 @@ mod compare {
 }
 mod second;
 
+use compare::days::Days;
 use compare::draw::Draw;
 use compare::paper::Paper;
 use compare::random::Random;
@@ -36,6 +39,7 @@ const SEED: u64 = 20_260_101;
 const RANDOM_CASES: u64 = 1_000_000;
 const EVERY_DEMAND_CASES: u64 = 500;
 const LAW_CASES: u64 = 50_000;
+const RANDOM_DAYS: u64 = 100_000;
 
 // Runs a group and prints its count of checks and differences.
 fn group(total: &mut Tally, name: &str, run: impl FnOnce() -> Tally) {
@@ -52,12 +56,16 @@ fn filled(fill: impl FnOnce(&mut Tally)) -> Tally {
     tally
 }
 
+fn print_outcomes(outcomes: &BTreeMap<String, u64>) {
+    let seen: Vec<String> = outcomes.iter().map(|(outcome, count)| format!("{outcome} {count}")).collect();
+    println!("outcomes: {}", seen.join(", "));
+}
+
 fn random_cases(method: &Method) -> Tally {
     let mut random = Random { method, draw: Draw(SEED), tally: Tally::default(), outcomes: BTreeMap::new() };
     random.cases(RANDOM_CASES);
     random.coverage();
-    let seen: Vec<String> = random.outcomes.iter().map(|(outcome, count)| format!("{outcome} {count}")).collect();
-    println!("outcomes: {}", seen.join(", "));
+    print_outcomes(&random.outcomes);
     random.tally
 }
 
@@ -65,6 +73,15 @@ fn every_demand(method: &Method) -> Tally {
     let mut random = Random { method, draw: Draw(SEED + 1), tally: Tally::default(), outcomes: BTreeMap::new() };
     random.every_demand(EVERY_DEMAND_CASES);
     random.tally
+}
+
+fn whole_days(method: &Method) -> Tally {
+    let mut days = Days { method, draw: Draw(SEED + 5), tally: Tally::default(), outcomes: BTreeMap::new() };
+    days.figures();
+    days.random(RANDOM_DAYS);
+    days.coverage();
+    print_outcomes(&days.outcomes);
+    days.tally
 }
 
 fn boundary_sections(method: &Method) -> Tally {
@@ -91,6 +108,7 @@ fn quick(total: &mut Tally) {
     group(total, "service volumes by every demand", || every_demand(method));
     group(total, "floats", || filled(|tally| floats::by_stride(tally, &mut Draw(SEED + 2))));
     group(total, "laws", || filled(|tally| laws::sample(method, &mut Draw(SEED + 3), tally, LAW_CASES)));
+    group(total, "days", || whole_days(method));
 }
 
 fn full_curves(total: &mut Tally) {

@@ -106,7 +106,7 @@ fn move_past_limits(draw: &mut Draw, case: &mut Case) {
 }
 
 // A demand near a change of letter, the breakpoint or a limit, for a case that 1 to 10 do not refuse.
-fn draw_demand(draw: &mut Draw, method: &Method, case: &Case, free_flow_speed: u64) -> u64 {
+pub fn draw_demand(draw: &mut Draw, method: &Method, case: &Case, free_flow_speed: u64) -> u64 {
     let volumes = method.service_volumes(case, free_flow_speed);
     let demand = match draw.from(0, 9) {
         0 => draw.one_of(&[0, 1, 2, GREATEST_DEMAND - 1, GREATEST_DEMAND]),

@@ -1,4 +1,4 @@
-// The four calls of include/marehour.h.
+// The five calls of include/marehour.h.
 
 use crate::second::survey::Unit;
 
@@ -7,6 +7,14 @@ extern "C" {
     fn marehour_lanes(line: *const u8, line_length: usize, letter: u32, answer: *mut u8, answer_length: usize) -> i32;
     fn marehour_survey_mph(speed: f32, cars: u32, flow: u32) -> i32;
     fn marehour_survey_kmh(speed: f32, cars: u32, flow: u32) -> i32;
+    fn marehour_day(
+        line: *const u8,
+        line_length: usize,
+        demands: *const u64,
+        demand_count: usize,
+        answers: *mut u64,
+        answers_length: usize,
+    ) -> i32;
 }
 
 pub fn answer(line: &[u8], buffer: &mut [u8]) -> i32 {
@@ -28,6 +36,11 @@ pub fn survey(bits: u32, unit: Unit, cars: u32, flow: u32) -> i32 {
             Unit::KilometresPerHour => marehour_survey_kmh(speed, cars, flow),
         }
     }
+}
+
+pub fn day(line: &[u8], demands: &[u64], answers: &mut [u64]) -> i32 {
+    // Safety: the three pointers come with the lengths of what they point to.
+    unsafe { marehour_day(line.as_ptr(), line.len(), demands.as_ptr(), demands.len(), answers.as_mut_ptr(), answers.len()) }
 }
 
 // The answer to a line as text without its newline, or X and the refusal, as los prints it.

@@ -5,7 +5,7 @@ use super::method::{Case, Kind, Median, Method, Refusal, Terrain, Way, LETTER_E}
 const LONGEST_LINE: usize = 80;
 const LEAST_BUFFER: usize = 64;
 
-const MALFORMED: Refusal = 15;
+pub const MALFORMED: Refusal = 15;
 const LETTER_UNKNOWN: Refusal = 16;
 const BUFFER_TOO_SHORT: Refusal = 17;
 

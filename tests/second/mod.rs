@@ -4,7 +4,9 @@
 //   method   the answer to a case, and the lanes question
 //   lines    cases and answers as text, and the program's input and output
 //   survey   surveyed speeds
+//   day      a whole day in one call, from request T-01 of document 02
 pub mod big;
+pub mod day;
 pub mod lines;
 pub mod method;
 pub mod survey;

@@ -1,13 +1,14 @@
 -- The answer to a case (specs/Answers).
 --   answerTo-accepted   an accepted case gets its grade
+--   answerTo-refused    a refused one gets its number
 --   answerTo-number     its number is the case's refusal
 --   Meets-iff           an answer meets a letter exactly when the case does
 -- Assumes nothing.
 use mathlib.Core.Path.{_≡_, refl, sym, _∙_}
 use mathlib.Core.Logic.{_↔_}
-use Prim.Native.Nat.{ℕ}
+use Prim.Native.Nat.{ℕ, _<_}
 use lib.Dec.{T, leb→le, le→leb}
-use Rattle.checks.proofs.RefusalLaws.{unlessRefused-none, unlessRefused-number}
+use Rattle.checks.proofs.RefusalLaws.{unlessRefused-none, unlessRefused-some, unlessRefused-number}
 use Rattle.curve.specs.Service.{letterNumber}
 use Rattle.road.specs.declared.Case.{Case}
 use Rattle.method.specs.Refusals.{refusal, Accepted}
@@ -21,6 +22,9 @@ use Rattle.answer.proofs.VolumeLaws.{meets-only-accepted}
 module _ (case : Case) where
   pub answerTo-accepted : Accepted case → answerTo case ≡ Answer.Graded (graded case)
   answerTo-accepted a = unlessRefused-none (refusal case) (Answer.Graded (graded case)) Answer.Refused a
+
+  pub answerTo-refused : (n : ℕ) → refusal case ≡ n → 0 < n → answerTo case ≡ Answer.Refused n
+  answerTo-refused n e p = rw e (unlessRefused-some n (Answer.Graded (graded case)) Answer.Refused p)
 
   pub answerTo-number : refusalNumber (answerTo case) ≡ refusal case
   answerTo-number = unlessRefused-number (refusal case) (Answer.Graded (graded case)) Answer.Refused refusalNumber refl (λ k. refl)

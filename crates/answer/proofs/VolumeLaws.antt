@@ -4,6 +4,7 @@
 --   meets-refused, meets-only-accepted   a refused case meets no letter
 --   meets-demand         what the search tries at a demand is meeting the letter with that demand
 --   serviceVolume-eq     the service volume of an accepted case is the greatest demand that the search's test passes
+--   serviceVolume-withDemand   it is the same whatever the case's own demand is
 --   serviceVolume-iff    a demand meets a letter exactly when it is at most the service volume
 --   volume-ready, serviceVolume-terms   the search for a service volume, from the terms of the case
 -- Assumes nothing.
@@ -71,6 +72,10 @@ meets-only-accepted case l t = eqb→eq (refusal case) 0
     (and-left (eqb (refusal case) 0) (leb (letterNumber (measures case .performance .letter)) l) t)
 
 -- ---- the service volume
+pub serviceVolume-withDemand : (case : Case) (demand l : ℕ) → serviceVolume (withDemand case demand) l ≡ serviceVolume case l
+unfolding serviceVolume
+serviceVolume-withDemand case demand l = refl
+
 module _ (case : Case) (l : ℕ) (a : Accepted case) (h : 1 ≤ l) (k : l ≤ 5) where
   -- what the search tries
   abbrev tried : ℕ → Bool

@@ -1,7 +1,8 @@
 // The answer to a case.
-//   Grade      letter, F, c, v, speed, density and the service volumes A to E
-//   Answer     a grade or a refusal
-//   evaluate   for any case at all
+//   Grade         letter, F, c, v, speed, density and the service volumes A to E
+//   Answer        a grade or a refusal
+//   graded_with   the grade of an accepted case, from its terms
+//   evaluate      for any case at all
 use curve::Curve;
 use curve::kind::Kind;
 use curve::service;
@@ -86,7 +87,8 @@ fn service_volume(terms: CurveTerms, table: &[u32], load: Load, letter: u64) -> 
     )
 }
 
-fn graded_with(case: Case, terms: CaseTerms, table: &[u32]) -> Grade
+// From the case's terms and the table of powers that its kind reads.
+pub fn graded_with(case: Case, terms: CaseTerms, table: &[u32]) -> Grade
     requires { ⌜ CaseReady case terms (now table) ⌝ }
     ensures { λ r. ⌜ r ≡ graded case ⌝ }
 {

@@ -4,23 +4,26 @@
 --   firstRefusal-join      a joined list that refuses nothing: neither part does
 --   NoneMet, none-met, none-of   no refusal of the list is met
 --   upTo, firstRefusal-le  no number is above the greatest of the list
+--   atLeast, firstRefusal-ge   no number is below the least
 --   within, inside         a number that is not outside a range
 --   unlessRefused-none, unlessRefused-some, unlessRefused-by   the answer by its number
 --   unlessRefused-refused  an answer that is another was refused
 --   unlessRefused-number   where a definition gives each answer's number: that of this one
 --   unlessRefused-found    an answer with number 0 was not refused
+--   firstRefusal-met       a refusal that is met, behind those of no greater number and before those of no smaller one: by the list
+--                          in which it is not met
 -- Assumes nothing.
 use mathlib.Core.Path.{_≡_, refl, sym, ap, _∙_}
 use mathlib.Core.Bool.{Bool, true, false, cond, _&&_}
 use mathlib.Core.List.{List, [], _∷_, _++_}
 use mathlib.Core.Logic.{⊎-elim}
-use Prim.Native.Nat.{ℕ, _≤_, _<_}
+use Prim.Native.Nat.{ℕ, _≤_, _<_, min}
 use native.Mathlib.Nat.{eq-zero-or-pos}
 use native.Mathlib.Omega.{arith}
 use borrow.Author.Tests.{ltb-false, le-ltb, ne-eqb}
 use lib.Dec.{T, leb, ltb, leb→le, ltb→lt}
 use Rattle.numbers.proofs.BoolLaws.{and-left, and-right, or-false, cond-le}
-use Rattle.checks.specs.Refusals.{Refusal, firstRefusal, unlessRefused, outside}
+use Rattle.checks.specs.Refusals.{Refusal, refuses, firstRefusal, unlessRefused, outside}
 
 -- ---- the first of a list
 abbrev pub numbered : List Refusal → Bool
@@ -85,6 +88,19 @@ firstRefusal-le m (r ∷ rs) t =
     cond-le (r .met) (leb→le (r .number) m (and-left (leb (r .number) m) (upTo m rs) t))
     (firstRefusal-le m rs (and-right (leb (r .number) m) (upTo m rs) t))
 
+abbrev pub atLeast : ℕ → List Refusal → Bool
+atLeast m [] = true
+atLeast m (r ∷ rs) = leb m (r .number) && atLeast m rs
+
+pub firstRefusal-ge : (m : ℕ) (rs : List Refusal) → T (atLeast m rs) → 0 < firstRefusal rs → m ≤ firstRefusal rs
+firstRefusal-ge m [] t p = absurd (omega arith)
+firstRefusal-ge m (r ∷ rs) t p = go (r .met) p (firstRefusal-ge m rs (and-right (leb m (r .number)) (atLeast m rs) t))
+  where
+    go : (b : Bool) → 0 < cond b (r .number) (firstRefusal rs) → (0 < firstRefusal rs → m ≤ firstRefusal rs)
+        → m ≤ cond b (r .number) (firstRefusal rs)
+    go true q rest = leb→le m (r .number) (and-left (leb m (r .number)) (atLeast m rs) t)
+    go false q rest = rest q
+
 -- ---- ranges
 pub within : (low high n : ℕ) → outside low high n ≡ false → (low ≤ n) × (n ≤ high)
 within low high n e =
@@ -116,3 +132,23 @@ module _ {A : Type 0} (n : ℕ) (answer : A) (refused : ℕ → A) where
     pub unlessRefused-found : (found : A) → unlessRefused n answer refused ≡ found → number found ≡ 0 → (n ≡ 0) × (found ≡ answer)
     unlessRefused-found found e z =
         let zero : n ≡ 0 = sym unlessRefused-number ∙ ap number e ∙ z in (zero, sym e ∙ unlessRefused-none zero)
+
+-- ---- a refusal in the middle of a list
+pub firstRefusal-met : (n : ℕ) (rs ss : List Refusal) → T (numbered rs) → T (upTo n rs) → T (atLeast n ss)
+    → firstRefusal (rs ++ (refuses n true ∷ ss)) ≡ unlessRefused (firstRefusal (rs ++ (refuses n false ∷ ss))) n (λ k. min k n)
+firstRefusal-met n [] ss t u a =
+    unlessRefused-by (firstRefusal ss) n (λ k. min k n) (λ m. n ≡ m) (λ e. refl) (λ p. omega (arith, firstRefusal-ge n ss a p))
+firstRefusal-met n (r ∷ rs) ss t u a =
+    go (r .met) _ _
+    (firstRefusal-met n rs ss (and-right (ltb 0 (r .number)) (numbered rs) t) (and-right (leb (r .number) n) (upTo n rs) u) a)
+  where
+    above : 0 < r .number
+    above = ltb→lt 0 (r .number) (and-left (ltb 0 (r .number)) (numbered rs) t)
+
+    below : r .number ≤ n
+    below = leb→le (r .number) n (and-left (leb (r .number) n) (upTo n rs) u)
+
+    go : (b : Bool) (f g : ℕ) → f ≡ unlessRefused g n (λ k. min k n)
+        → cond b (r .number) f ≡ unlessRefused (cond b (r .number) g) n (λ k. min k n)
+    go true f g e = sym (unlessRefused-some (r .number) n (λ k. min k n) above ∙ omega (arith, below))
+    go false f g e = e

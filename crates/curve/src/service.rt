@@ -1,5 +1,6 @@
 // What a flow rate gets on a curve.
 //   Letter          A to F
+//   letter_number   A is 1, F is 6
 //   Performance     speed and density as they are shown, and the letter
 //   performance_at  the three at a flow rate
 //   meets_limit     whether a flow rate keeps to capacity and to a density, many flow rates being asked about
@@ -11,7 +12,7 @@ use crate::speed::exact_speed;
 ghost use mathlib.Core.Path.{_≡_};
 ghost use Prim.Native.Nat.{_≤_};
 ghost use Rattle.curve.specs.Terms.{Prepared, Ready};
-ghost use Rattle.curve.specs.Service.{densityLetter, performance, meetsLimit, densityLimit};
+ghost use Rattle.curve.specs.Service.{letterNumber, densityLetter, performance, meetsLimit, densityLimit};
 
 pub enum Letter {
     A,
@@ -28,6 +29,19 @@ pub struct Performance {
     // tenths of a passenger car per mile per lane, 0 above capacity
     pub density: u64,
     pub letter: Letter,
+}
+
+pub fn letter_number(letter: Letter) -> u64
+    ensures { λ r. ⌜ r ≡ letterNumber letter ⌝ }
+{
+    match letter {
+        Letter::A => 1,
+        Letter::B => 2,
+        Letter::C => 3,
+        Letter::D => 4,
+        Letter::E => 5,
+        Letter::F => 6,
+    }
 }
 
 fn density_letter(density: u64) -> Letter

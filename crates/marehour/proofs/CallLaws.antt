@@ -2,9 +2,10 @@
 --   minus-fits, minus-is     minus a refusal's number
 --   handed-back              a number that another function handed back
 --   positive-is, positive-fits   a count or a speed
---   Replied                  a call's result and its buffer afterwards are those of a reply
+--   Replied                  a call's result and its lent memory afterwards are those of a reply
 --   wrote-reply, refused-reply   a reply that was written; a refusal
---   call-short, call-refused, call-case   a call over a line that was read: a short buffer; no case; a case
+--   call-lent, call-refused, call-case   a call over a line that was read: refused lent memory; no case; a case
+--   buffer-short, buffer-fits   a buffer that 17 refuses; one that it does not
 --   count-length, count-written   the two bytes of a lane count
 -- Assumes nothing.
 use mathlib.Core.Path.{_≡_, sym, ap, _∙_}
@@ -19,6 +20,8 @@ use lib.ListN.{length, set}
 use mir.Syntax.{w32}
 use mir.Val.{toZ, ofZ, SFits}
 use mir.ValLaws.{toZ-pos, toZ-ofZ}
+use Rattle.checks.specs.Refusals.{Refusal, firstRefusal}
+use Rattle.checks.proofs.RefusalLaws.{unlessRefused-none, unlessRefused-some}
 use Rattle.text.specs.Bytes.{newline}
 use Rattle.text.specs.Buffer.{Wrote}
 use Rattle.text.proofs.DigitLaws.{decimal-small}
@@ -27,7 +30,7 @@ use Rattle.road.specs.declared.Case.{Case}
 use Rattle.lines.specs.declared.read.LineRead.{LineRead}
 use Rattle.lines.specs.declared.read.LineRead.the-variants as LineRead
 use Rattle.replies.specs.Texts.{longestAnswer}
-use Rattle.marehour.specs.Calls.{Reply, bytes, refusal, countText, lineReply, lineCall, result, content}
+use Rattle.marehour.specs.Calls.{Reply, writes, refusal, countText, lineReply, lineCall, bufferRefusals, handedBack, result, content}
 
 -- ---- numbers in 32 bits
 small : (n : ℕ) → n ≤ 90000 → n < 2147483648
@@ -52,40 +55,54 @@ positive-is n h = toZ-pos w32 n (small n h)
 pub positive-fits : (n : ℕ) → n ≤ 90000 → SFits w32 (pos n)
 positive-fits n h = record { sfits = small n h }
 
--- ---- the result and the buffer
-abbrev pub Replied : ℤ → List ℕ → Reply → List ℕ → Type 0
-Replied z new r old = (z ≡ result r) × (new ≡ content r old)
+-- ---- the result and the lent memory, however what is written is counted
+module _ (count : List ℕ → ℕ) where
+  abbrev pub Replied : ℤ → List ℕ → Reply → List ℕ → Type 0
+  Replied z new r old = (z ≡ handedBack count r) × (new ≡ content r old)
 
-pub wrote-reply : (bs old new : List ℕ) (n : ℕ) (r : Reply) → length bs ≤ 64 → Wrote bs 0 old new n → r ≡ bytes bs
-    → Replied (toZ w32 n) new r old
+  pub refused-reply : (z : ℤ) (n : ℕ) (r : Reply) (old : List ℕ) → n ≤ 99 → z ≡ negℤ (pos n) → r ≡ refusal n
+      → Replied (toZ w32 (ofZ w32 z)) old r old
+  refused-reply z n r old h e k = (handed-back z n h e ∙ sym (ap (handedBack count) k), sym (ap (λ x. content x old) k))
+
+  -- a call over a line that was read, whatever the reply to a case and what refuses the lent memory
+  module _ (reply : Case → Reply) (r : LineRead) (lent : List Refusal) (old : List ℕ) where
+    pub call-lent : (z : ℤ) (n : ℕ) → n ≡ firstRefusal lent → 0 < n → n ≤ 99 → z ≡ negℤ (pos n)
+        → Replied (toZ w32 (ofZ w32 z)) old (lineCall reply r lent) old
+    call-lent z n k p h e =
+        let some : lineCall reply r lent ≡ refusal n = rw (sym k) (unlessRefused-some n (lineReply reply r) refusal p) in
+        refused-reply z n (lineCall reply r lent) old h e some
+
+    module _ (fits : firstRefusal lent ≡ 0) where
+      read : lineCall reply r lent ≡ lineReply reply r
+      read = unlessRefused-none (firstRefusal lent) (lineReply reply r) refusal fits
+
+      pub call-refused : (z : ℤ) (n : ℕ) → n ≤ 99 → r ≡ LineRead.Refused n → z ≡ negℤ (pos n)
+          → Replied (toZ w32 (ofZ w32 z)) old (lineCall reply r lent) old
+      call-refused z n k is e = refused-reply z n _ old k e (read ∙ ap (lineReply reply) is)
+
+      -- the result and the lent memory are those that another function left
+      pub call-case : (z : ℤ) (case : Case) (new : List ℕ) → r ≡ LineRead.Case case → SFits w32 z
+          → Replied z new (reply case) old → Replied (toZ w32 (ofZ w32 z)) new (lineCall reply r lent) old
+      call-case z case new is f (e, k) =
+          let same = read ∙ ap (lineReply reply) is in
+          (toZ-ofZ w32 z f ∙ e ∙ sym (ap (handedBack count) same), k ∙ sym (ap (λ x. content x old) same))
+
+-- ---- an answer buffer
+pub wrote-reply : (bs old new : List ℕ) (n : ℕ) (r : Reply) → length bs ≤ 64 → Wrote bs 0 old new n → r ≡ writes bs
+    → Replied length (toZ w32 n) new r old
 wrote-reply bs old new n r h w e =
     let k : n ≡ length bs = w .ends ∙ omega arith in (
       positive-is n (omega arith) ∙ ap pos k ∙ sym (ap result e),
       w .content ∙ sym (ap (λ x. content x old) e),
     )
 
-pub refused-reply : (z : ℤ) (n : ℕ) (r : Reply) (old : List ℕ) → n ≤ 99 → z ≡ negℤ (pos n) → r ≡ refusal n
-    → Replied (toZ w32 (ofZ w32 z)) old r old
-refused-reply z n r old h e k = (handed-back z n h e ∙ sym (ap result k), sym (ap (λ x. content x old) k))
+pub buffer-short : (room : ℕ) → room < longestAnswer → 17 ≡ firstRefusal (bufferRefusals room)
+unfolding bufferRefusals
+buffer-short room h = rw (lt-ltb room longestAnswer h)
 
--- ---- a call over a line that was read, whatever the reply to a case
-module _ (reply : Case → Reply) (r : LineRead) (old : List ℕ) where
-  fits : longestAnswer ≤ length old → lineCall reply r (length old) ≡ lineReply reply r
-  fits h = rw (le-ltb (length old) longestAnswer h)
-
-  pub call-short : (z : ℤ) → length old < longestAnswer → z ≡ negℤ (pos 17)
-      → Replied (toZ w32 (ofZ w32 z)) old (lineCall reply r (length old)) old
-  call-short z h e = refused-reply z 17 (lineCall reply r (length old)) old (omega arith) e (rw (lt-ltb (length old) longestAnswer h))
-
-  pub call-refused : (z : ℤ) (n : ℕ) → longestAnswer ≤ length old → n ≤ 99 → r ≡ LineRead.Refused n → z ≡ negℤ (pos n)
-      → Replied (toZ w32 (ofZ w32 z)) old (lineCall reply r (length old)) old
-  call-refused z n h k is e = refused-reply z n _ old k e (fits h ∙ ap (lineReply reply) is)
-
-  -- the result and the buffer are those that another function left
-  pub call-case : (z : ℤ) (case : Case) (new : List ℕ) → longestAnswer ≤ length old → r ≡ LineRead.Case case → SFits w32 z
-      → Replied z new (reply case) old → Replied (toZ w32 (ofZ w32 z)) new (lineCall reply r (length old)) old
-  call-case z case new h is f (e, k) =
-      let same = fits h ∙ ap (lineReply reply) is in (toZ-ofZ w32 z f ∙ e ∙ sym (ap result same), k ∙ sym (ap (λ x. content x old) same))
+pub buffer-fits : (room : ℕ) → longestAnswer ≤ room → firstRefusal (bufferRefusals room) ≡ 0
+unfolding bufferRefusals
+buffer-fits room h = rw (le-ltb room longestAnswer h)
 
 -- ---- a lane count
 pub count-length : (count : ℕ) → count ≤ 9 → length (countText (count ∷ [])) ≡ 2

@@ -1,26 +1,31 @@
--- What the calls of a host in C hand back, and what the lent buffer then holds (document 01, "Lines", "Refused, by who can cause it").
---   Reply                  bytes for the buffer, or a refusal's number
+-- What the calls of a host in C hand back, and what the lent memory then holds (document 01, "Lines", "Refused, by who can cause it";
+-- document 02, T-01).
+--   Reply                  what is written from the start of the lent memory on, or a refusal's number
 --   replyOf n vs text      the reply of an answer with number n and values vs: its text, or the refusal where it has no values
 --   answerReply a          the reply of an answer
 --   countText vs           the text of a lane count
 --   countReply a           the reply of an answer to the lanes question
 --   caseReply case         the reply to a case
 --   lanesReply n case      the same for the lanes question and letter number n
+--   dayReply demands case  the same for a day of demands
 --   lineReply reply r      the reply to a line that was read, by the reply to its case
---   inBuffer room r        the reply where the buffer has room for any answer, else refusal 17
---   lineCall reply r room  the reply of a call to a line that was read, with a buffer of room bytes
---   answerCall line room   the same for the answer to a line
+--   lineCall reply r lent  the reply of a call to a line that was read, by what refuses the lent memory
+--   bufferRefusals room    17, of an answer buffer of room bytes
+--   answerCall line room   the reply of the call for the answer to a line
 --   lanesCall line n room  the same for the lanes question and letter number n
---   result r               what the call hands back
---   content r old          what the buffer holds afterwards, if it held old
+--   dayCall line demands room   the same for a day of demands, with room for so many numbers
+--   handedBack count r     what a call hands back, by how it counts what is written
+--   result r               the same in bytes
+--   dayResult r            the same in answers
+--   content r old          what the lent memory holds afterwards, if it held old
 --   surveyResult a         what a survey call hands back
 -- Assumes nothing.
-use Prim.Native.Nat.{ℕ}
-use mathlib.Core.Bool.{cond}
+use Prim.Native.Nat.{ℕ, _/_}
 use mathlib.Core.List.{List, [], _∷_, _++_}
 use lib.IntN.{ℤ, pos, negℤ}
 use lib.Dec.{ltb}
 use lib.ListN.{length}
+use Rattle.checks.specs.Refusals.{Refusal, refuses, firstRefusal, unlessRefused}
 use Rattle.text.specs.Bytes.{newline}
 use Rattle.text.specs.Decimal.{decimal}
 use Rattle.text.specs.Buffer.{written}
@@ -31,6 +36,7 @@ use Rattle.answer.specs.Answers as answers
 use Rattle.answer.specs.Answers.{answerTo}
 use Rattle.answer.specs.Lanes as lanes
 use Rattle.answer.specs.Lanes.{lanesAnswer}
+use Rattle.day.specs.Days.{figureCount, dayFigures, lentRefusals}
 use Rattle.survey.specs.declared.SurveyAnswer.{SurveyAnswer}
 use Rattle.survey.specs.Survey as survey
 use Rattle.lines.specs.declared.read.LineRead.{LineRead}
@@ -39,12 +45,12 @@ use Rattle.lines.specs.Reading.{readLine}
 use Rattle.replies.specs.Texts.{answerText, longestAnswer}
 
 pub data Reply : Type 0 where
-  bytes : List ℕ → Reply
+  writes : List ℕ → Reply
   refusal : ℕ → Reply
 
 abbrev pub replyOf : ℕ → List ℕ → List ℕ → Reply
 replyOf number [] text = refusal number
-replyOf number (v ∷ vs) text = bytes text
+replyOf number (v ∷ vs) text = writes text
 
 abbrev pub answerReply : Answer → Reply
 answerReply a = replyOf (answers.refusalNumber a) (answers.values a) (answerText a)
@@ -63,32 +69,47 @@ caseReply case = answerReply (answerTo case)
 abbrev pub lanesReply : ℕ → Case → Reply
 lanesReply n case = countReply (lanesAnswer case n)
 
+-- each answer is twelve numbers
+abbrev pub dayReply : List ℕ → Case → Reply
+dayReply demands case = writes (dayFigures case demands)
+
 -- "15 malformed line", before 16 and 1
 abbrev pub lineReply : (Case → Reply) → LineRead → Reply
 lineReply reply (LineRead.Case case) = reply case
 lineReply reply (LineRead.Refused number) = refusal number
 
--- "17 answer buffer under 64 bytes, first of all"
-abbrev pub inBuffer : ℕ → Reply → Reply
-inBuffer room reply = cond (ltb room longestAnswer) (refusal 17) reply
+-- what refuses the lent memory comes first of all
+abbrev pub lineCall : (Case → Reply) → LineRead → List Refusal → Reply
+lineCall reply r lent = unlessRefused (firstRefusal lent) (lineReply reply r) refusal
 
-abbrev pub lineCall : (Case → Reply) → LineRead → ℕ → Reply
-lineCall reply r room = inBuffer room (lineReply reply r)
+-- "17 answer buffer under 64 bytes, first of all"
+unfoldable pub bufferRefusals : ℕ → List Refusal
+bufferRefusals room = refuses 17 (ltb room longestAnswer) ∷ []
 
 abbrev pub answerCall : List ℕ → ℕ → Reply
-answerCall line room = lineCall caseReply (readLine line) room
+answerCall line room = lineCall caseReply (readLine line) (bufferRefusals room)
 
 abbrev pub lanesCall : List ℕ → ℕ → ℕ → Reply
-lanesCall line n room = lineCall (lanesReply n) (readLine line) room
+lanesCall line n room = lineCall (lanesReply n) (readLine line) (bufferRefusals room)
+
+-- "18 .. before 1", and before 15, as it is about lent memory
+abbrev pub dayCall : List ℕ → List ℕ → ℕ → Reply
+dayCall line demands room = lineCall (dayReply demands) (readLine line) (lentRefusals (length demands) room)
+
+abbrev pub handedBack : (List ℕ → ℕ) → Reply → ℤ
+handedBack count (writes ns) = pos (count ns)
+handedBack count (refusal number) = negℤ (pos number)
 
 -- "gets the count of bytes written, newline included, or minus the refusal number"
 abbrev pub result : Reply → ℤ
-result (bytes bs) = pos (length bs)
-result (refusal number) = negℤ (pos number)
+result = handedBack length
 
--- "Bytes past the count keep their content; a refusal changes no byte"
+abbrev pub dayResult : Reply → ℤ
+dayResult = handedBack (λ ns. length ns / figureCount)
+
+-- "Bytes past the count keep their content; a refusal changes no byte"; "Answers past the demands keep their content"
 abbrev pub content : Reply → List ℕ → List ℕ
-content (bytes bs) old = written bs 0 old
+content (writes ns) old = written ns 0 old
 content (refusal number) old = old
 
 -- the speed, or minus the refusal number

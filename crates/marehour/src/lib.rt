@@ -1,5 +1,7 @@
 // Marehour: the calls that a host in C makes. include/marehour.h documents them.
-//   calls   evaluation and lanes question over a lent line and a lent buffer
-//   speed   the surveyed speed
+//   calls      evaluation and lanes question over a lent line and a lent buffer
+//   day_call   the answers to a day of demands over a lent line and lent numbers
+//   speed      the surveyed speed
 mod calls;
+mod day_call;
 mod speed;

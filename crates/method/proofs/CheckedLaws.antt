@@ -5,6 +5,7 @@
 --   checked-accepted     a case that is checked and found with a curve is accepted, and the curve is its own
 --   checked-curve        which is well formed and within the sizes
 --   checked-refused      a case that is checked and refused is not
+--   checked-number       its number is the case's refusal
 --   by-accepted, by-refused   an answer to a case, of any type, by what the check found
 --   checkedCurve-accepted, checkedCurve-refused   the same where 10 alone is checked
 -- Assumes nothing.
@@ -61,16 +62,18 @@ checked-refused case n e =
     unlessRefused-refused (refusal case) (Checked.Accepted (caseCurve case)) Checked.Refused (Checked.Refused n) e
     (λ d. let o : _≡_ {A = ℕ} 0 1 = cc d in omega arith)
 
+pub checked-number : (case : Case) (n : ℕ) → checked case ≡ Checked.Refused n → refusal case ≡ n
+checked-number case n e =
+    sym (unlessRefused-number (refusal case) (Checked.Accepted (caseCurve case)) Checked.Refused refusalNumber refl (λ k. refl))
+    ∙ ap refusalNumber e
+
 module _ {A : Type 0} (case : Case) (answer : A) (refused : ℕ → A) where
   pub by-accepted : (curve : Curve) → checked case ≡ Checked.Accepted curve → answer ≡ unlessRefused (refusal case) answer refused
   by-accepted curve e = sym (unlessRefused-none (refusal case) answer refused (checked-accepted case curve e .0))
 
   pub by-refused : (n : ℕ) → checked case ≡ Checked.Refused n → refused n ≡ unlessRefused (refusal case) answer refused
   by-refused n e =
-      let own : refusal case ≡ n =
-      sym (unlessRefused-number (refusal case) (Checked.Accepted (caseCurve case)) Checked.Refused refusalNumber refl (λ k. refl))
-      ∙ ap refusalNumber e in
-      sym (unlessRefused-some (refusal case) answer refused (checked-refused case n e) ∙ ap refused own)
+      sym (unlessRefused-some (refusal case) answer refused (checked-refused case n e) ∙ ap refused (checked-number case n e))
 
 -- the same where 10 alone is checked, of a case that 1 to 9 do not refuse
 pub checkedCurve-accepted : (case : Case) (curve : Curve) → FieldsFit case

@@ -4,12 +4,15 @@
 --   accepted-of, accepted-fields     what is accepted: neither 1 to 9 nor 10 refuse it
 --   accepted-speed         F of an accepted case is at its lower end or above
 --   accepted-withDemand    an accepted case is accepted with every demand up to the greatest
+--   refusal-within, refusal-above   the refusal of a case by that of the same case with no demand: the same with every demand up to the
+--                          greatest; with a greater one 7, unless one of 1 to 6 comes before it
 -- Assumes nothing.
 use mathlib.Core.Path.{_≡_, _∙_}
-use Prim.Native.Nat.{ℕ, _≤_, _<_}
-use borrow.Author.Tests.{ltb-false}
-use Rattle.checks.specs.Refusals.{firstRefusal}
-use Rattle.checks.proofs.RefusalLaws.{firstRefusal-none, firstRefusal-some, firstRefusal-join, firstRefusal-le, none-met}
+use Prim.Native.Nat.{ℕ, _≤_, _<_, min}
+use borrow.Author.Tests.{ltb-false, le-ltb, lt-ltb}
+use lib.ListN.{take, drop}
+use Rattle.checks.specs.Refusals.{firstRefusal, unlessRefused}
+use Rattle.checks.proofs.RefusalLaws.{firstRefusal-none, firstRefusal-some, firstRefusal-join, firstRefusal-le, firstRefusal-met, none-met}
 use Rattle.curve.specs.Kinds.{lowestSpeed}
 use Rattle.road.specs.declared.Case.{Case}
 use Rattle.road.specs.Cases.{withDemand}
@@ -49,3 +52,12 @@ accepted-speed case a =
 pub accepted-withDemand : (case : Case) (demand : ℕ) → Accepted case → demand ≤ greatestDemand → Accepted (withDemand case demand)
 accepted-withDemand case demand a h =
     let p = parts case a in accepted-of (withDemand case demand) (fields-withDemand case demand (p .0) h) (p .1)
+
+pub refusal-within : (case : Case) → case .demand ≤ greatestDemand → refusal case ≡ refusal (withDemand case 0)
+unfolding roadRefusals loadRefusals fieldRefusals refusals
+refusal-within case h = rw (le-ltb greatestDemand (case .demand) h)
+
+pub refusal-above : (case : Case) → greatestDemand < case .demand
+    → refusal case ≡ unlessRefused (refusal (withDemand case 0)) 7 (λ n. min n 7)
+unfolding roadRefusals loadRefusals fieldRefusals speedRefusals refusals
+refusal-above case h = rw (lt-ltb greatestDemand (case .demand) h) (firstRefusal-met 7 (take 6 (refusals case)) (drop 7 (refusals case)) tt tt tt)

@@ -1,5 +1,6 @@
 // Road: a road and its load, from their fields to the free-flow speed, and refusals 1 to 9.
 //   Road, Case   a road, and a road with its load; Way, Median, Terrain: the types of their fields
+//   with_demand  a case with another demand
 //   adjustment   what lane width, clearances, median and access take off a base speed
 //   ramp         what ramps take off
 //   free_flow    free-flow speed
@@ -11,6 +12,8 @@ mod ramp_table;
 pub mod refusal;
 
 use curve::kind::Kind;
+ghost use mathlib.Core.Path.{_≡_};
+ghost use Rattle.road.specs.Cases.{withDemand};
 
 // How free-flow speed is had: E from a base speed, G as it is given.
 pub enum Way {
@@ -56,4 +59,12 @@ pub struct Case {
     // thousandths
     pub heavy_share: u64,
     pub terrain: Terrain,
+}
+
+pub fn with_demand(case: Case, demand: u64) -> Case
+    ensures { λ r. ⌜ r ≡ withDemand case demand ⌝ }
+{
+    let mut asked = case;
+    asked.demand = demand;
+    asked
 }

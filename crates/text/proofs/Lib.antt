@@ -1,7 +1,7 @@
 -- The laws of the definitions in specs/.
 --   PartsLaws    bytes parted at a byte
 --   DigitLaws    the digits of a number
---   BufferLaws   text in a buffer
+--   BufferLaws   text and numbers in a buffer
 --   RowLaws      numbers and rows written into a buffer
 pub mod PartsLaws
 pub mod DigitLaws

@@ -1,4 +1,4 @@
--- Text in a lent buffer.
+-- Text, or numbers as they are, in a lent buffer.
 --   written text at old         a buffer that held old, with text at a place
 --   Wrote text at old new end   text was written at a place, and ends before `end`
 -- Assumes nothing.

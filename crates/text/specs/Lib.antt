@@ -2,7 +2,7 @@
 --   Bytes     text as bytes
 --   Parts     bytes parted at a byte
 --   Decimal   numbers in decimal
---   Buffer    text in a lent buffer
+--   Buffer    text, or numbers as they are, in a lent buffer
 pub mod Bytes
 pub mod Parts
 pub mod Decimal

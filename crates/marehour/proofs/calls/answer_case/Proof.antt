@@ -54,7 +54,7 @@ returns c =
 returns-2 : tie.Need-returns-2
 returns-2 c =
     let e = sym (c .before .before .before .before .evaluate .ensures) ∙ c .before .before .found2 .given .1 in
-    refused-reply (c .refused .result) _ _ _
+    refused-reply length (c .refused .result) _ _ _
     (omega (
       arith,
       refusals-within-ends (c .before .before .before .before .before .before .args .case) 1 .0,

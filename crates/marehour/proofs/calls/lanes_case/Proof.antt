@@ -2,7 +2,7 @@
 -- Assumes nothing.
 use mathlib.Core.Path.{sym, ap, _∙_}
 use native.Mathlib.Omega.{arith}
-use lib.ListN.{length-set}
+use lib.ListN.{length, length-set}
 use Rattle.answer.specs.Lanes.{refusalNumber}
 use Rattle.answer.proofs.Laws.{refusals-within-ends, found-digit}
 use Rattle.marehour.specs.Calls.{countReply}
@@ -28,7 +28,7 @@ returns-2 : tie.Need-returns-2
 returns-2 c =
     let a = c .before .before .before .before .before .before .args in
     let e = sym (c .before .before .before .before .lanes-needed .ensures) ∙ c .before .before .found2 .given .1 in
-    refused-reply (c .refused .result) _ _ _ (omega (arith, refusals-within-ends (a .case) (a .letter) .1, ap refusalNumber e))
+    refused-reply length (c .refused .result) _ _ _ (omega (arith, refusals-within-ends (a .case) (a .letter) .1, ap refusalNumber e))
     (c .refused .ensures) (ap countReply e)
 
 pub lanes-case-spec : {M : Type 1} → statement M

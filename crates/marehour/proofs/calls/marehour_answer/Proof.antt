@@ -2,11 +2,12 @@
 -- Assumes nothing.
 use mathlib.Core.Path.{sym, ap, _∙_}
 use native.Mathlib.Omega.{arith}
+use lib.ListN.{length}
 use Rattle.lines.specs.declared.read.LineRead.the-variants as LineRead
 use Rattle.lines.specs.Reading.{readLine}
 use Rattle.lines.proofs.ReadingLaws.{readLine-refused}
-use Rattle.marehour.specs.Calls.{caseReply}
-use Rattle.marehour.proofs.CallLaws.{call-short, call-refused, call-case}
+use Rattle.marehour.specs.Calls.{bufferRefusals, caseReply}
+use Rattle.marehour.proofs.CallLaws.{call-lent, call-refused, call-case, buffer-short, buffer-fits}
 use borrow.Author.Needs.{needs}
 use Rattle.marehour.proofs.calls.marehour_answer.Statement.{statement}
 use Rattle.marehour.proofs.calls.marehour_answer.Tie as tie
@@ -15,15 +16,16 @@ returns-2 : tie.Need-returns-2
 returns-2 c =
     let a = c .before .before .before .before .before .before .before .args in
     let e = sym (c .before .before .before .read-line .ensures) ∙ c .before .enum-told .given .1 in
-    call-refused caseReply _ (a .answer .now) (c .refused2 .result) 15 (c .before .before .before .before .if1 .left)
+    call-refused length caseReply _ (bufferRefusals _) (a .answer .now)
+    (buffer-fits _ (c .before .before .before .before .if1 .left)) (c .refused2 .result) 15
     (omega arith) (e ∙ ap LineRead.Refused (readLine-refused (a .line .now) _ e)) (c .refused2 .ensures)
 
 returns-3 : tie.Need-returns-3
 returns-3 c =
     let s = c .before .before .answer-case in
-    call-case caseReply _
-    (c .before .before .before .before .before .before .before .before .before .before .before .args .answer .now)
-    (s .result) _ _ (c .before .before .before .before .before .before .before .before .if1 .left)
+    let a = c .before .before .before .before .before .before .before .before .before .before .before .args in
+    call-case length caseReply _ (bufferRefusals _) (a .answer .now)
+    (buffer-fits _ (c .before .before .before .before .before .before .before .before .if1 .left)) (s .result) _ _
     (sym (c .before .before .before .before .before .before .before .read-line .ensures)
     ∙ c .before .before .before .before .before .reading .given .1) (search needs) (s .ensures)
 
@@ -32,6 +34,7 @@ marehour-answer-spec =
     tie.close
     (tie.spec (λ c κs. search needs)
     (λ c. let a = c .before .before .before .before .args in
-    call-short caseReply (readLine (a .line .now)) (a .answer .now) (c .refused .result) (c .before .if1 .taken) (c .refused .ensures))
+    call-lent length caseReply (readLine (a .line .now)) (bufferRefusals _) (a .answer .now) (c .refused .result) 17
+    (buffer-short _ (c .before .if1 .taken)) (omega arith) (omega arith) (c .refused .ensures))
     (λ c κs. search needs) (λ c. search needs) (λ c. search needs) (λ c κs. search needs) returns-2 (λ c κs. search needs)
     (λ c. search needs) returns-3)

@@ -1,0 +1,51 @@
+-- What a reader of the lent answers is promised (document 02, T-01), over the definitions that the contract of `evaluate_day` cites;
+-- proofs/Promises proves each.
+--   position i ns                the twelve numbers of position i, counted from 0
+--   DayIsTheSingleCalls          the lent numbers afterwards are the answers of the single call with each demand, in order, and then what
+--                                stood there
+--   PositionHoldsTheAnswer       position i holds what the single call answers with demand i
+--   FiguresTellTheAnswer         twelve numbers are those of one answer only
+--   PastTheDemandsKept           what is behind the positions keeps its content, and what is lent its length
+--   RefusedDayChangesNothing     18 leaves every number as it was
+--   LentFitsExactly              18 refuses exactly no demand, more than 24, and room for fewer answers
+-- Assumes nothing.
+use mathlib.Core.Path.{_≡_}
+use mathlib.Core.Logic.{_↔_}
+use mathlib.Core.List.{List, _++_}
+use Prim.Native.Nat.{ℕ, _*_, _≤_, _<_}
+use lib.ListN.{length, take, drop, getD}
+use Rattle.road.specs.declared.Case.{Case}
+use Rattle.road.specs.Cases.{withDemand}
+use Rattle.answer.specs.declared.evaluate.Answer.{Answer}
+use Rattle.answer.specs.Answers.{answerTo}
+use Rattle.day.specs.Days.{mostDemands, figureCount, answerFigures, dayFigures, LentFits, dayContent}
+
+abbrev pub position : ℕ → List ℕ → List ℕ
+position i ns = take figureCount (drop (figureCount * i) ns)
+
+abbrev pub DayIsTheSingleCalls : Type 0
+DayIsTheSingleCalls =
+    (case : Case) (demands old : List ℕ) → LentFits (length demands) (length old)
+    → dayContent case demands old ≡ dayFigures case demands ++ drop (figureCount * length demands) old
+
+abbrev pub PositionHoldsTheAnswer : Type 0
+PositionHoldsTheAnswer =
+    (case : Case) (demands old : List ℕ) → LentFits (length demands) (length old)
+    → (i : ℕ) → i < length demands
+    → position i (dayContent case demands old) ≡ answerFigures (answerTo (withDemand case (getD demands i 0)))
+
+abbrev pub FiguresTellTheAnswer : Type 0
+FiguresTellTheAnswer = (a b : Answer) → answerFigures a ≡ answerFigures b → a ≡ b
+
+abbrev pub PastTheDemandsKept : Type 0
+PastTheDemandsKept =
+    (case : Case) (demands old : List ℕ)
+    → (drop (figureCount * length demands) (dayContent case demands old) ≡ drop (figureCount * length demands) old)
+    × (length (dayContent case demands old) ≡ length old)
+
+abbrev pub RefusedDayChangesNothing : Type 0
+RefusedDayChangesNothing =
+    (case : Case) (demands old : List ℕ) → (LentFits (length demands) (length old) → ⊥) → dayContent case demands old ≡ old
+
+abbrev pub LentFitsExactly : Type 0
+LentFitsExactly = (n room : ℕ) → LentFits n room ↔ ((1 ≤ n) × (n ≤ mostDemands) × (figureCount * n ≤ room))

@@ -1,0 +1,157 @@
+// Day: the answers to up to 24 demands on one road, with its lanes, peak-hour factor, heavy share and terrain, in one call.
+//   MOST_DEMANDS   the most demands of a call
+//   FIGURES        how many numbers an answer has
+//   DAY_UNFIT      refusal 18
+//   DayAnswer      the count of answers, or a refusal
+//   lent_refusal   18 where demands and lent numbers do not fit, else 0
+//   evaluate_day   for any case, any demands and any lent numbers
+mod shared;
+
+use answer::evaluate;
+use answer::evaluate::Answer;
+use curve::Curve;
+use curve::kind::Kind;
+use curve::service;
+use method::assess;
+use method::assess::CaseTerms;
+use method::checked;
+use method::checked::Checked;
+use road::Case;
+use shared::Shared;
+ghost use mathlib.Core.Path.{_≡_};
+ghost use mathlib.Core.Bool.{_||_};
+ghost use Prim.Native.Nat.{_*_, _/_, _≤_};
+ghost use lib.Dec.{ltb};
+ghost use lib.ListN.{length};
+ghost use Rattle.checks.specs.Refusals.{firstRefusal, outside};
+ghost use Rattle.text.specs.Buffer.{written};
+ghost use Rattle.method.specs.declared.checked.Checked.the-variants as Checked;
+ghost use Rattle.method.specs.Checked.{checked};
+ghost use Rattle.method.specs.Assess.{CaseReady};
+ghost use Rattle.road.specs.Cases.{withDemand};
+ghost use Rattle.day.specs.Days.{mostDemands, figureCount, answerFigures, dayFigures, lentRefusals, dayAnswer, dayContent};
+ghost use Rattle.day.specs.Shared.{SharedBy};
+
+pub const MOST_DEMANDS: usize = 24;
+
+pub const FIGURES: usize = 12;
+
+pub const DAY_UNFIT: u64 = 18;
+
+pub enum DayAnswer {
+    Answered(u64),
+    Refused(u64),
+}
+
+fn lent_unfit(demands: usize, numbers: usize) -> bool
+    ensures { λ r. ⌜ r ≡ (outside 1 mostDemands demands || ltb (numbers / figureCount) demands) ⌝ }
+{
+    checks::outside(1, MOST_DEMANDS as u64, demands as u64) || numbers / FIGURES < demands
+}
+
+pub fn lent_refusal(demands: usize, numbers: usize) -> u64
+    ensures { λ r. ⌜ r ≡ firstRefusal (lentRefusals demands numbers) ⌝ }
+{
+    checks::refused_if(lent_unfit(demands, numbers), DAY_UNFIT, 0)
+}
+
+fn answer_figures(answer: Answer) -> [u64; 12]
+    ensures { λ r. ⌜ r ≡ answerFigures answer ⌝ }
+{
+    match answer {
+        Answer::Graded(grade) => {
+            let letter = grade.letter;
+            [
+                0,
+                service::letter_number(letter),
+                grade.free_flow_speed,
+                grade.capacity,
+                grade.flow_rate,
+                grade.speed,
+                grade.density,
+                grade.volume_a,
+                grade.volume_b,
+                grade.volume_c,
+                grade.volume_d,
+                grade.volume_e,
+            ]
+        }
+        Answer::Refused(number) => [number, 0, 0, 0, 0, 0, 0, 0, 0, 0, 0, 0],
+    }
+}
+
+// The answer with each demand in its position.
+fn put_answers(case: Case, shared: Shared, table: &[u32], demands: &[u64], answers: &mut [u64])
+    requires { ⌜ SharedBy case shared (now table) × (figureCount * length (now demands) ≤ length (now answers)) ⌝ }
+    ensures { λ _. ⌜ now (answers .exit) ≡ written (dayFigures case (now (demands .entry))) 0 (now (answers .entry)) ⌝ }
+{
+    let mut i = 0;
+    let mut at = 0;
+    while i < demands.len() {
+        let answer = shared::answer_with(road::with_demand(case, demands[i]), shared, table);
+        let figures = answer_figures(answer);
+        at = text::buffer::put_numbers(&figures, answers, at);
+        i += 1;
+    }
+}
+
+// The service volumes are searched for once.
+fn put_graded(case: Case, terms: CaseTerms, table: &[u32], demands: &[u64], answers: &mut [u64])
+    requires { ⌜ CaseReady (withDemand case 0) terms (now table) × (figureCount * length (now demands) ≤ length (now answers)) ⌝ }
+    ensures { λ _. ⌜ now (answers .exit) ≡ written (dayFigures case (now (demands .entry))) 0 (now (answers .entry)) ⌝ }
+{
+    let grade = evaluate::graded_with(road::with_demand(case, 0), terms, table);
+    put_answers(
+        case,
+        Shared::Accepted(grade, terms),
+        table,
+        demands,
+        answers,
+    )
+}
+
+// The terms of the case are worked out, and the table of powers is made where the kind reads it, once a call.
+fn put_accepted(case: Case, curve: Curve, demands: &[u64], answers: &mut [u64])
+    requires { ⌜ (checked (withDemand case 0) ≡ Checked.Accepted curve) × (figureCount * length (now demands) ≤ length (now answers)) ⌝ }
+    ensures { λ _. ⌜ now (answers .exit) ≡ written (dayFigures case (now (demands .entry))) 0 (now (answers .entry)) ⌝ }
+{
+    let terms = assess::case_terms(road::with_demand(case, 0), curve);
+    let kind = curve.kind;
+    match kind {
+        Kind::Freeway => put_graded(case, terms, &[], demands, answers),
+        Kind::Multilane => {
+            let table = powers::power_table();
+            put_graded(case, terms, &table, demands, answers)
+        }
+    }
+}
+
+// The case is checked once, with no demand, so that 7 does not hide what else refuses it.
+fn put_day(case: Case, demands: &[u64], answers: &mut [u64])
+    requires { ⌜ figureCount * length (now demands) ≤ length (now answers) ⌝ }
+    ensures { λ _. ⌜ now (answers .exit) ≡ written (dayFigures case (now (demands .entry))) 0 (now (answers .entry)) ⌝ }
+{
+    let checked = checked::check(road::with_demand(case, 0));
+    match checked {
+        Checked::Accepted(curve) => put_accepted(case, curve, demands, answers),
+        Checked::Refused(number) => put_answers(
+            case,
+            Shared::Refused(number),
+            &[],
+            demands,
+            answers,
+        ),
+    }
+}
+
+pub fn evaluate_day(case: Case, demands: &[u64], answers: &mut [u64]) -> DayAnswer
+    ensures result { λ r. ⌜ r ≡ dayAnswer (length (now (demands .entry))) (length (now (answers .entry))) ⌝ }
+    ensures answers { λ _. ⌜ now (answers .exit) ≡ dayContent case (now (demands .entry)) (now (answers .entry)) ⌝ }
+{
+    let number = lent_refusal(demands.len(), answers.len());
+    if 0 < number {
+        return DayAnswer::Refused(number);
+    }
+    put_day(case, demands, answers);
+    DayAnswer::Answered(demands.len() as u64)
+}

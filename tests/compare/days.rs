@@ -1,0 +1,281 @@
+// Whole days in one call: some with their figures, and random lines with random demands and buffers of random length and content. Each
+// position of a random day is also compared with the engine's own single answer.
+
+use super::draw::{draw_demand, draw_line, Draw};
+use super::engine;
+use super::tally::Tally;
+use crate::second::day::{self, POSITION};
+use crate::second::lines;
+use crate::second::method::{Case, Method, GREATEST_DEMAND};
+use std::collections::BTreeMap;
+
+const fn refused(number: u64) -> [u64; POSITION] {
+    [number, 0, 0, 0, 0, 0, 0, 0, 0, 0, 0, 0]
+}
+
+// The line of document 01, and its answers to the demands 0, 2,000, 2,643, one more than the service volume of C, and 99,999.
+// 2,643 × 1.1 / (0.92 × 2) = 1,580.05; w = ((158,100 − 156,868) / (230,783 − 156,868))² = 0.0002778; S = 60,783 − 9,497.9w = 60,780.36;
+// 15,810,000 / S = 260.12. 99,999 × 1.1 / (0.92 × 2) = 59,782.01.
+const LINE: &str = "F E 75400 110 20 0 D 24 2 2000 920 50 R";
+const AT_0: [u64; POSITION] = [0, 1, 60_783, 230_783, 0, 60_783, 0, 1_117, 1_829, 2_642, 3_360, 3_858];
+const AT_2000: [u64; POSITION] = [0, 3, 60_783, 230_783, 1_196, 60_783, 197, 1_117, 1_829, 2_642, 3_360, 3_858];
+const AT_2643: [u64; POSITION] = [0, 4, 60_783, 230_783, 1_581, 60_780, 261, 1_117, 1_829, 2_642, 3_360, 3_858];
+const AT_99999: [u64; POSITION] = [0, 6, 60_783, 230_783, 59_783, 0, 0, 1_117, 1_829, 2_642, 3_360, 3_858];
+
+// Lines, demands and what each position gets. Blanks stand for tabs.
+const DAYS: &[(&str, &[u64], &[[u64; POSITION]])] = &[
+    (LINE, &[2_000, 100_000, 2_643], &[AT_2000, refused(7), AT_2643]),
+    (LINE, &[2_000], &[AT_2000]),
+    (LINE, &[u64::MAX], &[refused(7)]),
+    // 2,000 once cut to 32 bits; a product past 64 bits.
+    (LINE, &[(1 << 32) + 2_000, u64::MAX / 1_100 + 1], &[refused(7), refused(7)]),
+    (LINE, &[0; 24], &[AT_0; 24]),
+    // The line's own demand is not used.
+    ("F E 75400 110 20 0 D 24 2 99999 920 50 R", &[0, 99_999, 2_000], &[AT_0, AT_99999, AT_2000]),
+    // 7 is before 8, 9 and 10 and after 1 to 6.
+    ("F G 75000 120 60 60 D 0 2 0 249 0 L", &[100_000, 5], &[refused(7), refused(8)]),
+    ("F G 75000 120 60 60 D 0 2 0 1000 1001 L", &[5, u64::MAX, 99_999], &[refused(9), refused(7), refused(9)]),
+    ("F G 54999 120 60 60 D 0 2 0 1000 0 L", &[100_000, 5, 100_000], &[refused(7), refused(10), refused(7)]),
+    ("F G 75000 120 60 60 D 0 1 0 249 0 L", &[100_000, 5], &[refused(6), refused(6)]),
+    ("F G 29999 120 60 60 D 0 2 0 1000 0 L", &[u64::MAX; 24], &[refused(1); 24]),
+];
+
+const MALFORMED: &str = "F E 75400 110 20 0 D 24 2 2000 920 50 R ";
+
+// Calls that are refused as a whole: line, count of demands, length of the buffer, result.
+const REFUSED: &[(&str, usize, usize, i32)] = &[
+    (LINE, 0, 0, -18),
+    (LINE, 0, 12, -18),
+    (LINE, 1, 0, -18),
+    (LINE, 1, 11, -18),
+    (LINE, 3, 35, -18),
+    (LINE, 24, 287, -18),
+    (LINE, 25, 300, -18),
+    // 18 is before 1 and before 15.
+    ("F G 29999 120 60 60 D 0 2 0 1000 0 L", 0, 12, -18),
+    ("F G 29999 120 60 60 D 0 2 0 1000 0 L", 25, 300, -18),
+    (MALFORMED, 0, 12, -18),
+    (MALFORMED, 3, 35, -18),
+    (MALFORMED, 25, 300, -18),
+    (MALFORMED, 3, 36, -15),
+    (MALFORMED, 24, 293, -15),
+    ("", 1, 12, -15),
+    // The line's own demand has to be well formed.
+    ("F E 75400 110 20 0 D 24 2  920 50 R", 1, 12, -15),
+    ("F E 75400 110 20 0 D 24 2 02000 920 50 R", 1, 12, -15),
+    ("F E 75400 110 20 0 D 24 2 100000 920 50 R", 1, 12, -15),
+];
+
+// What must come up in a run of 100,000: results of refused calls, refusals and letters of positions.
+const OUTCOMES: [&str; 18] = ["-15", "-18", "1", "2", "3", "4", "5", "6", "7", "8", "9", "10", "A", "B", "C", "D", "E", "F"];
+const LEAST_OF_EACH: u64 = 1_000;
+
+// Numbers on both sides of a lent buffer.
+const MARGIN: usize = 8;
+
+// Demands that a narrower number or a product may not hold, each with its neighbours.
+const LARGE: [u64; 4] = [1 << 32, 1 << 63, u64::MAX / 3_000, u64::MAX - 1];
+
+// A call, with the buffer and its margins as they are before.
+struct Call {
+    line: Vec<u8>,
+    demands: Vec<u64>,
+    buffer: Vec<u64>,
+}
+
+// What a call hands back, and the buffer and its margins afterwards.
+#[derive(PartialEq)]
+struct After {
+    result: i32,
+    buffer: Vec<u64>,
+}
+
+fn lent(buffer: &mut [u64]) -> &mut [u64] {
+    let end = buffer.len() - MARGIN;
+    &mut buffer[MARGIN..end]
+}
+
+impl Call {
+    fn by_engine(&self) -> After {
+        let mut buffer = self.buffer.clone();
+        After { result: engine::day(&self.line, &self.demands, lent(&mut buffer)), buffer }
+    }
+
+    fn by_second(&self, method: &Method) -> After {
+        let mut buffer = self.buffer.clone();
+        After { result: day::day(method, &self.line, &self.demands, lent(&mut buffer)), buffer }
+    }
+
+    // A result, and the buffer with these positions written and all else kept.
+    fn by_figures(&self, result: i32, positions: &[[u64; POSITION]]) -> After {
+        let (mut buffer, written) = (self.buffer.clone(), positions.concat());
+        lent(&mut buffer)[..written.len()].copy_from_slice(&written);
+        After { result, buffer }
+    }
+
+    fn name(&self) -> String {
+        let (line, length) = (String::from_utf8_lossy(&self.line), self.buffer.len() - 2 * MARGIN);
+        format!("{line:?}, demands {:?}, buffer of {length}", self.demands)
+    }
+}
+
+impl After {
+    fn position(&self, place: usize) -> &[u64] {
+        &self.buffer[MARGIN + POSITION * place..][..POSITION]
+    }
+
+    // The results, and the first number that differs, counted from the start of the lent buffer.
+    fn beside(&self, other: &After) -> String {
+        let results = format!("results {} and {}", self.result, other.result);
+        match self.buffer.iter().zip(&other.buffer).position(|(own, others)| own != others) {
+            Some(at) => format!("{results}, number {} is {} and {}", at as i64 - MARGIN as i64, self.buffer[at], other.buffer[at]),
+            None => results,
+        }
+    }
+}
+
+fn draw_buffer(draw: &mut Draw, length: usize) -> Vec<u64> {
+    (0..length + 2 * MARGIN).map(|_| draw.bits()).collect()
+}
+
+// As long as the answers need, or shorter, or longer.
+fn draw_length(draw: &mut Draw, count: usize) -> usize {
+    let needed = POSITION * count;
+    match draw.from(0, 15) {
+        0 => draw.one_of(&[0, count, needed.saturating_sub(1), needed.saturating_sub(POSITION)]),
+        1 => draw.from(0, needed as u64) as usize,
+        2..=5 => draw.from(needed as u64 + 1, 26 * POSITION as u64 + 5) as usize,
+        _ => needed,
+    }
+}
+
+fn draw_count(draw: &mut Draw) -> u64 {
+    match draw.from(0, 7) {
+        0 => draw.one_of(&[0, 1, 24, 25]),
+        1 => draw.from(0, 26),
+        _ => draw.from(1, 24),
+    }
+}
+
+// A demand for a case, which comes with its F if 1 to 10 do not refuse it.
+fn draw_any_demand(draw: &mut Draw, method: &Method, accepted: &Option<(Case, u64)>) -> u64 {
+    match (draw.from(0, 8), accepted) {
+        (0, _) => draw.one_of(&[0, 1, GREATEST_DEMAND, GREATEST_DEMAND + 1, GREATEST_DEMAND + 2]),
+        (1, _) => draw.one_of(&LARGE) - 1 + draw.from(0, 2),
+        (2, _) => draw.bits() >> draw.from(0, 63),
+        (3, _) | (_, None) => draw.from(0, 19_999),
+        (_, Some((case, free_flow_speed))) => draw_demand(draw, method, case, *free_flow_speed),
+    }
+}
+
+fn draw_call(draw: &mut Draw, method: &Method) -> Call {
+    let line = draw_line(draw, method);
+    let accepted = lines::parse(&line).and_then(|case| Some((case, method.answer(&case).ok()?.free_flow_speed)));
+    let count = draw_count(draw);
+    let demands: Vec<u64> = (0..count).map(|_| draw_any_demand(draw, method, &accepted)).collect();
+    let length = draw_length(draw, demands.len());
+    Call { line, demands, buffer: draw_buffer(draw, length) }
+}
+
+// A well-formed line with another demand, its tenth field.
+fn with_demand(line: &[u8], demand: u64) -> Vec<u8> {
+    let digits = demand.to_string();
+    let mut fields: Vec<&[u8]> = line.split(|&byte| byte == b'\t').collect();
+    fields[9] = digits.as_bytes();
+    fields.join(&b'\t')
+}
+
+// The text of a single answer as the numbers of a position.
+fn numbers(text: &str) -> Vec<u64> {
+    let mut fields = text.split('\t');
+    let first = fields.next();
+    let others = fields.map(|field| field.parse().unwrap_or(u64::MAX));
+    match ["A", "B", "C", "D", "E", "F"].iter().position(|&letter| Some(letter) == first) {
+        Some(place) => [0, place as u64 + 1].into_iter().chain(others).collect(),
+        None => others.chain([0; POSITION - 1]).collect(),
+    }
+}
+
+// What the engine's single call answers with a demand. No line can hold one above 99,999: it gets 7, unless 1 to 6 refuse the line.
+fn single(line: &[u8], demand: u64) -> Vec<u64> {
+    let answered = numbers(&engine::answer_text(&with_demand(line, demand.min(GREATEST_DEMAND))));
+    if demand > GREATEST_DEMAND && !(1..=6).contains(&answered[0]) {
+        return refused(7).to_vec();
+    }
+    answered
+}
+
+// The letter of a position, or its refusal.
+fn outcome(position: &[u64]) -> String {
+    match position[0] {
+        0 => lines::letter_name(position[1] as u32).to_string(),
+        number => number.to_string(),
+    }
+}
+
+pub struct Days<'a> {
+    pub method: &'a Method,
+    pub draw: Draw,
+    pub tally: Tally,
+    pub outcomes: BTreeMap<String, u64>,
+}
+
+impl Days<'_> {
+    fn same(&mut self, call: &Call, whose: &str, left: &After, right: &After) {
+        self.tally.check(left == right, || format!("day, {}: {whose}: {}", call.name(), left.beside(right)));
+    }
+
+    fn figure(&mut self, line: &str, demands: &[u64], length: usize, result: i32, positions: &[[u64; POSITION]]) {
+        let line = line.replace(' ', "\t").into_bytes();
+        let call = Call { line, demands: demands.to_vec(), buffer: draw_buffer(&mut self.draw, length) };
+        let expected = call.by_figures(result, positions);
+        self.same(&call, "engine and figures", &call.by_engine(), &expected);
+        self.same(&call, "second and figures", &call.by_second(self.method), &expected);
+    }
+
+    pub fn figures(&mut self) {
+        for &(line, demands, positions) in DAYS {
+            for more in [0, 1, 17] {
+                self.figure(line, demands, POSITION * demands.len() + more, demands.len() as i32, positions);
+            }
+        }
+        for &(line, count, length, result) in REFUSED {
+            self.figure(line, &vec![5; count], length, result, &[]);
+        }
+    }
+
+    fn seen(&mut self, outcome: String) {
+        *self.outcomes.entry(outcome).or_default() += 1;
+    }
+
+    fn positions(&mut self, call: &Call, theirs: &After, ours: &After) {
+        for (place, &demand) in call.demands.iter().enumerate() {
+            let (position, single) = (theirs.position(place), single(&call.line, demand));
+            self.tally.check(position == single, || {
+                format!("day, {}: position {place} is {position:?}, the single call answers {single:?}", call.name())
+            });
+            self.seen(outcome(ours.position(place)));
+        }
+    }
+
+    pub fn random(&mut self, count: u64) {
+        for _ in 0..count {
+            let call = draw_call(&mut self.draw, self.method);
+            let (theirs, ours) = (call.by_engine(), call.by_second(self.method));
+            self.same(&call, "engine and second", &theirs, &ours);
+            if ours.result < 0 {
+                self.seen(ours.result.to_string());
+            } else {
+                self.positions(&call, &theirs, &ours);
+            }
+        }
+    }
+
+    // Each outcome must come up, or the random days show less than they seem to.
+    pub fn coverage(&mut self) {
+        for outcome in OUTCOMES {
+            let seen = self.outcomes.get(outcome).copied().unwrap_or(0);
+            self.tally.check(seen >= LEAST_OF_EACH, || format!("outcome {outcome} of days came up {seen} times only"));
+        }
+    }
+}
