@@ -89,13 +89,13 @@ $(BUILD)/%: tools/%.rs
 	@mkdir -p $(BUILD)
 	$(RUSTC) -o $@ $<
 
-bench: target/bin/los $(PLAIN) $(BENCH)/race $(BENCH)/calls $(BENCH)/lines.tsv
+bench: target/bin/los $(PLAIN) $(BENCH)/race $(BENCH)/calls $(BENCH)/days $(BENCH)/lines.tsv
 	@bench/run.sh $(BENCH) target/bin/los $(PLAIN)
 
 $(BENCH)/plain-%: bench/plain.c bench/section.c bench/section.h $(TABLES)
 	$* $(PLAINFLAGS) -o $@ $(filter %.c,$^)
 
-$(BENCH)/calls: bench/calls.c bench/section.c bench/section.h include/marehour.h $(TABLES) $(LIBRARY)
+$(BENCH)/calls $(BENCH)/days: $(BENCH)/%: bench/%.c bench/lines.c bench/lines.h bench/section.c bench/section.h include/marehour.h $(TABLES) $(LIBRARY)
 	gcc $(PLAINFLAGS) -Iinclude -o $@ $(filter %.c %.a,$^)
 
 $(BENCH)/lines.tsv: $(BENCH)/generate

@@ -29,6 +29,8 @@ echo
 echo
 "$build/calls" "$lines" "$runs"
 echo
+"$build/days" "$lines" "$runs"
+echo
 if command -v valgrind >/dev/null; then
     head -n 20000 "$lines" >"$few"
     printf '%-24s %17s\n' program instructions/line

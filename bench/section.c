@@ -4,7 +4,15 @@
 
 enum { LONGEST_LINE = 80, GREATEST_DEMAND = 99999 };
 
-enum refusal { NO_LANE_COUNT = 14, LINE_MALFORMED = 15, LETTER_UNKNOWN = 16, BUFFER_TOO_SHORT = 17 };
+enum refusal {
+    DEMAND_TOO_LARGE = 7,
+    SPEED_BELOW_LOWER_END = 10,
+    NO_LANE_COUNT = 14,
+    LINE_MALFORMED = 15,
+    LETTER_UNKNOWN = 16,
+    BUFFER_TOO_SHORT = 17,
+    DAY_UNFIT = 18
+};
 
 enum number { SPEED, WIDTH, RIGHT, LEFT, ACCESS, LANES, DEMAND, FACTOR, SHARE, NUMBERS };
 
@@ -28,6 +36,11 @@ struct load {
 
 struct speed {
     uint64_t numerator, denominator;
+};
+
+/* What a flow rate gets; A is 1. */
+struct performance {
+    uint64_t letter, speed, density;
 };
 
 static const uint32_t powers[1001] = {
@@ -233,13 +246,23 @@ static bool meets_limit(const struct curve *curve, uint64_t v, uint64_t limit)
     return 10000 * v * speed.denominator <= limit * speed.numerator;
 }
 
-static uint8_t density_letter(uint64_t density)
+static uint64_t density_letter(uint64_t density)
 {
-    int i = 0;
+    uint64_t i = 0;
     while (i < 5 && density > limits[i]) {
         i++;
     }
-    return (uint8_t)('A' + i);
+    return i + 1;
+}
+
+static struct performance performance_at(const struct curve *curve, uint64_t v)
+{
+    if (v > curve->most_flow) {
+        return (struct performance){6, 0, 0};
+    }
+    struct speed speed = speed_at(curve, v);
+    uint64_t density = div_up(10000 * v * speed.denominator, speed.numerator);
+    return (struct performance){density_letter(density), speed.numerator / speed.denominator, density};
 }
 
 /* The greatest demand that keeps to a density, by halving. */
@@ -282,20 +305,13 @@ static uint8_t *put_figure(uint8_t *at, uint64_t n)
 /* Letter, F, c, v, speed, density. */
 static uint8_t *put_measures(uint8_t *at, const struct curve *curve, uint64_t v)
 {
-    uint8_t letter = 'F';
-    uint64_t shown = 0, density = 0;
-    if (v <= curve->most_flow) {
-        struct speed speed = speed_at(curve, v);
-        shown = speed.numerator / speed.denominator;
-        density = div_up(10000 * v * speed.denominator, speed.numerator);
-        letter = density_letter(density);
-    }
-    *at++ = letter;
+    struct performance performance = performance_at(curve, v);
+    *at++ = (uint8_t)('A' - 1 + performance.letter);
     at = put_figure(at, curve->speed);
     at = put_figure(at, curve->capacity);
     at = put_figure(at, v);
-    at = put_figure(at, shown);
-    return put_figure(at, density);
+    at = put_figure(at, performance.speed);
+    return put_figure(at, performance.density);
 }
 
 /* The calls */
@@ -315,7 +331,7 @@ int32_t plain_answer(const uint8_t *line, size_t line_length, uint8_t *answer, s
         return -refusal;
     }
     if (!make_curve(&section, section.numbers[LANES], &curve)) {
-        return -10;
+        return -SPEED_BELOW_LOWER_END;
     }
     struct load load = load_of(&section, section.numbers[LANES]);
     uint8_t *at = put_measures(answer, &curve, flow_rate(&load, section.numbers[DEMAND]));
@@ -324,6 +340,65 @@ int32_t plain_answer(const uint8_t *line, size_t line_length, uint8_t *answer, s
     }
     *at++ = '\n';
     return (int32_t)(at - answer);
+}
+
+static void put_refused(uint64_t *answer, uint64_t number)
+{
+    answer[0] = number;
+    for (int i = 1; i < DAY_FIGURES; i++) {
+        answer[i] = 0;
+    }
+}
+
+static void put_graded(uint64_t *answer, const struct curve *curve, uint64_t v, const uint64_t *volumes)
+{
+    struct performance performance = performance_at(curve, v);
+    uint64_t figures[7] = {0, performance.letter, curve->speed, curve->capacity, v, performance.speed, performance.density};
+    for (int i = 0; i < DAY_FIGURES; i++) {
+        answer[i] = i < 7 ? figures[i] : volumes[i - 7];
+    }
+}
+
+/* A road that is refused: a demand that is too large has 7, unless one of 1 to 6 comes before it. */
+static void put_refused_day(uint64_t number, const uint64_t *demands, size_t demand_count, uint64_t *answers)
+{
+    for (size_t i = 0; i < demand_count; i++) {
+        put_refused(answers + DAY_FIGURES * i, demands[i] > GREATEST_DEMAND ? lesser(number, DEMAND_TOO_LARGE) : number);
+    }
+}
+
+int32_t plain_day(const uint8_t *line, size_t line_length, const uint64_t *demands, size_t demand_count, uint64_t *answers,
+                  size_t answers_length)
+{
+    struct section section;
+    struct curve curve;
+    uint64_t volumes[5];
+    if (demand_count < 1 || demand_count > DAY_DEMANDS || answers_length / DAY_FIGURES < demand_count) {
+        return -DAY_UNFIT;
+    }
+    if (!read_section(line, line_length, &section)) {
+        return -LINE_MALFORMED;
+    }
+    int32_t refusal = field_refusal(&section);
+    if (refusal == 0 && !make_curve(&section, section.numbers[LANES], &curve)) {
+        refusal = SPEED_BELOW_LOWER_END;
+    }
+    if (refusal != 0) {
+        put_refused_day((uint64_t)refusal, demands, demand_count, answers);
+        return (int32_t)demand_count;
+    }
+    struct load load = load_of(&section, section.numbers[LANES]);
+    for (int i = 0; i < 5; i++) {
+        volumes[i] = service_volume(&curve, &load, limits[i]);
+    }
+    for (size_t i = 0; i < demand_count; i++) {
+        if (demands[i] > GREATEST_DEMAND) {
+            put_refused(answers + DAY_FIGURES * i, DEMAND_TOO_LARGE);
+        } else {
+            put_graded(answers + DAY_FIGURES * i, &curve, flow_rate(&load, demands[i]), volumes);
+        }
+    }
+    return (int32_t)demand_count;
 }
 
 static bool meets_with(const struct section *section, uint64_t lanes, uint64_t limit)

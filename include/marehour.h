@@ -4,6 +4,7 @@
 
      marehour_answer       a section's letter, speed, density and service volumes
      marehour_lanes        the least lane count with which a section meets a letter
+     marehour_day          a section's answers for up to 24 demands
      marehour_survey_mph   a surveyed speed, from miles per hour
      marehour_survey_kmh   a surveyed speed, from kilometres per hour
 
@@ -34,10 +35,11 @@
 
    A number has one to five digits and no leading zero, save 0 itself.
 
-   Memory. A call reads line[0] to line[line_length - 1] and nothing else, and keeps no pointer. It
-   writes into answer[0] to answer[answer_length - 1] only. A pointer may be NULL when its length is
-   0. The line and the answer buffer must not overlap. Text is not ended by a zero byte, neither the
-   line nor the answer.
+   Memory. A call reads line[0] to line[line_length - 1] and demands[0] to
+   demands[demand_count - 1], and nothing else, and keeps no pointer. It writes into answer[0] to
+   answer[answer_length - 1] only, or into answers[0] to answers[answers_length - 1]. A pointer may
+   be NULL when its length is 0. What is lent for one call must not overlap; numbers must be aligned
+   as uint64_t is. Text is not ended by a zero byte, neither the line nor the answer.
 
    Threads. The calls keep no state and share nothing: any number of threads may make them at once,
    each with its own buffer.
@@ -55,13 +57,18 @@ extern "C" {
 /* The least length of an answer buffer. Every answer fits in it. */
 #define MAREHOUR_ANSWER_SIZE 64
 
-/* Numbers of the letters that marehour_lanes takes. */
+/* The most demands of a day, and how many numbers each of its answers has. */
+#define MAREHOUR_DAY_DEMANDS 24
+#define MAREHOUR_DAY_FIGURES 12
+
+/* Numbers of the letters: marehour_lanes takes A to E, marehour_day answers A to F. */
 enum {
     MAREHOUR_LETTER_A = 1,
     MAREHOUR_LETTER_B = 2,
     MAREHOUR_LETTER_C = 3,
     MAREHOUR_LETTER_D = 4,
-    MAREHOUR_LETTER_E = 5
+    MAREHOUR_LETTER_E = 5,
+    MAREHOUR_LETTER_F = 6
 };
 
 /* Refusals. A call hands back minus the number. A number is never reused. */
@@ -73,7 +80,7 @@ enum {
     MAREHOUR_ACCESS_TOO_LARGE = 5,       /* ramps above 48 (F), access points above 200 (M) */
     MAREHOUR_LANES_NOT_OF_THE_KIND = 6,  /* lanes not 2 to 8 (F), not 2 to 3 (M) */
     MAREHOUR_DEMAND_TOO_LARGE = 7,       /* demand above 99,999: no line can hold it, so no call
-                                            hands it back */
+                                            hands it back; a position of a day may have it */
     MAREHOUR_FACTOR_OUT_OF_RANGE = 8,    /* peak-hour factor not 250 to 1,000 */
     MAREHOUR_SHARE_TOO_LARGE = 9,        /* heavy share above 1,000 */
     MAREHOUR_SPEED_BELOW_LOWER_END = 10, /* free-flow speed F below 55,000 (F), 45,000 (M) */
@@ -84,7 +91,9 @@ enum {
     MAREHOUR_NO_LANE_COUNT = 14,         /* no lane count of the kind meets the letter */
     MAREHOUR_LINE_MALFORMED = 15,        /* not a line as above, or longer than 80 bytes */
     MAREHOUR_LETTER_UNKNOWN = 16,        /* letter number not 1 to 5 */
-    MAREHOUR_BUFFER_TOO_SHORT = 17       /* answer buffer under MAREHOUR_ANSWER_SIZE bytes */
+    MAREHOUR_BUFFER_TOO_SHORT = 17,      /* answer buffer under MAREHOUR_ANSWER_SIZE bytes */
+    MAREHOUR_DAY_UNFIT = 18              /* no demand, more than MAREHOUR_DAY_DEMANDS, or room for
+                                            fewer answers than demands */
 };
 
 int32_t marehour_answer(const uint8_t *line, size_t line_length, uint8_t *answer,
@@ -128,6 +137,33 @@ int32_t marehour_lanes(const uint8_t *line, size_t line_length, uint32_t letter,
 
    Afterwards the first two bytes of the buffer are the answer. Those past them keep their content.
    A refusal changes no byte.
+*/
+
+int32_t marehour_day(const uint8_t *line, size_t line_length, const uint64_t *demands,
+                     size_t demand_count, uint64_t *answers, size_t answers_length);
+/* Answers a section once for each demand, 1 to MAREHOUR_DAY_DEMANDS of them: position i, from 0 on,
+   holds what marehour_answer answers for the same section with demands[i]. The line's own demand
+   has to be well formed and is not used. Any numbers may be passed as demands.
+
+   answers_length counts numbers. A position is MAREHOUR_DAY_FIGURES of them, from
+   answers[MAREHOUR_DAY_FIGURES * i] on:
+
+     the refusal's number, 0 for none; letter by its number, A to F; free-flow speed; capacity; flow
+     rate; speed; density; service volumes A to E
+
+   The number is 0, or the first of 1 to 10 that refuses the section with that demand; the other
+   eleven are 0 then. A demand above 99,999 gets 7, or one of 1 to 6 where that refuses the section;
+   the other positions go on.
+
+   The result is the count of answers written, which is demand_count; or minus the first of these
+   refusals that holds, in this order:
+
+     18  no demand, more than MAREHOUR_DAY_DEMANDS, or answers_length under MAREHOUR_DAY_FIGURES
+         times demand_count; the line is not read
+     15  malformed line
+
+   Afterwards the first MAREHOUR_DAY_FIGURES times demand_count numbers are the answers. Those past
+   them keep their content. A refusal changes no number.
 */
 
 int32_t marehour_survey_mph(float speed, uint32_t cars, uint32_t flow);

@@ -3,10 +3,11 @@
    Vectors: crates/los/stdin with crates/los/stdout, tests/lanes.tsv, tests/surveys.tsv. In the latter two a row that begins with # is a
    comment.
 
-   Line and buffer each lie between two pages that cannot be accessed: once they begin right behind the first, once they end right before
-   the second. The line is read-only while it is lent. The buffer and what is around it is filled with a pattern before a call and compared
-   byte by byte after it. Each set of checks runs in a child. Where the library passes, the checks run over calls that are wrong on purpose
-   (tests/overrun.c), and each of these must end as its fault says. */
+   Line, demands and buffer each lie between two pages that cannot be accessed: once they begin right behind the first, once they end right
+   before the second. Line and demands are read-only while they are lent. The buffer and what is around it is filled with a pattern before a
+   call and compared byte by byte after it. A day asks a line with its own demand, with one that 7 refuses, and with its own again; what it
+   must answer is had from the line's own answer. Each set of checks runs in a child. Where the library passes, the checks run over calls
+   that are wrong on purpose (tests/overrun.c), and each of these must end as its fault says. */
 #define _DEFAULT_SOURCE
 #include "calls.h"
 #include "marehour.h"
@@ -21,6 +22,9 @@
 #include <unistd.h>
 
 enum { LONGEST_BUFFER = 4096, MOST_VECTORS = 2000, SECONDS = 120 };
+
+/* A day: how many demands each line is asked with, more than a day may have, where a line's own stands, and the greatest that 7 passes. */
+enum { ASKED = 3, MORE_DEMANDS = 30, DEMAND_FIELD = 9, GREATEST_DEMAND = 99999 };
 
 /* Pages that can be accessed between two that cannot. */
 struct fence {
@@ -62,7 +66,7 @@ struct text {
 static struct vector answers[MOST_VECTORS], lanes[MOST_VECTORS];
 static struct survey surveys[MOST_VECTORS];
 static size_t answer_count, lanes_count, survey_count;
-static struct fence line_fence, buffer_fence;
+static struct fence line_fence, demands_fence, buffer_fence;
 static uint8_t *pattern; /* as long as the buffer's pages */
 static size_t page_size;
 static struct report *report;
@@ -223,6 +227,7 @@ static void make_memory(void)
 {
     page_size = (size_t)sysconf(_SC_PAGESIZE);
     line_fence = make_fence(longest_line() + 1);
+    demands_fence = make_fence(MORE_DEMANDS * sizeof(uint64_t));
     buffer_fence = make_fence(LONGEST_BUFFER + 1);
     pattern = malloc(buffer_fence.size);
     report = mmap(NULL, sizeof *report, PROT_READ | PROT_WRITE, MAP_SHARED | MAP_ANONYMOUS, -1, 0);
@@ -234,14 +239,14 @@ static void make_memory(void)
     }
 }
 
-/* A line among digits, read-only. */
-static const uint8_t *lend_line(const uint8_t *line, size_t length, enum side side)
+/* Bytes among digits, read-only. */
+static const uint8_t *lend(const struct fence *fence, const void *bytes, size_t length, enum side side)
 {
-    mprotect(line_fence.start, line_fence.size, PROT_READ | PROT_WRITE);
-    memset(line_fence.start, '5', line_fence.size);
-    memcpy(placed(&line_fence, length, side), line, length);
-    mprotect(line_fence.start, line_fence.size, PROT_READ);
-    return placed(&line_fence, length, side);
+    mprotect(fence->start, fence->size, PROT_READ | PROT_WRITE);
+    memset(fence->start, '5', fence->size);
+    memcpy(placed(fence, length, side), bytes, length);
+    mprotect(fence->start, fence->size, PROT_READ);
+    return placed(fence, length, side);
 }
 
 /* Checks, made in a child */
@@ -284,7 +289,7 @@ static void check_vector(const struct calls *calls, const struct vector *vector)
     static const size_t enough[] = {MAREHOUR_ANSWER_SIZE, MAREHOUR_ANSWER_SIZE + 1, 100, LONGEST_BUFFER};
     for (int sides = 0; sides < 4; sides++) {
         enum side side = sides % 2 == 0 ? AT_START : AT_END;
-        const uint8_t *line = lend_line(vector->line, vector->length, sides / 2 == 0 ? AT_START : AT_END);
+        const uint8_t *line = lend(&line_fence, vector->line, vector->length, sides / 2 == 0 ? AT_START : AT_END);
         for (size_t length = 0; length < MAREHOUR_ANSWER_SIZE; length++) {
             check_buffer(calls, vector, line, length, side);
         }
@@ -308,6 +313,101 @@ static void check_lanes(const struct calls *calls)
     }
 }
 
+/* Days */
+
+/* The numbers of a position: of a line that one of 1 to 6 refuses its number; of a demand that is too large 7; else what the line's answer
+   says. */
+static void expect_position(const struct vector *vector, uint64_t demand, uint64_t *figures)
+{
+    uint64_t number = vector->result < 0 ? (uint64_t)-vector->result : 0;
+    memset(figures, 0, MAREHOUR_DAY_FIGURES * sizeof *figures);
+    if (demand > GREATEST_DEMAND && (number == 0 || number > MAREHOUR_DEMAND_TOO_LARGE)) {
+        number = MAREHOUR_DEMAND_TOO_LARGE;
+    }
+    figures[0] = number;
+    if (number != 0) {
+        return;
+    }
+    char *at = (char *)vector->text + 1;
+    figures[1] = (uint64_t)(vector->text[0] - 'A') + MAREHOUR_LETTER_A;
+    for (int i = 2; i < MAREHOUR_DAY_FIGURES; i++) {
+        figures[i] = strtoull(at, &at, 10);
+    }
+}
+
+/* A well-formed line's own demand. */
+static uint64_t own_demand(const struct vector *vector)
+{
+    const uint8_t *at = vector->line;
+    for (int i = 0; i < DEMAND_FIELD; i++) {
+        at = (const uint8_t *)memchr(at, '\t', (size_t)(vector->line + vector->length - at)) + 1;
+    }
+    return strtoull((const char *)at, NULL, 10);
+}
+
+/* A call with some demands and room for some numbers. */
+static void check_room(const struct calls *calls, const struct vector *vector, const uint8_t *line, const uint64_t *demands, size_t count,
+                       size_t room, enum side side)
+{
+    static uint64_t figures[MAREHOUR_DAY_DEMANDS * MAREHOUR_DAY_FIGURES];
+    uint8_t *buffer = placed(&buffer_fence, room * sizeof *figures, side);
+    int32_t expected = (int32_t)count;
+    if (count == 0 || count > MAREHOUR_DAY_DEMANDS || room < MAREHOUR_DAY_FIGURES * count) {
+        expected = -MAREHOUR_DAY_UNFIT;
+    } else if (vector->result == -MAREHOUR_LINE_MALFORMED) {
+        expected = -MAREHOUR_LINE_MALFORMED;
+    }
+    for (int32_t i = 0; i < expected; i++) {
+        expect_position(vector, demands[i], figures + MAREHOUR_DAY_FIGURES * i);
+    }
+    memcpy(buffer_fence.start, pattern, buffer_fence.size);
+    int32_t result = calls->day(line, vector->length, demands, count, (uint64_t *)(void *)buffer, room);
+    const char *shown = (const char *)vector->line;
+    int width = vector->length < 80 ? (int)vector->length : 80;
+    check(result == expected, "result %d, not %d, of %zu demands in %zu numbers, for %.*s", result, expected, count, room, width, shown);
+    check(holds_only(buffer, (const uint8_t *)figures, expected > 0 ? (size_t)expected * MAREHOUR_DAY_FIGURES * sizeof *figures : 0),
+          "other numbers of %zu demands in %zu numbers for %.*s", count, room, width, shown);
+}
+
+static void check_day(const struct calls *calls, const struct vector *vector)
+{
+    enum { FIGURES = ASKED * MAREHOUR_DAY_FIGURES };
+    static const size_t rooms[] = {0, 1, MAREHOUR_DAY_FIGURES, FIGURES - 1, FIGURES, FIGURES + 1, FIGURES + 17, LONGEST_BUFFER / 8};
+    uint64_t own = vector->result == -MAREHOUR_LINE_MALFORMED ? 0 : own_demand(vector);
+    uint64_t demands[ASKED] = {own, UINT64_MAX, own};
+    for (int sides = 0; sides < 8; sides++) {
+        const uint8_t *line = lend(&line_fence, vector->line, vector->length, sides / 4 == 0 ? AT_START : AT_END);
+        const uint8_t *lent = lend(&demands_fence, demands, sizeof demands, sides / 2 % 2 == 0 ? AT_START : AT_END);
+        for (size_t i = 0; i < sizeof rooms / sizeof rooms[0]; i++) {
+            check_room(calls, vector, line, (const uint64_t *)(const void *)lent, ASKED, rooms[i], sides % 2 == 0 ? AT_START : AT_END);
+        }
+    }
+}
+
+/* Every count of demands, with every room from none to what they need and one number more. */
+static void check_counts(const struct calls *calls, const struct vector *vector)
+{
+    uint64_t demands[MORE_DEMANDS];
+    for (size_t i = 0; i < MORE_DEMANDS; i++) {
+        demands[i] = i % 3 == 1 ? GREATEST_DEMAND + i : own_demand(vector);
+    }
+    const uint8_t *line = lend(&line_fence, vector->line, vector->length, AT_END);
+    for (size_t count = 0; count <= MORE_DEMANDS; count++) {
+        const uint8_t *lent = lend(&demands_fence, demands, count * sizeof *demands, AT_END);
+        for (size_t room = 0; room <= MAREHOUR_DAY_FIGURES * count + 1; room++) {
+            check_room(calls, vector, line, (const uint64_t *)(const void *)lent, count, room, AT_END);
+        }
+    }
+}
+
+static void check_days(const struct calls *calls)
+{
+    check_counts(calls, &answers[0]);
+    for (size_t i = 0; i < answer_count; i++) {
+        check_day(calls, &answers[i]);
+    }
+}
+
 static void check_surveys(const struct calls *calls)
 {
     for (size_t i = 0; i < survey_count; i++) {
@@ -322,6 +422,7 @@ static void check_edges(const struct calls *calls)
 {
     const struct vector *first = &answers[0];
     uint8_t buffer[MAREHOUR_ANSWER_SIZE], line[128];
+    uint64_t demand = 1, numbers[MAREHOUR_DAY_FIGURES] = {0, 1, 2, 3, 4, 5, 6, 7, 8, 9, 10, 11};
     size_t length = first->length < sizeof line ? first->length : 0;
     memcpy(line, first->line, length);
     line[length] = '\n';
@@ -333,10 +434,18 @@ static void check_edges(const struct calls *calls)
     check(calls->lanes(line, length, 3, NULL, 0) == -17, "lanes: no buffer is not too short");
     check(calls->answer(NULL, 0, NULL, 0) == -17, "answer: no buffer does not come before no line");
     check(calls->lanes(NULL, 0, 9, NULL, 0) == -17, "lanes: no buffer does not come before no line");
+    check(calls->day(NULL, 0, &demand, 1, numbers, MAREHOUR_DAY_FIGURES) == -15, "day: no line is not malformed");
+    check(calls->day(line, length, NULL, 0, numbers, MAREHOUR_DAY_FIGURES) == -18, "day: no demand is not unfit");
+    check(calls->day(line, length, &demand, 1, NULL, 0) == -18, "day: no answers are not unfit");
+    check(calls->day(NULL, 0, NULL, 0, NULL, 0) == -18, "day: no demand does not come before no line");
+    check(calls->day(line, length + 1, &demand, 1, numbers, MAREHOUR_DAY_FIGURES) == -15, "day: a newline is not malformed");
     check(calls->answer(line, length + 1, buffer, sizeof buffer) == -15, "answer: a newline is not malformed");
     check(calls->lanes(line, length + 1, 3, buffer, sizeof buffer) == -15, "lanes: a newline is not malformed");
     for (size_t i = 0; i < sizeof buffer; i++) {
         check(buffer[i] == 0xA5, "a refusal changed byte %zu", i);
+    }
+    for (size_t i = 0; i < MAREHOUR_DAY_FIGURES; i++) {
+        check(numbers[i] == i, "a refusal changed number %zu", i);
     }
 }
 
@@ -373,6 +482,15 @@ static enum outcome outcome_at(uintptr_t address)
     }
     if (within(address, line_fence.start + line_fence.size, page_size)) {
         return DIED_PAST_THE_LINE;
+    }
+    if (within(address, demands_fence.start - page_size, page_size)) {
+        return DIED_BEFORE_THE_DEMANDS;
+    }
+    if (within(address, demands_fence.start, demands_fence.size)) {
+        return DIED_IN_THE_DEMANDS;
+    }
+    if (within(address, demands_fence.start + demands_fence.size, page_size)) {
+        return DIED_PAST_THE_DEMANDS;
     }
     if (within(address, buffer_fence.start - page_size, page_size)) {
         return DIED_BEFORE_THE_BUFFER;
@@ -415,6 +533,9 @@ static const char *name_of(enum outcome outcome)
         "died at the page before the line",
         "died at the page past the line",
         "died at a write into the line",
+        "died at the page before the demands",
+        "died at the page past the demands",
+        "died at a write into the demands",
         "died at the page before the buffer",
         "died at the page past the buffer",
         "died otherwise",
@@ -442,11 +563,17 @@ static int run_fault(const struct fault *fault, const char *set, void (*checks)(
 /* The library; adds the checks made. */
 static int run_library(long *made)
 {
-    static const struct calls library = {marehour_answer, marehour_lanes, marehour_survey_mph, marehour_survey_kmh};
+    static const struct calls library = {marehour_answer, marehour_lanes, marehour_day, marehour_survey_mph, marehour_survey_kmh};
     static const struct {
         const char *name;
         void (*checks)(const struct calls *);
-    } sets[] = {{"lines", check_answers}, {"lanes questions", check_lanes}, {"surveys", check_surveys}, {"edges", check_edges}};
+    } sets[] = {
+        {"lines", check_answers},
+        {"lanes questions", check_lanes},
+        {"days", check_days},
+        {"surveys", check_surveys},
+        {"edges", check_edges},
+    };
     int failures = 0;
     for (size_t i = 0; i < sizeof sets / sizeof sets[0]; i++) {
         failures += failed("the library", sets[i].name, outcome_in_child(sets[i].checks, &library), PASSED);
@@ -462,8 +589,12 @@ static int run_faults(int *run)
     for (size_t i = 0; i < fault_count; i++) {
         failures += run_fault(&faults[i], "lines", check_answers);
         failures += run_fault(&faults[i], "lanes questions", check_lanes);
+        failures += run_fault(&faults[i], "days", check_days);
     }
-    *run += 1 + 2 * (int)fault_count;
+    for (size_t i = 0; i < demand_fault_count; i++) {
+        failures += run_fault(&demand_faults[i], "days", check_days);
+    }
+    *run += 1 + 3 * (int)fault_count + (int)demand_fault_count;
     return failures;
 }
 
@@ -479,7 +610,7 @@ int main(void)
     if (failures == 0) {
         failures = run_faults(&run);
     }
-    printf("calls: %zu lines, %zu lanes questions, %zu surveys: %ld checks; %d wrong calls tried; %d failures\n", answer_count, lanes_count,
-           survey_count, made, run, failures);
+    printf("calls: %zu lines, each with its day, %zu lanes questions, %zu surveys: %ld checks; %d wrong calls tried; %d failures\n",
+           answer_count, lanes_count, survey_count, made, run, failures);
     return failures > 0;
 }

@@ -4,7 +4,7 @@
 #include <string.h>
 
 static const struct fault *active;
-static uint8_t content[MAREHOUR_ANSWER_SIZE]; /* of the buffer, before the call */
+static uint8_t content[MAREHOUR_DAY_DEMANDS * MAREHOUR_DAY_FIGURES * sizeof(uint64_t)]; /* of the buffer, before the call */
 
 static void read_byte(const uint8_t *byte)
 {
@@ -16,84 +16,99 @@ static void change_byte(uint8_t *byte)
     *(volatile uint8_t *)byte ^= 1;
 }
 
-static void nothing_before(const uint8_t *line, size_t line_length, uint8_t *answer, size_t answer_length)
+static size_t kept(const struct lent *lent)
 {
-    (void)line, (void)line_length, (void)answer, (void)answer_length;
+    return lent->answer_length < sizeof content ? lent->answer_length : sizeof content;
 }
 
-static int32_t nothing_after(int32_t result, uint8_t *answer, size_t answer_length)
+static void nothing_before(const struct lent *lent)
 {
-    (void)answer, (void)answer_length;
+    (void)lent;
+}
+
+static int32_t nothing_after(int32_t result, size_t written, const struct lent *lent)
+{
+    (void)written, (void)lent;
     return result;
 }
 
-static void read_before_line(const uint8_t *line, size_t line_length, uint8_t *answer, size_t answer_length)
+static void read_before_line(const struct lent *lent)
 {
-    (void)line_length, (void)answer, (void)answer_length;
-    read_byte(line - 1);
+    read_byte(lent->line - 1);
 }
 
-static void read_past_line(const uint8_t *line, size_t line_length, uint8_t *answer, size_t answer_length)
+static void read_past_line(const struct lent *lent)
 {
-    (void)answer, (void)answer_length;
-    read_byte(line + line_length);
+    read_byte(lent->line + lent->line_length);
 }
 
-static void write_line(const uint8_t *line, size_t line_length, uint8_t *answer, size_t answer_length)
+static void write_line(const struct lent *lent)
 {
-    (void)answer, (void)answer_length;
-    if (line_length > 0) {
-        change_byte((uint8_t *)line);
+    if (lent->line_length > 0) {
+        change_byte((uint8_t *)lent->line);
     }
 }
 
-static void write_before_buffer(const uint8_t *line, size_t line_length, uint8_t *answer, size_t answer_length)
+static void read_before_demands(const struct lent *lent)
 {
-    (void)line, (void)line_length, (void)answer_length;
-    change_byte(answer - 1);
+    read_byte(lent->demands - 1);
 }
 
-static void write_past_buffer(const uint8_t *line, size_t line_length, uint8_t *answer, size_t answer_length)
+static void read_past_demands(const struct lent *lent)
 {
-    (void)line, (void)line_length;
-    change_byte(answer + answer_length);
+    read_byte(lent->demands + lent->demands_length);
 }
 
-static int32_t write_and_refuse(int32_t result, uint8_t *answer, size_t answer_length)
+static void write_demands(const struct lent *lent)
 {
-    if (result < 0 && answer_length > 0) {
-        change_byte(answer);
+    if (lent->demands_length > 0) {
+        change_byte((uint8_t *)lent->demands);
+    }
+}
+
+static void write_before_buffer(const struct lent *lent)
+{
+    change_byte(lent->answer - 1);
+}
+
+static void write_past_buffer(const struct lent *lent)
+{
+    change_byte(lent->answer + lent->answer_length);
+}
+
+static int32_t write_and_refuse(int32_t result, size_t written, const struct lent *lent)
+{
+    (void)written;
+    if (result < 0 && lent->answer_length > 0) {
+        change_byte(lent->answer);
     }
     return result;
 }
 
-static int32_t write_past_count(int32_t result, uint8_t *answer, size_t answer_length)
+static int32_t write_past_count(int32_t result, size_t written, const struct lent *lent)
 {
-    if (result > 0 && (size_t)result < answer_length) {
-        change_byte(answer + result);
+    if (result > 0 && written < lent->answer_length) {
+        change_byte(lent->answer + written);
     }
     return result;
 }
 
-static int32_t count_one_more(int32_t result, uint8_t *answer, size_t answer_length)
+static int32_t count_one_more(int32_t result, size_t written, const struct lent *lent)
 {
-    (void)answer, (void)answer_length;
+    (void)written, (void)lent;
     return result > 0 ? result + 1 : result;
 }
 
-static void keep_content(const uint8_t *line, size_t line_length, uint8_t *answer, size_t answer_length)
+static void keep_content(const struct lent *lent)
 {
-    (void)line, (void)line_length;
-    if (answer_length >= sizeof content) {
-        memcpy(content, answer, sizeof content);
-    }
+    memcpy(content, lent->answer, kept(lent));
 }
 
-static int32_t write_nothing(int32_t result, uint8_t *answer, size_t answer_length)
+static int32_t write_nothing(int32_t result, size_t written, const struct lent *lent)
 {
-    (void)answer_length;
+    (void)written;
     if (result > 0) {
-        memcpy(answer, content, sizeof content);
+        memcpy(lent->answer, content, kept(lent));
     }
     return result;
 }
@@ -106,36 +121,70 @@ const struct fault faults[] = {
     {"writes a byte before the buffer", write_before_buffer, nothing_after, DIED_BEFORE_THE_BUFFER},
     {"writes a byte and refuses", nothing_before, write_and_refuse, DIFFERED},
     {"changes a byte past its count", nothing_before, write_past_count, DIFFERED},
-    {"counts a byte that it did not write", nothing_before, count_one_more, DIFFERED},
-    {"counts bytes and writes none", keep_content, write_nothing, DIFFERED},
+    {"counts one that it did not write", nothing_before, count_one_more, DIFFERED},
+    {"counts what it wrote and writes nothing", keep_content, write_nothing, DIFFERED},
 };
 const size_t fault_count = sizeof faults / sizeof faults[0];
+
+const struct fault demand_faults[] = {
+    {"reads a byte past the demands", read_past_demands, nothing_after, DIED_PAST_THE_DEMANDS},
+    {"reads a byte before the demands", read_before_demands, nothing_after, DIED_BEFORE_THE_DEMANDS},
+    {"writes into the demands", write_demands, nothing_after, DIED_IN_THE_DEMANDS},
+};
+const size_t demand_fault_count = sizeof demand_faults / sizeof demand_faults[0];
+
 const struct fault one_too_much = {"answers one too much", nothing_before, count_one_more, DIFFERED};
+
+/* How many bytes a call wrote, each of what it counts having so many. */
+static size_t bytes_written(int32_t result, size_t each)
+{
+    return result > 0 ? (size_t)result * each : 0;
+}
 
 static int32_t faulty_answer(const uint8_t *line, size_t line_length, uint8_t *answer, size_t answer_length)
 {
-    active->before(line, line_length, answer, answer_length);
-    return active->after(marehour_answer(line, line_length, answer, answer_length), answer, answer_length);
+    struct lent lent = {line, line_length, NULL, 0, answer, answer_length};
+    active->before(&lent);
+    int32_t result = marehour_answer(line, line_length, answer, answer_length);
+    return active->after(result, bytes_written(result, 1), &lent);
 }
 
 static int32_t faulty_lanes(const uint8_t *line, size_t line_length, uint32_t letter, uint8_t *answer, size_t answer_length)
 {
-    active->before(line, line_length, answer, answer_length);
-    return active->after(marehour_lanes(line, line_length, letter, answer, answer_length), answer, answer_length);
+    struct lent lent = {line, line_length, NULL, 0, answer, answer_length};
+    active->before(&lent);
+    int32_t result = marehour_lanes(line, line_length, letter, answer, answer_length);
+    return active->after(result, bytes_written(result, 1), &lent);
+}
+
+static int32_t faulty_day(const uint8_t *line, size_t line_length, const uint64_t *demands, size_t demand_count, uint64_t *answers,
+                          size_t answers_length)
+{
+    struct lent lent = {line,
+                        line_length,
+                        (const uint8_t *)demands,
+                        demand_count * sizeof *demands,
+                        (uint8_t *)answers,
+                        answers_length * sizeof *answers};
+    active->before(&lent);
+    int32_t result = marehour_day(line, line_length, demands, demand_count, answers, answers_length);
+    return active->after(result, bytes_written(result, MAREHOUR_DAY_FIGURES * sizeof *answers), &lent);
 }
 
 static int32_t faulty_survey_mph(float speed, uint32_t cars, uint32_t flow)
 {
-    return active->after(marehour_survey_mph(speed, cars, flow), NULL, 0);
+    struct lent none = {NULL, 0, NULL, 0, NULL, 0};
+    return active->after(marehour_survey_mph(speed, cars, flow), 0, &none);
 }
 
 static int32_t faulty_survey_kmh(float speed, uint32_t cars, uint32_t flow)
 {
-    return active->after(marehour_survey_kmh(speed, cars, flow), NULL, 0);
+    struct lent none = {NULL, 0, NULL, 0, NULL, 0};
+    return active->after(marehour_survey_kmh(speed, cars, flow), 0, &none);
 }
 
 struct calls faulty_calls(const struct fault *fault)
 {
     active = fault;
-    return (struct calls){faulty_answer, faulty_lanes, faulty_survey_mph, faulty_survey_kmh};
+    return (struct calls){faulty_answer, faulty_lanes, faulty_day, faulty_survey_mph, faulty_survey_kmh};
 }
