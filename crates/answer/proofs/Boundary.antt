@@ -2,7 +2,7 @@
 --   example-speeds, estimated-speeds   F of the printed case and of the one that 10 refuses, by the lanes
 --   example-accepted   the printed case is accepted
 --   volumes            its service volumes
---   example-figures    the printed line's eleven figures
+--   example-answer, example-figures   the printed line's answer: its number and its eleven figures; the figures
 --   none-at-99999      with V = 99,999 no count of the printed case meets C
 --   boundary-shown     each figure of the list is what is to be shown
 -- Assumes nothing.
@@ -96,8 +96,12 @@ answers-shown = (
   simp (estimated-speeds .0),
 )
 
+pub example-answer : answers.refusalNumber (answerTo example) ∷ answers.values (answerTo example)
+    ≡ 0 ∷ 3 ∷ 60783 ∷ 230783 ∷ 1196 ∷ 60783 ∷ 197 ∷ 1117 ∷ 1829 ∷ 2642 ∷ 3360 ∷ 3858 ∷ []
+example-answer = answers-shown .0
+
 pub example-figures : answers.values (answerTo example) ≡ 3 ∷ 60783 ∷ 230783 ∷ 1196 ∷ 60783 ∷ 197 ∷ 1117 ∷ 1829 ∷ 2642 ∷ 3360 ∷ 3858 ∷ []
-example-figures = ap (drop 1) (answers-shown .0)
+example-figures = ap (drop 1) example-answer
 
 -- the lanes of the printed case, with more demand, with a letter number past E, and of the case that 10 refuses
 lanes-shown : (refusalNumber (lanesAnswer example 3) ∷ values (lanesAnswer example 3) ≡ 0 ∷ 2 ∷ [])

@@ -4,9 +4,9 @@
 --   meets-refused, meets-only-accepted   a refused case meets no letter
 --   meets-demand         what the search tries at a demand is meeting the letter with that demand
 --   serviceVolume-eq     the service volume of an accepted case is the greatest demand that the search's test passes
---   serviceVolume-withDemand   it is the same whatever the case's own demand is
+--   serviceVolumes-withDemand   they are the same whatever the case's own demand is
 --   serviceVolume-iff    a demand meets a letter exactly when it is at most the service volume
---   volume-ready, serviceVolume-terms   the search for a service volume, from the terms of the case
+--   volume-ready, serviceVolumes-terms   the search for the service volumes, from the terms of the case
 -- Assumes nothing.
 use mathlib.Core.Path.{_≡_, refl, sym}
 use mathlib.Core.Bool.{Bool, false}
@@ -38,8 +38,8 @@ use Rattle.method.proofs.RefusalLaws.{accepted-fields, accepted-withDemand}
 use Rattle.method.proofs.CheckedLaws.{caseCurve-wellFormed}
 use Rattle.method.proofs.FlowLaws.{caseLoad-fits, flowRate-mono, flowRate-zero}
 use Rattle.method.proofs.AssessLaws.{case-ready, case-load}
-use Rattle.answer.specs.Volumes.{meets, serviceVolume}
-use Rattle.answer.specs.Search.{demandMeets}
+use Rattle.answer.specs.Volumes.{meets, serviceVolume, serviceVolumes}
+use Rattle.answer.specs.Search.{demandMeets, searchedVolumes}
 
 -- ---- what the search tries
 pub demandMeets-zero : (curve : Curve) (load : Load) (limit : ℕ) → WellFormed curve → 0 < load .divisor → T (demandMeets curve load limit 0)
@@ -72,9 +72,9 @@ meets-only-accepted case l t = eqb→eq (refusal case) 0
     (and-left (eqb (refusal case) 0) (leb (letterNumber (measures case .performance .letter)) l) t)
 
 -- ---- the service volume
-pub serviceVolume-withDemand : (case : Case) (demand l : ℕ) → serviceVolume (withDemand case demand) l ≡ serviceVolume case l
+pub serviceVolumes-withDemand : (case : Case) (demand : ℕ) → serviceVolumes (withDemand case demand) ≡ serviceVolumes case
 unfolding serviceVolume
-serviceVolume-withDemand case demand l = refl
+serviceVolumes-withDemand case demand = refl
 
 module _ (case : Case) (l : ℕ) (a : Accepted case) (h : 1 ≤ l) (k : l ≤ 5) where
   -- what the search tries
@@ -106,7 +106,17 @@ module _ (case : Case) (terms : CaseTerms) (table : List ℕ) (r : CaseReady cas
   pub volume-ready : Ready (terms .«curve_terms») table × LoadFits (terms .load)
   volume-ready = (case-ready case terms table r, case-load case terms table r)
 
-  pub serviceVolume-terms : (l : ℕ) → 1 ≤ l → l ≤ 5
+  serviceVolume-terms : (l : ℕ) → 1 ≤ l → l ≤ 5
       → greatest (demandMeets (terms .«curve_terms» .curve) (terms .load) (densityLimit l)) greatestDemand ≡ serviceVolume case l
   unfolding curveTerms
   serviceVolume-terms l h k = rw (r .own-terms) (sym (serviceVolume-eq case l (r .accepted) h k))
+
+  pub serviceVolumes-terms : searchedVolumes terms ≡ serviceVolumes case
+  serviceVolumes-terms =
+      simp (
+        serviceVolume-terms 1 (omega arith) (omega arith),
+        serviceVolume-terms 2 (omega arith) (omega arith),
+        serviceVolume-terms 3 (omega arith) (omega arith),
+        serviceVolume-terms 4 (omega arith) (omega arith),
+        serviceVolume-terms 5 (omega arith) (omega arith),
+      )

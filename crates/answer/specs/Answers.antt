@@ -1,5 +1,6 @@
 -- The answer to a case (document 01, "Lines": letter, F, c, v, speed, density, service volumes A to E).
---   graded case        the eleven figures of a case
+--   gradeOf m volumes  the grade of what a case gets and its service volumes
+--   graded case        the grade of a case
 --   answerTo case      its grade, or the number of the first of 1 to 10 that refuses it
 --   refusalNumber a    the number of the refusal, 0 where there is none
 --   values a           the eleven figures as a list, the letter by its number; of a refusal no value
@@ -10,27 +11,32 @@ use Rattle.checks.specs.Refusals.{unlessRefused}
 use Rattle.road.specs.declared.Case.{Case}
 use Rattle.method.specs.Refusals.{refusal}
 use Rattle.curve.specs.Service.{letterNumber}
+use Rattle.method.specs.declared.assess.Measures.{Measures}
 use Rattle.method.specs.Assess.{measures}
+use Rattle.answer.specs.declared.evaluate.Volumes.{Volumes}
 use Rattle.answer.specs.declared.evaluate.Grade.{Grade}
 use Rattle.answer.specs.declared.evaluate.Answer.{Answer}
 use Rattle.answer.specs.declared.evaluate.Answer.the-variants as Answer
-use Rattle.answer.specs.Volumes.{serviceVolume}
+use Rattle.answer.specs.Volumes.{serviceVolumes}
+
+abbrev pub gradeOf : Measures → Volumes → Grade
+gradeOf measures volumes =
+    record {
+      letter = measures .performance .letter;
+      «free_flow_speed» = measures .curve .«free_flow_speed»;
+      capacity = measures .curve .capacity;
+      «flow_rate» = measures .«flow_rate»;
+      speed = measures .performance .speed;
+      density = measures .performance .density;
+      «volume_a» = volumes .a;
+      «volume_b» = volumes .b;
+      «volume_c» = volumes .c;
+      «volume_d» = volumes .d;
+      «volume_e» = volumes .e;
+    }
 
 unfoldable pub graded : Case → Grade
-graded case =
-    record {
-      letter = measures case .performance .letter;
-      «free_flow_speed» = measures case .curve .«free_flow_speed»;
-      capacity = measures case .curve .capacity;
-      «flow_rate» = measures case .«flow_rate»;
-      speed = measures case .performance .speed;
-      density = measures case .performance .density;
-      «volume_a» = serviceVolume case 1;
-      «volume_b» = serviceVolume case 2;
-      «volume_c» = serviceVolume case 3;
-      «volume_d» = serviceVolume case 4;
-      «volume_e» = serviceVolume case 5;
-    }
+graded case = gradeOf (measures case) (serviceVolumes case)
 
 abbrev pub answerTo : Case → Answer
 answerTo case = unlessRefused (refusal case) (Answer.Graded (graded case)) Answer.Refused

@@ -1,8 +1,11 @@
 // The answer to a case.
-//   Grade         letter, F, c, v, speed, density and the service volumes A to E
-//   Answer        a grade or a refusal
-//   graded_with   the grade of an accepted case, from its terms
-//   evaluate      for any case at all
+//   Volumes        the service volumes A to E
+//   Grade          letter, F, c, v, speed, density and the service volumes
+//   Answer         a grade or a refusal
+//   volumes_with   the service volumes, from the terms of an accepted case
+//   grade_of       the grade of what a case gets and its service volumes
+//   grade_values   its eleven figures, the letter by its number
+//   evaluate       for any case at all
 use curve::Curve;
 use curve::kind::Kind;
 use curve::service;
@@ -10,6 +13,7 @@ use curve::service::Letter;
 use curve::speed::CurveTerms;
 use method::assess;
 use method::assess::CaseTerms;
+use method::assess::Measures;
 use method::checked;
 use method::checked::Checked;
 use method::flow;
@@ -25,8 +29,17 @@ ghost use Rattle.method.specs.declared.checked.Checked.the-variants as Checked;
 ghost use Rattle.method.specs.Checked.{checked};
 ghost use Rattle.method.specs.Flow.{LoadFits};
 ghost use Rattle.method.specs.Assess.{CaseReady};
-ghost use Rattle.answer.specs.Search.{demandMeets, Trying};
-ghost use Rattle.answer.specs.Answers.{graded, answerTo};
+ghost use Rattle.answer.specs.declared.evaluate.Answer.the-variants.{Graded};
+ghost use Rattle.answer.specs.Search.{demandMeets, searchedVolumes, Trying};
+ghost use Rattle.answer.specs.Answers.{gradeOf, graded, answerTo, values};
+
+pub struct Volumes {
+    pub a: u64,
+    pub b: u64,
+    pub c: u64,
+    pub d: u64,
+    pub e: u64,
+}
 
 pub struct Grade {
     pub letter: Letter,
@@ -87,14 +100,25 @@ fn service_volume(terms: CurveTerms, table: &[u32], load: Load, letter: u64) -> 
     )
 }
 
-// From the case's terms and the table of powers that its kind reads.
-pub fn graded_with(case: Case, terms: CaseTerms, table: &[u32]) -> Grade
-    requires { ⌜ CaseReady case terms (now table) ⌝ }
-    ensures { λ r. ⌜ r ≡ graded case ⌝ }
+// With the table of powers that the kind reads.
+pub fn volumes_with(terms: CaseTerms, table: &[u32]) -> Volumes
+    requires { ⌜ Ready (terms .«curve_terms») (now table) × LoadFits (terms .load) ⌝ }
+    ensures { λ r. ⌜ r ≡ searchedVolumes terms ⌝ }
 {
-    let measures = assess::measures_with(case, terms, table);
     let load = terms.load;
     let curve_terms = terms.curve_terms;
+    Volumes {
+        a: service_volume(curve_terms, table, load, 1),
+        b: service_volume(curve_terms, table, load, 2),
+        c: service_volume(curve_terms, table, load, 3),
+        d: service_volume(curve_terms, table, load, 4),
+        e: service_volume(curve_terms, table, load, 5),
+    }
+}
+
+pub fn grade_of(measures: Measures, volumes: Volumes) -> Grade
+    ensures { λ r. ⌜ r ≡ gradeOf measures volumes ⌝ }
+{
     let curve = measures.curve;
     let performance = measures.performance;
     let letter = performance.letter;
@@ -105,12 +129,41 @@ pub fn graded_with(case: Case, terms: CaseTerms, table: &[u32]) -> Grade
         flow_rate: measures.flow_rate,
         speed: performance.speed,
         density: performance.density,
-        volume_a: service_volume(curve_terms, table, load, 1),
-        volume_b: service_volume(curve_terms, table, load, 2),
-        volume_c: service_volume(curve_terms, table, load, 3),
-        volume_d: service_volume(curve_terms, table, load, 4),
-        volume_e: service_volume(curve_terms, table, load, 5),
+        volume_a: volumes.a,
+        volume_b: volumes.b,
+        volume_c: volumes.c,
+        volume_d: volumes.d,
+        volume_e: volumes.e,
     }
+}
+
+pub fn grade_values(grade: Grade) -> [u64; 11]
+    ensures { λ r. ⌜ r ≡ values (Graded grade) ⌝ }
+{
+    let letter = grade.letter;
+    [
+        service::letter_number(letter),
+        grade.free_flow_speed,
+        grade.capacity,
+        grade.flow_rate,
+        grade.speed,
+        grade.density,
+        grade.volume_a,
+        grade.volume_b,
+        grade.volume_c,
+        grade.volume_d,
+        grade.volume_e,
+    ]
+}
+
+fn graded_with(case: Case, terms: CaseTerms, table: &[u32]) -> Grade
+    requires { ⌜ CaseReady case terms (now table) ⌝ }
+    ensures { λ r. ⌜ r ≡ graded case ⌝ }
+{
+    grade_of(
+        assess::measures_with(case, terms, table),
+        volumes_with(terms, table),
+    )
 }
 
 // The terms of the case are worked out, and the table of powers is made where the kind reads it, once a case.

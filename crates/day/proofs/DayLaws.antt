@@ -4,23 +4,24 @@
 --   dayFigures-next, dayFigures-at   those of one demand more; those of one of the demands
 --   dayFigures-count              as many answers as demands
 --   lent-number                   18 is all that refuses what is lent
+--   lent-passed                   no number is none
 --   lent-room                     where 18 does not refuse there is room for every answer
 --   day-refused, day-answered     the answer and the lent numbers where 18 refuses, and where it does not
 --   next-room, next-answer        a turn of put_answers: there is room for one answer more; it is written
 -- Assumes nothing.
-use mathlib.Core.Path.{_≡_, refl, sym, ap, _∙_}
-use mathlib.Core.List.{List, [], _∷_, _++_, flatMap, append-assoc, append-nil}
-use Prim.Native.Nat.{ℕ, suc, _+_, _*_, _/_, _≤_, _<_}
-use native.Mathlib.Numerals.{add-one}
+use mathlib.Core.Path.{_≡_, refl, sym}
+use mathlib.Core.List.{List, _++_}
+use Prim.Native.Nat.{ℕ, _+_, _*_, _/_, _≤_, _<_}
 use native.Mathlib.Omega.{arith}
 use borrow.Author.Tests.{ltb-false}
 use lib.Dec.{ltb}
-use lib.ListN.{length, take, drop, getD, length-append}
-use lib.Seq.{take-suc, length-take-le, split-at, drop-at, take-at}
+use lib.ListN.{length, take, drop, getD}
+use lib.Seq.{length-take-le}
 use Rattle.numbers.proofs.BoolLaws.{or-false}
+use Rattle.numbers.proofs.RowsLaws.{rows-next, rows-length, rows-at}
 use Rattle.checks.specs.Refusals.{firstRefusal, outside}
 use Rattle.checks.proofs.RefusalLaws.{none-met, firstRefusal-le, firstRefusal-ge, unlessRefused-none, unlessRefused-some}
-use Rattle.text.specs.Buffer.{written, Wrote}
+use Rattle.text.specs.Buffer.{Wrote}
 use Rattle.text.proofs.BufferLaws.{then}
 use Rattle.road.specs.declared.Case.{Case}
 use Rattle.road.specs.Cases.{withDemand}
@@ -28,7 +29,8 @@ use Rattle.answer.specs.declared.evaluate.Answer.{Answer}
 use Rattle.answer.specs.declared.evaluate.Answer.the-variants as Answer
 use Rattle.answer.specs.Answers.{answerTo}
 use Rattle.day.specs.declared.DayAnswer.the-variants as DayAnswer
-use Rattle.day.specs.Days.{mostDemands, figureCount, answerFigures, dayFigures, lentRefusals, LentFits, dayAnswer, dayContent}
+use Rattle.day.specs.Days.{mostDemands, figureCount, answerFigures, dayFigures, dayWritten, lentUnfit, lentRefusals, LentFits}
+use Rattle.day.specs.Days.{dayAnswer, dayContent}
 
 pub answerFigures-length : (a : Answer) → length (answerFigures a) ≡ figureCount
 answerFigures-length (Answer.Graded g) = refl
@@ -39,8 +41,11 @@ unfolding lentRefusals
 lent-number n room number e p =
     omega (arith, firstRefusal-le 18 (lentRefusals n room) tt, firstRefusal-ge 18 (lentRefusals n room) tt (rw e at p))
 
+pub lent-passed : (n room number : ℕ) → number ≡ firstRefusal (lentRefusals n room) → number ≤ 0 → LentFits n room
+lent-passed n room number e h = omega arith
+
 pub lent-room : (n room : ℕ) → LentFits n room → figureCount * n ≤ room
-unfolding lentRefusals
+unfolding lentUnfit lentRefusals
 lent-room n room z =
     let none = or-false (outside 1 mostDemands n) (ltb (room / figureCount) n) (none-met (lentRefusals n room) tt z .0) in
     let enough : n ≤ room / figureCount = ltb-false (room / figureCount) n (none .1) in
@@ -52,52 +57,19 @@ module _ (case : Case) (demands old : List ℕ) where
   unfolding dayContent
   day-refused n e p = rw (sym e) (
     sym (unlessRefused-some n (DayAnswer.Answered (length demands)) DayAnswer.Refused p),
-    sym (unlessRefused-some n (written (dayFigures case demands) 0 old) (λ number. old) p),
+    sym (unlessRefused-some n (dayWritten case demands old) (λ number. old) p),
   )
 
   pub day-answered : LentFits (length demands) (length old)
       → (DayAnswer.Answered (length demands) ≡ dayAnswer (length demands) (length old))
-      × (written (dayFigures case demands) 0 old ≡ dayContent case demands old)
+      × (dayWritten case demands old ≡ dayContent case demands old)
   unfolding dayContent
   day-answered z = (
     sym (unlessRefused-none _ (DayAnswer.Answered (length demands)) DayAnswer.Refused z),
-    sym (unlessRefused-none _ (written (dayFigures case demands) 0 old) (λ number. old) z),
+    sym (unlessRefused-none _ (dayWritten case demands old) (λ number. old) z),
   )
 
--- ---- one row of numbers for each demand, whatever the rows are
-module _ (row : ℕ → List ℕ) where
-  rows-append : (ds es : List ℕ) → flatMap row (ds ++ es) ≡ flatMap row ds ++ flatMap row es
-  unfolding flatMap
-  rows-append [] es = refl
-  rows-append (d ∷ ds) es = ap (λ l. row d ++ l) (rows-append ds es) ∙ sym (append-assoc (row d) (flatMap row ds) (flatMap row es))
-
-  rows-next : (ds : List ℕ) (i : ℕ) → i < length ds → flatMap row (take (i + 1) ds) ≡ flatMap row (take i ds) ++ row (getD ds i 0)
-  unfolding flatMap
-  rows-next ds i h = rw (add-one i, take-suc ds i 0 h, rows-append (take i ds) (getD ds i 0 ∷ []), append-nil)
-
-  rows-length : (width : ℕ) → ((d : ℕ) → length (row d) ≡ width) → (ds : List ℕ) → length (flatMap row ds) ≡ width * length ds
-  unfolding flatMap
-  rows-length width long [] = omega arith
-  rows-length width long (d ∷ ds) = omega (arith, length-append (row d) (flatMap row ds), long d, rows-length width long ds)
-
-  rows-at : (width : ℕ) → ((d : ℕ) → length (row d) ≡ width) → (ds rest : List ℕ) (i : ℕ) → i < length ds
-      → take width (drop (width * i) (flatMap row ds ++ rest)) ≡ row (getD ds i 0)
-  unfolding flatMap
-  rows-at width long ds rest i h =
-      let front : List ℕ = flatMap row (take i ds) in
-      let own : List ℕ = row (getD ds i 0) in
-      let behind : List ℕ = flatMap row (drop (suc i) ds) in
-      let parts : flatMap row ds ++ rest ≡ front ++ (own ++ (behind ++ rest)) =
-      ap (λ l. flatMap row l ++ rest) (split-at ds i 0 h)
-      ∙ ap (λ l. l ++ rest) (rows-append (take i ds) (getD ds i 0 ∷ drop (suc i) ds))
-      ∙ append-assoc front (own ++ behind) rest
-      ∙ ap (λ l. front ++ l) (append-assoc own behind rest) in
-      ap (λ l. take width (drop (width * i) l)) parts
-      ∙ ap (take width)
-      (drop-at front (own ++ (behind ++ rest)) (width * i)
-      (rows-length width long (take i ds) ∙ ap (λ n. width * n) (length-take-le i ds (omega arith))))
-      ∙ take-at own (behind ++ rest) width (long (getD ds i 0))
-
+-- ---- the answers one after the other
 pub dayFigures-length : (case : Case) (demands : List ℕ) → length (dayFigures case demands) ≡ figureCount * length demands
 unfolding dayFigures
 dayFigures-length case demands = rows-length _ figureCount (λ d. answerFigures-length (answerTo (withDemand case d))) demands
@@ -110,18 +82,25 @@ module _ (case : Case) (demands : List ℕ) where
       → take figureCount (drop (figureCount * i) (dayFigures case demands ++ rest))
       ≡ answerFigures (answerTo (withDemand case (getD demands i 0)))
   unfolding dayFigures
-  dayFigures-at rest i h = rows-at _ figureCount (λ d. answerFigures-length (answerTo (withDemand case d))) demands rest i h
+  dayFigures-at rest i h = rows-at _ figureCount (λ d. answerFigures-length (answerTo (withDemand case d))) demands rest i 0 h
 
   pub dayFigures-next : (i : ℕ) → i < length demands
       → dayFigures case (take (i + 1) demands)
       ≡ dayFigures case (take i demands) ++ answerFigures (answerTo (withDemand case (getD demands i 0)))
   unfolding dayFigures
-  dayFigures-next i h = rows-next _ demands i h
+  dayFigures-next i h = rows-next _ demands i 0 h
 
-  module _ {old out : List ℕ} {at : ℕ} (i : ℕ) (h : i < length demands) (room : figureCount * length demands ≤ length old)
+  module _ {old out : List ℕ} {at : ℕ} (i : ℕ) (h : i < length demands) (fits : LentFits (length demands) (length old))
       (w : Wrote (dayFigures case (take i demands)) 0 old out at) where
     pub next-room : at + figureCount ≤ length old
-    next-room = omega (arith, w .ends, dayFigures-length case (take i demands), length-take-le i demands (omega arith))
+    next-room =
+        omega (
+          arith,
+          lent-room (length demands) (length old) fits,
+          w .ends,
+          dayFigures-length case (take i demands),
+          length-take-le i demands (omega arith),
+        )
 
     pub next-answer : {new : List ℕ} {e : ℕ}
         → Wrote (answerFigures (answerTo (withDemand case (getD demands i 0)))) at out new e

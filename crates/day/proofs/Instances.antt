@@ -1,9 +1,10 @@
 -- Instances of a day (specs/Instances), shown.
---   instances-shown   each is what is to be shown
+--   example-day       the printed road's day
+--   instances-shown   each instance is what is to be shown
 -- Assumes nothing.
 use mathlib.Core.Path.{_≡_, refl, ap, _∙_}
-use mathlib.Core.List.{List, [], _∷_, _++_, flatMap}
-use lib.ListN.{drop, replicate}
+use mathlib.Core.List.{[], _∷_, flatMap}
+use lib.ListN.{drop, getD, replicate}
 use Rattle.numbers.specs.Division.{divUp}
 use Rattle.checks.specs.Figures.{Shown}
 use Rattle.curve.specs.Curves.{capacity, breakpoint, curveAt}
@@ -18,35 +19,48 @@ use Rattle.method.specs.Flow.{heavyFactor, flowRate}
 use Rattle.method.specs.Assess.{measures}
 use Rattle.method.specs.Boundary.{example}
 use Rattle.answer.specs.Answers.{graded, answerTo}
-use Rattle.answer.proofs.VolumeLaws.{serviceVolume-withDemand}
-use Rattle.answer.proofs.Boundary.{example-speeds, volumes}
-use Rattle.day.specs.Days.{answerFigures, dayFigures, lentRefusals, dayContent}
-use Rattle.day.specs.Instances.{refusedFigures, road249, road54999, roadOneLane, dayInstances}
+use Rattle.answer.proofs.VolumeLaws.{serviceVolumes-withDemand}
+use Rattle.answer.proofs.Boundary.{example-speeds, example-answer, volumes}
+use Rattle.day.specs.Days.{figuresOf, answerFigures, dayFigures, lentUnfit, lentRefusals, dayContent}
+use Rattle.day.specs.Instances.{at2000, at2643, exampleDemands, exampleDay, refusedBy8, refusedBy10, refusedBy6, dayInstances}
 use Rattle.day.proofs.Promises.{day-is-the-single-calls}
 
--- the printed road with 2,000 and with 2,643
-example-shown : (answerFigures (answerTo (withDemand example 2000))
-    ≡ 0 ∷ 3 ∷ 60783 ∷ 230783 ∷ 1196 ∷ 60783 ∷ 197 ∷ 1117 ∷ 1829 ∷ 2642 ∷ 3360 ∷ 3858 ∷ [])
-    × (answerFigures (answerTo (withDemand example 2643))
-    ≡ 0 ∷ 4 ∷ 60783 ∷ 230783 ∷ 1581 ∷ 60780 ∷ 261 ∷ 1117 ∷ 1829 ∷ 2642 ∷ 3360 ∷ 3858 ∷ [])
+shown-2000 : answerFigures (answerTo (withDemand example 2000)) ≡ at2000
+shown-2000 = ap (λ l. figuresOf (getD l 0 0) (drop 1 l)) example-answer
+
+shown-2643 : answerFigures (answerTo (withDemand example 2643)) ≡ at2643
 unfolding divUp roadRefusals loadRefusals fieldRefusals speedRefusals refusals capacity breakpoint curveAt curveOf heavyFactor flowRate
     fallShareBy speed shownSpeed density shownDensity densityLimit densityLetter letterAt performance measures graded
-example-shown =
-    let v = volumes in (
-      simp (example-speeds .0, serviceVolume-withDemand, v .0, v .1, v .2, v .3, v .4),
-      simp (example-speeds .0, serviceVolume-withDemand, v .0, v .1, v .2, v .3, v .4),
+shown-2643 =
+    let same = serviceVolumes-withDemand example 2643 in
+    let v = volumes in
+    simp (
+      example-speeds .0,
+      ap (λ x. x .a) same ∙ v .0,
+      ap (λ x. x .b) same ∙ v .1,
+      ap (λ x. x .c) same ∙ v .2,
+      ap (λ x. x .d) same ∙ v .3,
+      ap (λ x. x .e) same ∙ v .4,
     )
 
+pub example-day : dayContent example exampleDemands (replicate 38 9) ≡ exampleDay
+unfolding flatMap roadRefusals loadRefusals fieldRefusals refusals lentUnfit lentRefusals dayFigures
+example-day = day-is-the-single-calls example exampleDemands (replicate 38 9) refl ∙ rw (shown-2000, shown-2643)
+
 pub instances-shown : Shown dayInstances
-unfolding flatMap uncappedBy freeFlowSpeed roadRefusals loadRefusals fieldRefusals speedRefusals refusals lentRefusals dayFigures dayInstances
+unfolding flatMap uncappedBy freeFlowSpeed roadRefusals loadRefusals fieldRefusals speedRefusals refusals lentUnfit lentRefusals dayFigures
+    dayContent dayInstances
 instances-shown =
     let day = day-is-the-single-calls in (
-      day example (2000 ∷ 100000 ∷ 2643 ∷ []) (replicate 38 9) refl ∙ rw (example-shown .0, example-shown .1),
+      example-day,
       (
-        day road249 (100000 ∷ 5 ∷ []) (replicate 24 9) refl,
+        refl,
         (
-          day road54999 (100000 ∷ 5 ∷ 100000 ∷ []) (replicate 36 9) refl,
-          (day roadOneLane (100000 ∷ 5 ∷ []) (replicate 24 9) refl, (refl, (refl, (refl, (refl, (refl, (refl, tt))))))),
+          day refusedBy8 (1000000 ∷ 5 ∷ []) (replicate 24 9) refl,
+          (
+            day refusedBy10 (1000000 ∷ 5 ∷ 1000000 ∷ []) (replicate 36 9) refl,
+            (day refusedBy6 (1000000 ∷ 5 ∷ []) (replicate 24 9) refl, (refl, (refl, (refl, (refl, (refl, (refl, tt))))))),
+          ),
         ),
       ),
     )

@@ -1,30 +1,37 @@
 -- What a reader of the lent answers is promised (specs/Promises), proved.
---   day-is-the-single-calls, position-holds-the-answer, figures-tell-the-answer, past-the-demands-kept
---   refused-day-changes-nothing, lent-fits-exactly
+--   day-is-the-single-calls, position-holds-the-answer, figures-tell-the-answer, position-numbers, no-better-with-more-demand
+--   past-the-demands-kept, refused-day-changes-nothing, lent-fits-exactly
 -- Assumes nothing.
 use mathlib.Core.Path.{_≡_, refl, sym, ap, _∙_}
 use mathlib.Core.Logic.{⊎-elim}
 use mathlib.Core.Bool.{cond}
 use mathlib.Core.List.{List, _++_}
-use Prim.Native.Nat.{ℕ, _*_, _/_, _<_}
+use Prim.Native.Nat.{ℕ, _*_, _/_, _≤_, _<_, min}
 use native.Mathlib.Nat.{zero-add, eq-zero-or-pos}
 use native.Mathlib.Omega.{arith}
+use native.Mathlib.Decide.{decLe}
 use borrow.Author.Tests.{le-ltb, ne-eqb}
 use lib.Dec.{ltb, eqb}
 use lib.ListN.{length, drop, getD, length-append, length-drop}
 use lib.Seq.{drop-at}
 use Rattle.numbers.proofs.BoolLaws.{or-false}
-use Rattle.checks.specs.Refusals.{firstRefusal, outside}
-use Rattle.checks.proofs.RefusalLaws.{none-met, none-of, within, inside}
+use Rattle.checks.specs.Refusals.{firstRefusal, unlessRefused, outside}
+use Rattle.checks.proofs.RefusalLaws.{none-met, none-of, within, inside, unlessRefused-some}
 use Rattle.text.specs.Buffer.{written}
 use Rattle.curve.specs.declared.service.Letter.{Letter}
 use Rattle.curve.specs.declared.service.Letter.the-variants as Letter
 use Rattle.curve.specs.Service.{letterNumber}
+use Rattle.road.specs.Cases.{withDemand}
+use Rattle.road.specs.Refusals.{greatestDemand}
+use Rattle.method.specs.Refusals.{refusal}
+use Rattle.method.proofs.RefusalLaws.{refusal-within, refusal-above, accepted-withDemand}
 use Rattle.answer.specs.declared.evaluate.Answer.{Answer}
 use Rattle.answer.specs.declared.evaluate.Answer.the-variants as Answer
-use Rattle.day.specs.Days.{mostDemands, figureCount, answerFigures, dayFigures, lentRefusals, LentFits}
+use Rattle.answer.proofs.AnswerLaws.{answerTo-number}
+use Rattle.answer.proofs.Promises.{no-better-under-more-load}
+use Rattle.day.specs.Days.{mostDemands, figureCount, answerFigures, dayFigures, lentUnfit, lentRefusals, LentFits}
 use Rattle.day.specs.Promises.{position, DayIsTheSingleCalls, PositionHoldsTheAnswer, FiguresTellTheAnswer, PastTheDemandsKept}
-use Rattle.day.specs.Promises.{RefusedDayChangesNothing, LentFitsExactly}
+use Rattle.day.specs.Promises.{roadNumber, PositionNumbers, NoBetterWithMoreDemand, RefusedDayChangesNothing, LentFitsExactly}
 use Rattle.day.proofs.DayLaws.{dayFigures-length, dayFigures-at, lent-room, day-refused, day-answered}
 
 pub day-is-the-single-calls : DayIsTheSingleCalls
@@ -79,6 +86,31 @@ answerOf-figures (Answer.Refused n) = refl
 pub figures-tell-the-answer : FiguresTellTheAnswer
 figures-tell-the-answer a b e = sym (answerOf-figures a) ∙ ap answerOf e ∙ answerOf-figures b
 
+-- ---- the number and the letter in a position
+pub position-numbers : PositionNumbers
+position-numbers case demand =
+    let asked = withDemand case demand in
+    let number = answerTo-number asked in (
+      λ h. number ∙ refusal-within asked h,
+      λ h k. number ∙ refusal-above asked h ∙ ⊎-elim (λ e. rw e) (λ p. later p) k,
+      λ p k. number ∙ either (decLe demand greatestDemand) p k,
+    )
+  where
+    later : 7 < roadNumber case → unlessRefused (roadNumber case) 7 (λ n. min n 7) ≡ 7
+    later p = unlessRefused-some (roadNumber case) 7 (λ n. min n 7) (omega arith) ∙ omega arith
+
+    earlier : 1 ≤ roadNumber case → roadNumber case ≤ 6 → unlessRefused (roadNumber case) 7 (λ n. min n 7) ≡ roadNumber case
+    earlier p k = unlessRefused-some (roadNumber case) 7 (λ n. min n 7) (omega arith) ∙ omega arith
+
+    either : Dec (demand ≤ greatestDemand) → 1 ≤ roadNumber case → roadNumber case ≤ 6 → refusal (withDemand case demand) ≡ roadNumber case
+    either (yes h) p k = refusal-within (withDemand case demand) h
+    either (no h) p k = refusal-above (withDemand case demand) (omega arith) ∙ earlier p k
+
+pub no-better-with-more-demand : NoBetterWithMoreDemand
+no-better-with-more-demand case a less more h k =
+    no-better-under-more-load (withDemand case less) (withDemand case more) (accepted-withDemand (withDemand case 0) less a (omega arith))
+    (accepted-withDemand (withDemand case 0) more a k) refl h (omega arith) (omega arith) (omega arith) (omega arith)
+
 -- ---- what is not written
 -- 18 refuses or does not
 by-lent : (P : Type 0) (n room : ℕ) → (LentFits n room → P) → (0 < firstRefusal (lentRefusals n room) → P) → P
@@ -100,7 +132,7 @@ refused-day-changes-nothing case demands old unfit =
     by-lent _ (length demands) (length old) (λ z. absurd (unfit z)) (λ p. sym (day-refused case demands old _ refl p .1))
 
 pub lent-fits-exactly : LentFitsExactly
-unfolding lentRefusals
+unfolding lentUnfit lentRefusals
 lent-fits-exactly n room = (
   λ z. let ends = within 1 mostDemands n (or-false (outside 1 mostDemands n) (ltb (room / figureCount) n)
       (none-met (lentRefusals n room) tt z .0) .0) in

@@ -4,7 +4,9 @@
 --   figuresOf n vs                the numbers of an answer with number n and values vs
 --   answerFigures a               the numbers of an answer
 --   dayFigures case demands       those of the answers to the case with each demand, in order
---   lentRefusals n room           18, of n demands and room for so many numbers
+--   dayWritten case demands old   numbers that were old, with these from the start on
+--   lentUnfit n room              n demands and room for so many numbers that 18 refuses
+--   lentRefusals n room           18
 --   LentFits n room               18 does not refuse them
 --   dayAnswer n room              how many answers are written, or the refusal's number
 --   dayContent case demands old   what the lent numbers are afterwards, if they were old
@@ -13,7 +15,7 @@
 -- Assumes nothing.
 use Prim.Native.Nat.{ℕ, _/_}
 use mathlib.Core.Path.{_≡_}
-use mathlib.Core.Bool.{_||_}
+use mathlib.Core.Bool.{Bool, _||_}
 use mathlib.Core.List.{List, [], _∷_, flatMap}
 use lib.Dec.{ltb}
 use lib.ListN.{length, replicate}
@@ -48,9 +50,16 @@ answerFigures a = figuresOf (answers.refusalNumber a) (answers.values a)
 unfoldable pub dayFigures : Case → List ℕ → List ℕ
 dayFigures case demands = flatMap (λ demand. answerFigures (answerTo (withDemand case demand))) demands
 
--- "18, no demand or more than 24, or answers fewer than demands"
+-- "Answers past the demands keep their content"
+abbrev pub dayWritten : Case → List ℕ → List ℕ → List ℕ
+dayWritten case demands old = written (dayFigures case demands) 0 old
+
+-- "no demand or more than 24, or answers fewer than demands"
+unfoldable pub lentUnfit : ℕ → ℕ → Bool
+lentUnfit n room = outside 1 mostDemands n || ltb (room / figureCount) n
+
 unfoldable pub lentRefusals : ℕ → ℕ → List Refusal
-lentRefusals n room = refuses 18 (outside 1 mostDemands n || ltb (room / figureCount) n) ∷ []
+lentRefusals n room = refuses 18 (lentUnfit n room) ∷ []
 
 abbrev pub LentFits : ℕ → ℕ → Type 0
 LentFits n room = firstRefusal (lentRefusals n room) ≡ 0
@@ -58,10 +67,10 @@ LentFits n room = firstRefusal (lentRefusals n room) ≡ 0
 abbrev pub dayAnswer : ℕ → ℕ → DayAnswer
 dayAnswer n room = unlessRefused (firstRefusal (lentRefusals n room)) (DayAnswer.Answered n) DayAnswer.Refused
 
--- "Answers past the demands keep their content"; a refusal changes no number
+-- a refusal changes no number
 unfoldable pub dayContent : Case → List ℕ → List ℕ → List ℕ
 dayContent case demands old =
-    unlessRefused (firstRefusal (lentRefusals (length demands) (length old))) (written (dayFigures case demands) 0 old) (λ number. old)
+    unlessRefused (firstRefusal (lentRefusals (length demands) (length old))) (dayWritten case demands old) (λ number. old)
 
 abbrev pub refusalNumber : DayAnswer → ℕ
 refusalNumber (DayAnswer.Answered n) = 0

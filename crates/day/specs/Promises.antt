@@ -5,19 +5,26 @@
 --                                stood there
 --   PositionHoldsTheAnswer       position i holds what the single call answers with demand i
 --   FiguresTellTheAnswer         twelve numbers are those of one answer only
+--   roadNumber case              what refuses the case with no demand, 0 where nothing does
+--   PositionNumbers              with a demand that 7 lets pass a position has the road's number; with one that 7 refuses it has 7, unless
+--                                one of 1 to 6 refuses the road
+--   NoBetterWithMoreDemand       on an accepted road a position with more demand has no better a letter
 --   PastTheDemandsKept           what is behind the positions keeps its content, and what is lent its length
 --   RefusedDayChangesNothing     18 leaves every number as it was
 --   LentFitsExactly              18 refuses exactly no demand, more than 24, and room for fewer answers
 -- Assumes nothing.
 use mathlib.Core.Path.{_≡_}
-use mathlib.Core.Logic.{_↔_}
+use mathlib.Core.Logic.{_↔_, _⊎_}
 use mathlib.Core.List.{List, _++_}
 use Prim.Native.Nat.{ℕ, _*_, _≤_, _<_}
 use lib.ListN.{length, take, drop, getD}
 use Rattle.road.specs.declared.Case.{Case}
 use Rattle.road.specs.Cases.{withDemand}
 use Rattle.answer.specs.declared.evaluate.Answer.{Answer}
-use Rattle.answer.specs.Answers.{answerTo}
+use Rattle.road.specs.Refusals.{greatestDemand}
+use Rattle.method.specs.Refusals.{refusal}
+use Rattle.answer.specs.Answers.{answerTo, refusalNumber}
+use Rattle.answer.specs.Promises.{letterIn}
 use Rattle.day.specs.Days.{mostDemands, figureCount, answerFigures, dayFigures, LentFits, dayContent}
 
 abbrev pub position : ℕ → List ℕ → List ℕ
@@ -36,6 +43,23 @@ PositionHoldsTheAnswer =
 
 abbrev pub FiguresTellTheAnswer : Type 0
 FiguresTellTheAnswer = (a b : Answer) → answerFigures a ≡ answerFigures b → a ≡ b
+
+abbrev pub roadNumber : Case → ℕ
+roadNumber case = refusal (withDemand case 0)
+
+-- "one demand that breaks refusal 7 gets its own number in its position and the others go on. A refused road puts the single call's number
+-- in each position", which is 7 for such a demand where 8, 9 or 10 refuses the road
+abbrev pub PositionNumbers : Type 0
+PositionNumbers =
+    (case : Case) (demand : ℕ)
+    → (demand ≤ greatestDemand → refusalNumber (answerTo (withDemand case demand)) ≡ roadNumber case)
+    × (greatestDemand < demand → (roadNumber case ≡ 0) ⊎ (7 < roadNumber case) → refusalNumber (answerTo (withDemand case demand)) ≡ 7)
+    × (1 ≤ roadNumber case → roadNumber case ≤ 6 → refusalNumber (answerTo (withDemand case demand)) ≡ roadNumber case)
+
+abbrev pub NoBetterWithMoreDemand : Type 0
+NoBetterWithMoreDemand =
+    (case : Case) → roadNumber case ≡ 0 → (less more : ℕ) → less ≤ more → more ≤ greatestDemand
+    → letterIn (answerTo (withDemand case less)) ≤ letterIn (answerTo (withDemand case more))
 
 abbrev pub PastTheDemandsKept : Type 0
 PastTheDemandsKept =

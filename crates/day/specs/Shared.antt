@@ -9,11 +9,11 @@ use Rattle.road.specs.declared.Case.{Case}
 use Rattle.road.specs.Cases.{withDemand}
 use Rattle.method.specs.Refusals.{refusal}
 use Rattle.method.specs.Assess.{CaseReady}
-use Rattle.answer.specs.Answers.{graded}
+use Rattle.answer.specs.Volumes.{serviceVolumes}
 use Rattle.day.specs.declared.shared.Shared.{Shared}
 use Rattle.day.specs.declared.shared.Shared.the-variants as Shared
 
--- of a case that is accepted with no demand its grade and terms, else its refusal
+-- of a case that is accepted with no demand its service volumes and terms, else its refusal
 abbrev pub SharedBy : Case → Shared → List ℕ → Type 0
-SharedBy case (Shared.Accepted grade terms) table = CaseReady (withDemand case 0) terms table × (grade ≡ graded (withDemand case 0))
+SharedBy case (Shared.Accepted volumes terms) table = CaseReady (withDemand case 0) terms table × (volumes ≡ serviceVolumes case)
 SharedBy case (Shared.Refused number) table = (number ≡ refusal (withDemand case 0)) × (0 < number)

@@ -4,6 +4,7 @@
 //   DAY_UNFIT      refusal 18
 //   DayAnswer      the count of answers, or a refusal
 //   lent_refusal   18 where demands and lent numbers do not fit, else 0
+//   put_day        the answers to a case with each demand, where they fit
 //   evaluate_day   for any case, any demands and any lent numbers
 mod shared;
 
@@ -11,7 +12,6 @@ use answer::evaluate;
 use answer::evaluate::Answer;
 use curve::Curve;
 use curve::kind::Kind;
-use curve::service;
 use method::assess;
 use method::assess::CaseTerms;
 use method::checked;
@@ -19,17 +19,16 @@ use method::checked::Checked;
 use road::Case;
 use shared::Shared;
 ghost use mathlib.Core.Path.{_≡_};
-ghost use mathlib.Core.Bool.{_||_};
-ghost use Prim.Native.Nat.{_*_, _/_, _≤_};
-ghost use lib.Dec.{ltb};
+ghost use mathlib.Core.List.{_∷_};
+ghost use Prim.Native.Nat.{_+_, _≤_, _<_};
 ghost use lib.ListN.{length};
-ghost use Rattle.checks.specs.Refusals.{firstRefusal, outside};
-ghost use Rattle.text.specs.Buffer.{written};
+ghost use Rattle.checks.specs.Refusals.{firstRefusal};
+ghost use Rattle.text.specs.Buffer.{Wrote};
 ghost use Rattle.method.specs.declared.checked.Checked.the-variants as Checked;
 ghost use Rattle.method.specs.Checked.{checked};
 ghost use Rattle.method.specs.Assess.{CaseReady};
 ghost use Rattle.road.specs.Cases.{withDemand};
-ghost use Rattle.day.specs.Days.{mostDemands, figureCount, answerFigures, dayFigures, lentRefusals, dayAnswer, dayContent};
+ghost use Rattle.day.specs.Days.{figureCount, answerFigures, dayWritten, lentUnfit, lentRefusals, LentFits, dayAnswer, dayContent};
 ghost use Rattle.day.specs.Shared.{SharedBy};
 
 pub const MOST_DEMANDS: usize = 24;
@@ -44,7 +43,7 @@ pub enum DayAnswer {
 }
 
 fn lent_unfit(demands: usize, numbers: usize) -> bool
-    ensures { λ r. ⌜ r ≡ (outside 1 mostDemands demands || ltb (numbers / figureCount) demands) ⌝ }
+    ensures { λ r. ⌜ r ≡ lentUnfit demands numbers ⌝ }
 {
     checks::outside(1, MOST_DEMANDS as u64, demands as u64) || numbers / FIGURES < demands
 }
@@ -55,55 +54,52 @@ pub fn lent_refusal(demands: usize, numbers: usize) -> u64
     checks::refused_if(lent_unfit(demands, numbers), DAY_UNFIT, 0)
 }
 
-fn answer_figures(answer: Answer) -> [u64; 12]
-    ensures { λ r. ⌜ r ≡ answerFigures answer ⌝ }
+// A refusal's number, or 0, and the figures behind it, at a place.
+fn put_figures(number: u64, figures: &[u64], out: &mut [u64], at: usize) -> usize
+    requires { ⌜ at + length (now figures) < length (now out) ⌝ }
+    ensures { λ r. ⌜ Wrote (number ∷ now (figures .entry)) at (now (out .entry)) (now (out .exit)) r ⌝ }
+{
+    out[at] = number;
+    text::buffer::put_numbers(figures, out, at + 1)
+}
+
+// An answer at a place; answers the place after it.
+fn put_answer(answer: Answer, out: &mut [u64], at: usize) -> usize
+    requires { ⌜ at + figureCount ≤ length (now out) ⌝ }
+    ensures { λ r. ⌜ Wrote (answerFigures answer) at (now (out .entry)) (now (out .exit)) r ⌝ }
 {
     match answer {
         Answer::Graded(grade) => {
-            let letter = grade.letter;
-            [
-                0,
-                service::letter_number(letter),
-                grade.free_flow_speed,
-                grade.capacity,
-                grade.flow_rate,
-                grade.speed,
-                grade.density,
-                grade.volume_a,
-                grade.volume_b,
-                grade.volume_c,
-                grade.volume_d,
-                grade.volume_e,
-            ]
+            let figures = evaluate::grade_values(grade);
+            put_figures(0, &figures, out, at)
         }
-        Answer::Refused(number) => [number, 0, 0, 0, 0, 0, 0, 0, 0, 0, 0, 0],
+        Answer::Refused(number) => put_figures(number, &[0; 11], out, at),
     }
 }
 
 // The answer with each demand in its position.
 fn put_answers(case: Case, shared: Shared, table: &[u32], demands: &[u64], answers: &mut [u64])
-    requires { ⌜ SharedBy case shared (now table) × (figureCount * length (now demands) ≤ length (now answers)) ⌝ }
-    ensures { λ _. ⌜ now (answers .exit) ≡ written (dayFigures case (now (demands .entry))) 0 (now (answers .entry)) ⌝ }
+    requires { ⌜ SharedBy case shared (now table) × LentFits (length (now demands)) (length (now answers)) ⌝ }
+    ensures { λ _. ⌜ now (answers .exit) ≡ dayWritten case (now (demands .entry)) (now (answers .entry)) ⌝ }
 {
     let mut i = 0;
     let mut at = 0;
     while i < demands.len() {
         let answer = shared::answer_with(road::with_demand(case, demands[i]), shared, table);
-        let figures = answer_figures(answer);
-        at = text::buffer::put_numbers(&figures, answers, at);
+        at = put_answer(answer, answers, at);
         i += 1;
     }
 }
 
 // The service volumes are searched for once.
 fn put_graded(case: Case, terms: CaseTerms, table: &[u32], demands: &[u64], answers: &mut [u64])
-    requires { ⌜ CaseReady (withDemand case 0) terms (now table) × (figureCount * length (now demands) ≤ length (now answers)) ⌝ }
-    ensures { λ _. ⌜ now (answers .exit) ≡ written (dayFigures case (now (demands .entry))) 0 (now (answers .entry)) ⌝ }
+    requires { ⌜ CaseReady (withDemand case 0) terms (now table) × LentFits (length (now demands)) (length (now answers)) ⌝ }
+    ensures { λ _. ⌜ now (answers .exit) ≡ dayWritten case (now (demands .entry)) (now (answers .entry)) ⌝ }
 {
-    let grade = evaluate::graded_with(road::with_demand(case, 0), terms, table);
+    let volumes = evaluate::volumes_with(terms, table);
     put_answers(
         case,
-        Shared::Accepted(grade, terms),
+        Shared::Accepted(volumes, terms),
         table,
         demands,
         answers,
@@ -112,8 +108,8 @@ fn put_graded(case: Case, terms: CaseTerms, table: &[u32], demands: &[u64], answ
 
 // The terms of the case are worked out, and the table of powers is made where the kind reads it, once a call.
 fn put_accepted(case: Case, curve: Curve, demands: &[u64], answers: &mut [u64])
-    requires { ⌜ (checked (withDemand case 0) ≡ Checked.Accepted curve) × (figureCount * length (now demands) ≤ length (now answers)) ⌝ }
-    ensures { λ _. ⌜ now (answers .exit) ≡ written (dayFigures case (now (demands .entry))) 0 (now (answers .entry)) ⌝ }
+    requires { ⌜ (checked (withDemand case 0) ≡ Checked.Accepted curve) × LentFits (length (now demands)) (length (now answers)) ⌝ }
+    ensures { λ _. ⌜ now (answers .exit) ≡ dayWritten case (now (demands .entry)) (now (answers .entry)) ⌝ }
 {
     let terms = assess::case_terms(road::with_demand(case, 0), curve);
     let kind = curve.kind;
@@ -126,10 +122,10 @@ fn put_accepted(case: Case, curve: Curve, demands: &[u64], answers: &mut [u64])
     }
 }
 
-// The case is checked once, with no demand, so that 7 does not hide what else refuses it.
-fn put_day(case: Case, demands: &[u64], answers: &mut [u64])
-    requires { ⌜ figureCount * length (now demands) ≤ length (now answers) ⌝ }
-    ensures { λ _. ⌜ now (answers .exit) ≡ written (dayFigures case (now (demands .entry))) 0 (now (answers .entry)) ⌝ }
+// The case is checked once, with no demand: 7 has its place in each position.
+pub fn put_day(case: Case, demands: &[u64], answers: &mut [u64])
+    requires { ⌜ LentFits (length (now demands)) (length (now answers)) ⌝ }
+    ensures { λ _. ⌜ now (answers .exit) ≡ dayWritten case (now (demands .entry)) (now (answers .entry)) ⌝ }
 {
     let checked = checked::check(road::with_demand(case, 0));
     match checked {

@@ -2,8 +2,9 @@
 --   boundary-shown   each figure of the list is what is to be shown
 -- Assumes nothing.
 use mathlib.Core.Path.{_≡_, refl, ap, _∙_}
-use mathlib.Core.List.{[], _∷_, _++_}
+use mathlib.Core.List.{[], _∷_, _++_, flatMap}
 use Prim.Native.String.{_++_ as _then_}
+use lib.ListN.{replicate}
 use Rattle.text.specs.Bytes.{bytesOf}
 use Rattle.text.specs.Parts.{onFirst, parts}
 use Rattle.text.specs.Decimal.{decimalUpTo, decimal, figuresText, rowText}
@@ -14,6 +15,8 @@ use Rattle.answer.specs.Answers as answers
 use Rattle.answer.specs.Answers.{answerTo}
 use Rattle.answer.specs.Boundary as answer
 use Rattle.answer.proofs.Boundary as answer-proofs
+use Rattle.day.specs.Instances.{exampleDemands, exampleDay}
+use Rattle.day.proofs.Instances.{example-day}
 use Rattle.survey.specs.Boundary.{surveyFigures}
 use Rattle.survey.proofs.Boundary.{survey-shown}
 use Rattle.lines.specs.declared.read.LineRead.the-variants as LineRead
@@ -23,6 +26,8 @@ use Rattle.replies.specs.Texts.{refusalText, textOf, lineText}
 use Rattle.stream.specs.Stream.{texts, lastLine, withoutEmptyLast, linesOf, outputOf}
 use Rattle.replies.specs.Output.{lineTexts}
 use Rattle.replies.proofs.TextsLaws.{lineText-refused, lineText-case}
+use Rattle.marehour.specs.Calls.{dayCall, content}
+use Rattle.marehour.proofs.Laws.{day-call-is-the-day}
 use Rattle.marehour.specs.Boundary.{printedLine, printedAnswer, addedFigures, boundaryFigures}
 
 line-read : readLine (bytesOf printedLine) ≡ LineRead.Case example
@@ -30,7 +35,7 @@ unfolding onFirst parts layout spelled number oneOf letter fieldAs valuesOf case
 line-read = refl
 
 line-shown : lineText (bytesOf printedLine) ≡ bytesOf printedAnswer
-unfolding decimalUpTo decimal figuresText rowText textOf
+unfolding flatMap decimalUpTo decimal figuresText rowText textOf
 line-shown = lineText-case (bytesOf printedLine) example line-read
     ∙ ap (textOf (answers.refusalNumber (answerTo example))) answer-proofs.example-figures
 
@@ -40,17 +45,22 @@ unfolding onFirst parts layout spelled number oneOf letter fieldAs valuesOf read
 short-shown = (lineText-refused [] 15 refl, lineText-refused (bytesOf "F") 15 refl)
 
 output-shown : outputOf lineTexts (bytesOf ("\n" then (printedLine then "\nF"))) ≡ bytesOf ("X\t15\n" then (printedAnswer then "X\t15\n"))
-unfolding onFirst parts decimalUpTo decimal figuresText rowText refusalText texts lastLine withoutEmptyLast linesOf outputOf
+unfolding flatMap onFirst parts decimalUpTo decimal figuresText rowText refusalText texts lastLine withoutEmptyLast linesOf outputOf
 output-shown =
     ap (λ x. x ++ (lineText (bytesOf printedLine) ++ (lineText (bytesOf "F") ++ []))) (short-shown .0)
     ∙ ap (λ x. refusalText 15 ++ (x ++ (lineText (bytesOf "F") ++ []))) line-shown
     ∙ ap (λ x. refusalText 15 ++ (bytesOf printedAnswer ++ (x ++ []))) (short-shown .1)
 
+day-shown : content (dayCall (bytesOf printedLine) exampleDemands 38) (replicate 38 9) ≡ exampleDay
+day-shown = day-call-is-the-day (bytesOf printedLine) example line-read exampleDemands (replicate 38 9) .1 ∙ example-day
+
 added-shown : Shown addedFigures
-unfolding onFirst parts layout spelled number oneOf letter fieldAs valuesOf readValues readLine texts lastLine withoutEmptyLast linesOf
+unfolding flatMap onFirst parts layout spelled number oneOf letter fieldAs valuesOf readValues readLine texts lastLine withoutEmptyLast linesOf
     outputOf addedFigures
-added-shown =
-    (line-shown, (output-shown, (refl, (ap (λ r. refusalNumber r ∷ values r) line-read, (refl, (refl, (refl, (refl, (refl, tt)))))))))
+added-shown = (
+  line-shown,
+  (output-shown, (refl, (day-shown, (ap (λ r. refusalNumber r ∷ values r) line-read, (refl, (refl, (refl, (refl, (refl, tt))))))))),
+)
 
 pub boundary-shown : Shown boundaryFigures
 boundary-shown =

@@ -4,7 +4,8 @@
 --   positive-is, positive-fits   a count or a speed
 --   Replied                  a call's result and its lent memory afterwards are those of a reply
 --   wrote-reply, refused-reply   a reply that was written; a refusal
---   call-lent, call-refused, call-case   a call over a line that was read: refused lent memory; no case; a case
+--   call-lent, call-refused, call-case, call-wrote   a call over a line that was read: refused lent memory; no case; a case that another
+--                            function answers; a case that was answered
 --   buffer-short, buffer-fits   a buffer that 17 refuses; one that it does not
 --   count-length, count-written   the two bytes of a lane count
 -- Assumes nothing.
@@ -23,7 +24,7 @@ use mir.ValLaws.{toZ-pos, toZ-ofZ}
 use Rattle.checks.specs.Refusals.{Refusal, firstRefusal}
 use Rattle.checks.proofs.RefusalLaws.{unlessRefused-none, unlessRefused-some}
 use Rattle.text.specs.Bytes.{newline}
-use Rattle.text.specs.Buffer.{Wrote}
+use Rattle.text.specs.Buffer.{written, Wrote}
 use Rattle.text.proofs.DigitLaws.{decimal-small}
 use Rattle.text.proofs.BufferLaws.{first-byte, then-byte}
 use Rattle.road.specs.declared.Case.{Case}
@@ -86,6 +87,13 @@ module _ (count : List ℕ → ℕ) where
       call-case z case new is f (e, k) =
           let same = read ∙ ap (lineReply reply) is in
           (toZ-ofZ w32 z f ∙ e ∙ sym (ap (handedBack count) same), k ∙ sym (ap (λ x. content x old) same))
+
+      -- what was written, and its count
+      pub call-wrote : (n : ℕ) (case : Case) (ns new : List ℕ) → r ≡ LineRead.Case case → reply case ≡ writes ns → n ≡ count ns → n ≤ 90000
+          → new ≡ written ns 0 old → Replied (toZ w32 n) new (lineCall reply r lent) old
+      call-wrote n case ns new is w k h e =
+          let same = read ∙ ap (lineReply reply) is ∙ w in
+          (positive-is n h ∙ ap pos k ∙ sym (ap (handedBack count) same), e ∙ sym (ap (λ x. content x old) same))
 
 -- ---- an answer buffer
 pub wrote-reply : (bs old new : List ℕ) (n : ℕ) (r : Reply) → length bs ≤ 64 → Wrote bs 0 old new n → r ≡ writes bs

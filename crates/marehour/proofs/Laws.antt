@@ -1,16 +1,16 @@
 -- The laws of specs/Laws, proved.
---   replies-within-ends, day-hands-back, buffer-too-short, last-refusal-is-reached
+--   replies-within-ends, buffer-too-short, last-refusal-is-reached, day-hands-back, day-call-is-the-day, position-is-the-lines-answer
 -- Assumes nothing.
 use mathlib.Core.List.{List}
-use mathlib.Core.Logic.{_⊎_, inl, inr, ⊎-elim}
+use mathlib.Core.Logic.{⊎-elim}
 use mathlib.Core.Path.{_≡_, refl, sym, ap, _∙_}
 use Prim.Native.Nat.{ℕ, _*_, _≤_, _<_}
 use native.Mathlib.Nat.{eq-zero-or-pos}
 use native.Mathlib.Omega.{arith}
-use lib.IntN.{pos, negℤ}
+use lib.IntN.{pos}
 use lib.ListN.{length}
 use Rattle.checks.specs.Refusals.{Refusal, firstRefusal}
-use Rattle.checks.proofs.RefusalLaws.{unlessRefused-none, unlessRefused-by, firstRefusal-le}
+use Rattle.checks.proofs.RefusalLaws.{unlessRefused-none, unlessRefused-some, unlessRefused-by, firstRefusal-le}
 use Rattle.road.specs.declared.Case.{Case}
 use Rattle.method.specs.Refusals.{refusal}
 use Rattle.method.proofs.RefusalLaws.{refusal-le}
@@ -20,17 +20,20 @@ use Rattle.answer.specs.Answers.{graded}
 use Rattle.answer.specs.Lanes.{lanesFound, lanesRefusals, values}
 use Rattle.answer.proofs.AnswerLaws.{answerTo-accepted}
 use Rattle.answer.proofs.Laws.{refusals-within-ends, counts-are-digits, lanesAnswer-number}
-use Rattle.day.specs.Days.{mostDemands, figureCount, lentRefusals}
-use Rattle.day.proofs.DayLaws.{dayFigures-length, dayFigures-count, lent-number}
-use Rattle.day.proofs.Promises.{lent-fits-exactly}
+use Rattle.day.specs.Days.{mostDemands, figureCount, lentUnfit, lentRefusals, LentFits, refusalNumber, values as dayValues}
+use Rattle.day.specs.Promises.{position}
+use Rattle.day.proofs.DayLaws.{dayFigures-length, dayFigures-count, lent-number, day-refused, day-answered}
+use Rattle.day.proofs.Promises.{position-holds-the-answer, lent-fits-exactly}
+use Rattle.lines.specs.declared.read.LineRead.the-variants as LineRead
 use Rattle.lines.specs.Reading.{readLine}
-use Rattle.lines.proofs.ReadingLaws.{readLine-by}
+use Rattle.lines.proofs.ReadingLaws.{readLine-by, readLine-refused}
 use Rattle.replies.specs.Texts.{longestAnswer}
 use Rattle.replies.proofs.TextsLaws.{answerText-le, answerText-pos}
 use Rattle.marehour.specs.Calls.{Reply, refusal as refusalReply, answerReply, countReply, caseReply, lanesReply, dayReply, lineReply}
-use Rattle.marehour.specs.Calls.{lineCall, bufferRefusals, dayCall, dayResult}
-use Rattle.marehour.specs.Laws.{lastRefusal, WithinEnds, RepliesWithinEnds, DayHandsBack, BufferTooShort, LastRefusalIsReached}
-use Rattle.marehour.proofs.CallLaws.{count-length}
+use Rattle.marehour.specs.Calls.{lineCall, bufferRefusals, dayCall, dayResult, content, resultOf}
+use Rattle.marehour.specs.Laws.{lastRefusal, WithinEnds, RepliesWithinEnds, BufferTooShort, LastRefusalIsReached, DayHandsBack}
+use Rattle.marehour.specs.Laws.{DayCallIsTheDay, PositionIsTheLinesAnswer}
+use Rattle.marehour.proofs.CallLaws.{count-length, buffer-fits}
 
 answer-ends : (case : Case) → WithinEnds longestAnswer (caseReply case)
 answer-ends case =
@@ -47,55 +50,80 @@ count-ends letter case =
     (counts-are-digits case letter _ (ap values (unlessRefused-none number found LanesAnswer.Refused z))) in (omega arith, omega arith))
     (λ p. (p, omega (arith, refusals-within-ends case letter .1, lanesAnswer-number case letter)))
 
-day-ends : (demands : List ℕ) (room : ℕ) → firstRefusal (lentRefusals (length demands) room) ≡ 0 → (case : Case)
+day-ends : (demands : List ℕ) (room : ℕ) → LentFits (length demands) room → (case : Case)
     → WithinEnds (mostDemands * figureCount) (dayReply demands case)
 day-ends demands room z case =
     let fits = lent-fits-exactly (length demands) room .0 z in
     (omega (arith, dayFigures-length case demands, fits .0), omega (arith, dayFigures-length case demands, fits .1))
 
 -- lent memory that is refused, a line that is refused with 15, or a case
-by-call : (P : Reply → Type 0) (reply : Case → Reply) (lent : List Refusal) → (0 < firstRefusal lent → P (refusalReply (firstRefusal lent)))
-    → P (refusalReply 15) → (firstRefusal lent ≡ 0 → (case : Case) → P (reply case)) → (line : List ℕ)
-    → P (lineCall reply (readLine line) lent)
-by-call P reply lent refused malformed case line =
-    unlessRefused-by (firstRefusal lent) (lineReply reply (readLine line)) refusalReply P
-    (λ z. readLine-by (λ r. P (lineReply reply r)) (case z) malformed line) refused
-
--- what refuses lent memory is at most the last
-lent-ends : (most : ℕ) (lent : List Refusal) → firstRefusal lent ≤ lastRefusal → 0 < firstRefusal lent
-    → WithinEnds most (refusalReply (firstRefusal lent))
-lent-ends most lent h p = (p, h)
+of-line : (most : ℕ) (reply : Case → Reply) (lent : List Refusal) → firstRefusal lent ≤ lastRefusal
+    → (firstRefusal lent ≡ 0 → (case : Case) → WithinEnds most (reply case)) → (line : List ℕ)
+    → WithinEnds most (lineCall reply (readLine line) lent)
+of-line most reply lent h ends line =
+    unlessRefused-by (firstRefusal lent) (lineReply reply (readLine line)) refusalReply (WithinEnds most)
+    (λ z. readLine-by (λ r. WithinEnds most (lineReply reply r)) (ends z) (omega arith, omega arith) line) (λ p. (p, h))
 
 pub replies-within-ends : RepliesWithinEnds
 unfolding bufferRefusals lentRefusals
-replies-within-ends line letter room demands = (
-  by-call (WithinEnds longestAnswer) caseReply (bufferRefusals room)
-      (lent-ends longestAnswer (bufferRefusals room) (firstRefusal-le lastRefusal (bufferRefusals room) tt)) (omega arith, omega arith)
-      (λ z. answer-ends) line,
-  by-call (WithinEnds longestAnswer) (lanesReply letter) (bufferRefusals room)
-      (lent-ends longestAnswer (bufferRefusals room) (firstRefusal-le lastRefusal (bufferRefusals room) tt)) (omega arith, omega arith)
-      (λ z. count-ends letter) line,
-  by-call (WithinEnds (mostDemands * figureCount)) (dayReply demands) (lentRefusals (length demands) room)
-      (lent-ends (mostDemands * figureCount) (lentRefusals (length demands) room)
-      (firstRefusal-le lastRefusal (lentRefusals (length demands) room) tt))
-      (omega arith, omega arith) (day-ends demands room) line,
-)
-
-pub day-hands-back : DayHandsBack
-day-hands-back line demands room =
-    by-call Handed (dayReply demands) (lentRefusals (length demands) room)
-    (λ p. inr (inr (ap (λ n. negℤ (pos n)) (lent-number (length demands) room _ refl p)))) (inr (inl refl))
-    (λ z case. let fits = lent-fits-exactly (length demands) room .0 z in inl (ap pos (dayFigures-count case demands), fits .0, fits .1)) line
-  where
-    Handed : Reply → Type 0
-    Handed r =
-        ((dayResult r ≡ pos (length demands)) × (1 ≤ length demands) × (length demands ≤ mostDemands))
-        ⊎ ((dayResult r ≡ negℤ (pos 15)) ⊎ (dayResult r ≡ negℤ (pos 18)))
+replies-within-ends line letter room demands =
+    let buffer = firstRefusal-le lastRefusal (bufferRefusals room) tt in
+    let lent = lentRefusals (length demands) room in (
+      of-line longestAnswer caseReply (bufferRefusals room) buffer (λ z. answer-ends) line,
+      of-line longestAnswer (lanesReply letter) (bufferRefusals room) buffer (λ z. count-ends letter) line,
+      of-line (mostDemands * figureCount) (dayReply demands) lent (firstRefusal-le lastRefusal lent tt) (day-ends demands room) line,
+    )
 
 pub buffer-too-short : BufferTooShort
 unfolding bufferRefusals
 buffer-too-short line letter = (refl, refl)
 
 pub last-refusal-is-reached : LastRefusalIsReached
-unfolding lentRefusals
+unfolding lentUnfit lentRefusals
 last-refusal-is-reached line room = refl
+
+-- ---- a day
+-- lent memory that fits: the line decides
+day-read : (line demands : List ℕ) (room : ℕ) → LentFits (length demands) room
+    → dayCall line demands room ≡ lineReply (dayReply demands) (readLine line)
+day-read line demands room z = unlessRefused-none _ (lineReply (dayReply demands) (readLine line)) refusalReply z
+
+-- lent memory that does not
+day-unfit : (line demands : List ℕ) (room : ℕ) → 0 < firstRefusal (lentRefusals (length demands) room)
+    → dayCall line demands room ≡ refusalReply 18
+day-unfit line demands room p =
+    unlessRefused-some _ (lineReply (dayReply demands) (readLine line)) refusalReply p
+    ∙ ap refusalReply (lent-number (length demands) room _ refl p)
+
+day-case : (line demands : List ℕ) (room : ℕ) (case : Case) → LentFits (length demands) room → readLine line ≡ LineRead.Case case
+    → dayCall line demands room ≡ dayReply demands case
+day-case line demands room case z e = day-read line demands room z ∙ ap (lineReply (dayReply demands)) e
+
+pub day-hands-back : DayHandsBack
+day-hands-back line demands room = (
+  λ unfit. ⊎-elim (λ z. absurd (unfit z)) (λ p. ap dayResult (day-unfit line demands room p)) (eq-zero-or-pos _),
+  λ z n e. ap dayResult (day-read line demands room z ∙ ap (lineReply (dayReply demands)) (e ∙ ap LineRead.Refused (readLine-refused line n e))),
+  λ z case e. ap dayResult (day-case line demands room case z e) ∙ ap pos (dayFigures-count case demands),
+)
+
+pub day-call-is-the-day : DayCallIsTheDay
+day-call-is-the-day line case e demands old =
+    ⊎-elim
+    (λ z.
+    let answered = day-answered case demands old z in (
+      ap dayResult (day-case line demands (length old) case z e) ∙ ap pos (dayFigures-count case demands)
+          ∙ ap (λ a. resultOf (refusalNumber a) (dayValues a)) (answered .0),
+      ap (λ r. content r old) (day-case line demands (length old) case z e) ∙ answered .1,
+    ))
+    (λ p.
+    let refused = day-refused case demands old 18 (sym (lent-number (length demands) (length old) _ refl p)) (omega arith) in (
+      ap dayResult (day-unfit line demands (length old) p) ∙ ap (λ a. resultOf (refusalNumber a) (dayValues a)) (refused .0),
+      ap (λ r. content r old) (day-unfit line demands (length old) p) ∙ refused .1,
+    ))
+    (eq-zero-or-pos (firstRefusal (lentRefusals (length demands) (length old))))
+
+pub position-is-the-lines-answer : PositionIsTheLinesAnswer
+position-is-the-lines-answer line other case demands old i room e z h k long = (
+  ap (position i) (day-call-is-the-day line case e demands old .1) ∙ position-holds-the-answer case demands old z i h,
+  unlessRefused-none _ (lineReply caseReply (readLine other)) refusalReply (buffer-fits room long) ∙ ap (lineReply caseReply) k,
+)

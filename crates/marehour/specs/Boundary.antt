@@ -8,14 +8,17 @@
 use Prim.Native.Nat.{ℕ}
 use Prim.Native.String.{String, _++_ as _then_}
 use mathlib.Core.List.{List, [], _∷_, _++_}
+use lib.ListN.{replicate}
 use Rattle.text.specs.Bytes.{bytesOf}
 use Rattle.checks.specs.Figures.{Figure, figure}
 use Rattle.answer.specs.Boundary as answer
+use Rattle.day.specs.Instances.{exampleDemands, exampleDay}
 use Rattle.survey.specs.Boundary.{surveyFigures}
 use Rattle.lines.specs.Reading.{readLine, refusalNumber, values}
 use Rattle.replies.specs.Texts.{lineText}
 use Rattle.stream.specs.Stream.{outputOf}
 use Rattle.replies.specs.Output.{lineTexts}
+use Rattle.marehour.specs.Calls.{dayCall, content}
 
 -- tabs as blanks: F E 75400 110 20 0 D 24 2 V 920 50, and the terrain
 abbrev pub printedLineWith : String → String → String
@@ -32,13 +35,14 @@ abbrev pub printedAnswer : String
 printedAnswer = "C\t60783\t230783\t1196\t60783\t197\t1117\t1829\t2642\t3360\t3858\n"
 
 -- Starred: the printed line. Not starred: what is printed for it between an empty line and a last line without newline; an empty input;
--- its 13 values, letters by their bytes; the line with a leading zero, six digits and an empty field as its demand, with a 14th field, and
+-- its day with 2,000, 1,000,000 and 2,643; its 13 values, letters by their bytes; the line with a leading zero, six digits and an empty field as its demand, with a 14th field, and
 -- with an unknown terrain.
 unfoldable pub addedFigures : List Figure
 addedFigures =
     figure (lineText (bytesOf printedLine)) (bytesOf printedAnswer)
     ∷ figure (outputOf lineTexts (bytesOf ("\n" then (printedLine then "\nF")))) (bytesOf ("X\t15\n" then (printedAnswer then "X\t15\n")))
     ∷ figure (outputOf lineTexts (bytesOf "")) (bytesOf "")
+    ∷ figure (content (dayCall (bytesOf printedLine) exampleDemands 38) (replicate 38 9)) exampleDay
     ∷ figure (readAs printedLine) (0 ∷ 70 ∷ 69 ∷ 75400 ∷ 110 ∷ 20 ∷ 0 ∷ 68 ∷ 24 ∷ 2 ∷ 2000 ∷ 920 ∷ 50 ∷ 82 ∷ [])
     ∷ figure (readAs (printedLineWith "02000" "R")) (15 ∷ [])
     ∷ figure (readAs (printedLineWith "100000" "R")) (15 ∷ [])

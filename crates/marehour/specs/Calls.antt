@@ -16,8 +16,10 @@
 --   dayCall line demands room   the same for a day of demands, with room for so many numbers
 --   handedBack count r     what a call hands back, by how it counts what is written
 --   result r               the same in bytes
---   dayResult r            the same in answers
+--   answerCount ns         how many answers so many numbers are
+--   dayResult r            what a call hands back, in answers
 --   content r old          what the lent memory holds afterwards, if it held old
+--   resultOf n vs          the value of an answer with number n and values vs, or minus the number
 --   surveyResult a         what a survey call hands back
 -- Assumes nothing.
 use Prim.Native.Nat.{ℕ, _/_}
@@ -104,18 +106,21 @@ handedBack count (refusal number) = negℤ (pos number)
 abbrev pub result : Reply → ℤ
 result = handedBack length
 
+abbrev pub answerCount : List ℕ → ℕ
+answerCount ns = length ns / figureCount
+
 abbrev pub dayResult : Reply → ℤ
-dayResult = handedBack (λ ns. length ns / figureCount)
+dayResult = handedBack answerCount
 
 -- "Bytes past the count keep their content; a refusal changes no byte"; "Answers past the demands keep their content"
 abbrev pub content : Reply → List ℕ → List ℕ
 content (writes ns) old = written ns 0 old
 content (refusal number) old = old
 
+abbrev pub resultOf : ℕ → List ℕ → ℤ
+resultOf number [] = negℤ (pos number)
+resultOf number (v ∷ vs) = pos v
+
 -- the speed, or minus the refusal number
 abbrev pub surveyResult : SurveyAnswer → ℤ
 surveyResult a = resultOf (survey.refusalNumber a) (survey.values a)
-  where
-    resultOf : ℕ → List ℕ → ℤ
-    resultOf number [] = negℤ (pos number)
-    resultOf number (speed ∷ vs) = pos speed

@@ -1,20 +1,28 @@
 -- Laws of the calls, stated; proofs/Laws proves them.
 --   lastRefusal           18
 --   WithinEnds most r     what is written, one byte or number at least and at most so many; or a refusal from 1 to the last
---   RepliesWithinEnds     every call over a line replies so: a buffer of 64 bytes is enough, and 288 numbers
---   DayHandsBack          a day hands back 1 to 24, as many as the demands, or minus 15 or 18: never 0
+--   RepliesWithinEnds     every call over a line replies so: 0 is never handed back, and 64 bytes, or 288 numbers, are enough
 --   BufferTooShort        a buffer of 63 bytes gets 17, whatever the line
 --   LastRefusalIsReached  no demand gets 18, whatever the line and the room
+--   DayHandsBack          minus 18 where the lent memory does not fit; else minus 15 where the line is malformed; else the count of the
+--                         demands
+--   DayCallIsTheDay       a line that is read: the call's result and the lent numbers afterwards are those of `evaluate_day` for its case
+--   PositionIsTheLinesAnswer   position i and the reply to a line with demand i are those of one answer
 -- Assumes nothing.
-use Prim.Native.Nat.{ℕ, _*_, _≤_}
+use Prim.Native.Nat.{ℕ, _*_, _≤_, _<_}
 use mathlib.Core.Path.{_≡_}
-use mathlib.Core.Logic.{_⊎_}
 use mathlib.Core.List.{List, []}
 use lib.IntN.{pos, negℤ}
-use lib.ListN.{length}
-use Rattle.day.specs.Days.{mostDemands, figureCount}
+use lib.ListN.{length, getD}
+use Rattle.road.specs.declared.Case.{Case}
+use Rattle.road.specs.Cases.{withDemand}
+use Rattle.answer.specs.Answers.{answerTo}
+use Rattle.day.specs.Days.{mostDemands, figureCount, answerFigures, LentFits, dayAnswer, dayContent, refusalNumber, values}
+use Rattle.day.specs.Promises.{position}
+use Rattle.lines.specs.declared.read.LineRead.the-variants as LineRead
+use Rattle.lines.specs.Reading.{readLine}
 use Rattle.replies.specs.Texts.{longestAnswer}
-use Rattle.marehour.specs.Calls.{Reply, writes, refusal, answerCall, lanesCall, dayCall, dayResult}
+use Rattle.marehour.specs.Calls.{Reply, writes, refusal, answerReply, answerCall, lanesCall, dayCall, dayResult, content, resultOf}
 
 abbrev pub lastRefusal : ℕ
 lastRefusal = 18
@@ -29,14 +37,31 @@ RepliesWithinEnds =
     → WithinEnds longestAnswer (answerCall line room) × WithinEnds longestAnswer (lanesCall line letter room)
     × WithinEnds (mostDemands * figureCount) (dayCall line demands room)
 
-abbrev pub DayHandsBack : Type 0
-DayHandsBack =
-    (line demands : List ℕ) (room : ℕ)
-    → ((dayResult (dayCall line demands room) ≡ pos (length demands)) × (1 ≤ length demands) × (length demands ≤ mostDemands))
-    ⊎ ((dayResult (dayCall line demands room) ≡ negℤ (pos 15)) ⊎ (dayResult (dayCall line demands room) ≡ negℤ (pos 18)))
-
 abbrev pub BufferTooShort : Type 0
 BufferTooShort = (line : List ℕ) (letter : ℕ) → (answerCall line 63 ≡ refusal 17) × (lanesCall line letter 63 ≡ refusal 17)
 
 abbrev pub LastRefusalIsReached : Type 0
 LastRefusalIsReached = (line : List ℕ) (room : ℕ) → dayCall line [] room ≡ refusal lastRefusal
+
+abbrev pub DayHandsBack : Type 0
+DayHandsBack =
+    (line demands : List ℕ) (room : ℕ)
+    → ((LentFits (length demands) room → ⊥) → dayResult (dayCall line demands room) ≡ negℤ (pos 18))
+    × (LentFits (length demands) room → (n : ℕ) → readLine line ≡ LineRead.Refused n → dayResult (dayCall line demands room) ≡ negℤ (pos 15))
+    × (LentFits (length demands) room → (case : Case) → readLine line ≡ LineRead.Case case
+    → dayResult (dayCall line demands room) ≡ pos (length demands))
+
+abbrev pub DayCallIsTheDay : Type 0
+DayCallIsTheDay =
+    (line : List ℕ) (case : Case) → readLine line ≡ LineRead.Case case → (demands old : List ℕ)
+    → (dayResult (dayCall line demands (length old))
+    ≡ resultOf (refusalNumber (dayAnswer (length demands) (length old))) (values (dayAnswer (length demands) (length old))))
+    × (content (dayCall line demands (length old)) old ≡ dayContent case demands old)
+
+abbrev pub PositionIsTheLinesAnswer : Type 0
+PositionIsTheLinesAnswer =
+    (line other : List ℕ) (case : Case) (demands old : List ℕ) (i room : ℕ)
+    → readLine line ≡ LineRead.Case case → LentFits (length demands) (length old) → i < length demands
+    → readLine other ≡ LineRead.Case (withDemand case (getD demands i 0)) → longestAnswer ≤ room
+    → (position i (content (dayCall line demands (length old)) old) ≡ answerFigures (answerTo (withDemand case (getD demands i 0))))
+    × (answerCall other room ≡ answerReply (answerTo (withDemand case (getD demands i 0))))

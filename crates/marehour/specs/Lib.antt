@@ -1,5 +1,5 @@
 -- The calls that a host in C makes.
---   Calls      what they hand back, and what the lent buffer then holds
+--   Calls      what they hand back, and what the lent memory then holds
 --   Laws       laws of the calls
 --   Boundary   the boundary sections of document 01
 pub mod Calls

@@ -3,11 +3,11 @@
 --   refusals-fields, refusals-some   a case that 1 to 9 do not refuse: 10 decides; one that they refuse: its number
 --   accepted-of, accepted-fields     what is accepted: neither 1 to 9 nor 10 refuse it
 --   accepted-speed         F of an accepted case is at its lower end or above
---   accepted-withDemand    an accepted case is accepted with every demand up to the greatest
 --   refusal-within, refusal-above   the refusal of a case by that of the same case with no demand: the same with every demand up to the
 --                          greatest; with a greater one 7, unless one of 1 to 6 comes before it
+--   accepted-withDemand    an accepted case is accepted with every demand up to the greatest
 -- Assumes nothing.
-use mathlib.Core.Path.{_≡_, _∙_}
+use mathlib.Core.Path.{_≡_, sym, _∙_}
 use Prim.Native.Nat.{ℕ, _≤_, _<_, min}
 use borrow.Author.Tests.{ltb-false, le-ltb, lt-ltb}
 use lib.ListN.{take, drop}
@@ -18,7 +18,7 @@ use Rattle.road.specs.declared.Case.{Case}
 use Rattle.road.specs.Cases.{withDemand}
 use Rattle.road.specs.FreeFlowSpeed.{freeFlowSpeed}
 use Rattle.road.specs.Refusals.{greatestDemand, roadRefusals, loadRefusals, fieldRefusals, FieldsFit}
-use Rattle.road.proofs.RefusalLaws.{fields-numbered, fields-withDemand}
+use Rattle.road.proofs.RefusalLaws.{fields-numbered, load-ends}
 use Rattle.method.specs.Refusals.{speedRefusals, refusals, refusal, Accepted}
 
 pub refusal-le : (case : Case) → refusal case ≤ 10
@@ -49,10 +49,6 @@ accepted-speed case a =
     ltb-false (freeFlowSpeed (case .road) (case .lanes)) (lowestSpeed (case .road .kind))
     (none-met (speedRefusals (case .road) (case .lanes)) tt (parts case a .1) .0)
 
-pub accepted-withDemand : (case : Case) (demand : ℕ) → Accepted case → demand ≤ greatestDemand → Accepted (withDemand case demand)
-accepted-withDemand case demand a h =
-    let p = parts case a in accepted-of (withDemand case demand) (fields-withDemand case demand (p .0) h) (p .1)
-
 pub refusal-within : (case : Case) → case .demand ≤ greatestDemand → refusal case ≡ refusal (withDemand case 0)
 unfolding roadRefusals loadRefusals fieldRefusals refusals
 refusal-within case h = rw (le-ltb greatestDemand (case .demand) h)
@@ -60,4 +56,11 @@ refusal-within case h = rw (le-ltb greatestDemand (case .demand) h)
 pub refusal-above : (case : Case) → greatestDemand < case .demand
     → refusal case ≡ unlessRefused (refusal (withDemand case 0)) 7 (λ n. min n 7)
 unfolding roadRefusals loadRefusals fieldRefusals speedRefusals refusals
-refusal-above case h = rw (lt-ltb greatestDemand (case .demand) h) (firstRefusal-met 7 (take 6 (refusals case)) (drop 7 (refusals case)) tt tt tt)
+refusal-above case h =
+    rw (lt-ltb greatestDemand (case .demand) h) (firstRefusal-met 7 (take 6 (refusals case)) (drop 7 (refusals case)) tt tt tt)
+
+pub accepted-withDemand : (case : Case) (demand : ℕ) → Accepted case → demand ≤ greatestDemand → Accepted (withDemand case demand)
+accepted-withDemand case demand a h =
+    refusal-within (withDemand case demand) h
+    ∙ sym (refusal-within case (load-ends case (accepted-fields case a) .demand-high))
+    ∙ a

@@ -5,7 +5,7 @@
 --   lineText-long        lines of more than 80 bytes all get the same
 -- Assumes nothing.
 use mathlib.Core.Path.{_≡_, ap, _∙_}
-use mathlib.Core.List.{List, [], _∷_}
+use mathlib.Core.List.{List, [], _∷_, flatMap}
 use Prim.Native.Nat.{ℕ, _≤_, _<_}
 use Prim.Native.Char.{code}
 use native.Mathlib.Omega.{arith}
@@ -46,7 +46,7 @@ refusalText-le n = omega (arith, rowText-one (code "X") n)
 
 -- figures that keep to their ends have at most 62 bytes
 figures-le : (number : ℕ) (vs : List ℕ) → AllAtMost vs figureEnds → length (textOf number vs) ≤ longestAnswer
-unfolding decimalUpTo decimal figuresText textOf
+unfolding flatMap decimalUpTo decimal figuresText textOf
 figures-le number [] h = absurd h
 figures-le number (letter ∷ figures) h = omega (arith, rowText-length (letterByte letter) figures, figuresText-mono figures _ (h .1))
 

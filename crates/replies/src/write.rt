@@ -37,19 +37,8 @@ pub fn write_grade(grade: Grade, out: &mut [u8], at: usize) -> usize
     ensures { λ r. ⌜ Wrote (answerText (Graded grade)) at (now (out .entry)) (now (out .exit)) r ⌝ }
 {
     let letter = grade.letter;
-    let figures = [
-        grade.free_flow_speed,
-        grade.capacity,
-        grade.flow_rate,
-        grade.speed,
-        grade.density,
-        grade.volume_a,
-        grade.volume_b,
-        grade.volume_c,
-        grade.volume_d,
-        grade.volume_e,
-    ];
-    text::decimal::put_row(letter_byte(letter), &figures, out, at)
+    let figures = evaluate::grade_values(grade);
+    text::decimal::put_row(letter_byte(letter), &figures[1..], out, at)
 }
 
 fn write_refusal(number: u64, out: &mut [u8], at: usize) -> usize

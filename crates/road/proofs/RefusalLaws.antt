@@ -4,12 +4,11 @@
 --   fields-numbered      every number is above 0
 --   RoadEnds, road-ends  the ends that 1 and 5 leave to a road
 --   LoadEnds, load-ends  the ends that 6 to 9 leave to a case
---   fields-withDemand    a case that 1 to 9 do not refuse is so with every demand up to the greatest
---   fields-withLanes     and with every lane count of the kind
+--   fields-withLanes     a case that 1 to 9 do not refuse is so with every lane count of the kind
 -- Assumes nothing.
 use mathlib.Core.Path.{_≡_, _∙_}
 use Prim.Native.Nat.{ℕ, _≤_, _<_}
-use borrow.Author.Tests.{ltb-false, le-ltb}
+use borrow.Author.Tests.{ltb-false}
 use lib.Dec.{T}
 use Rattle.checks.specs.Refusals.{firstRefusal}
 use Rattle.checks.proofs.RefusalLaws.{numbered, firstRefusal-none, firstRefusal-some, firstRefusal-join, NoneMet, none-met, none-of, within}
@@ -17,7 +16,7 @@ use Rattle.checks.proofs.RefusalLaws.{inside}
 use Rattle.curve.specs.Kinds.{fewestLanes, mostLanes}
 use Rattle.road.specs.declared.Road.{Road}
 use Rattle.road.specs.declared.Case.{Case}
-use Rattle.road.specs.Cases.{withDemand, withLanes}
+use Rattle.road.specs.Cases.{withLanes}
 use Rattle.road.specs.Refusals.{mostAccess, greatestDemand, roadRefusals, loadRefusals, fieldRefusals, RoadFits, FieldsFit}
 
 -- ---- the two lists
@@ -86,14 +85,7 @@ load-ends case z =
       share-high = ltb-false 1000 (case .«heavy_share») (none .1 .1 .1 .0);
     }
 
--- ---- a case with one field changed
-pub fields-withDemand : (case : Case) (demand : ℕ) → FieldsFit case → demand ≤ greatestDemand → FieldsFit (withDemand case demand)
-unfolding loadRefusals
-fields-withDemand case demand z h =
-    let none = load-none case z in
-    fieldRefusals-road (withDemand case demand) (fields-road case z)
-    ∙ none-of (loadRefusals (withDemand case demand)) (none .0, (le-ltb greatestDemand demand h, none .1 .1))
-
+-- ---- a case with another lane count
 pub fields-withLanes : (case : Case) (n : ℕ) → FieldsFit case → fewestLanes (case .road .kind) ≤ n → n ≤ mostLanes (case .road .kind)
     → FieldsFit (withLanes case n)
 unfolding loadRefusals

@@ -4,7 +4,7 @@
 --   last-none, last-one  what is left is empty, or one line
 -- Assumes nothing.
 use mathlib.Core.Path.{_≡_, refl, sym, ap, _∙_}
-use mathlib.Core.List.{List, [], _∷_, _++_, append-assoc, append-nil}
+use mathlib.Core.List.{List, [], _∷_, _++_, flatMap, append-assoc, append-nil}
 use Prim.Native.Nat.{ℕ, suc, _+_, _-_, _≤_, _<_}
 use native.Mathlib.Omega.{arith}
 use lib.ListN.{length, take, drop, length-drop}
@@ -28,7 +28,7 @@ pub record Answering (t : LineTexts) (block old new : List ℕ) (read written : 
   pub room : written ≤ length old
 
 pub begun : (t : LineTexts) (block old : List ℕ) → Answering t block old old 0 0
-unfolding texts size
+unfolding flatMap texts size
 begun t block old = record {
   done = [];
   all = ap (λ (r : ℕ). answered t r block) (omega arith);
@@ -39,7 +39,7 @@ begun t block old = record {
 }
 
 one-text : (t : LineTexts) (l : List ℕ) → texts t (l ∷ []) ≡ t .text l
-unfolding texts
+unfolding flatMap texts
 one-text t l = append-nil (t .text l)
 
 module _ (t : LineTexts) (block old mid : List ℕ) (p w e : ℕ) (a : Answering t block old mid p w)
@@ -78,7 +78,7 @@ module _ (t : LineTexts) (block old mid : List ℕ) (p w e : ℕ) (a : Answering
 -- ---- the last line
 module _ (t : LineTexts) (held : List ℕ) (h : countBefore newline held ≡ length held) where
   pub last-none : (old : List ℕ) → length held ≡ 0 → Wrote (texts t (linesOf held)) 0 old old 0
-  unfolding texts lastLine
+  unfolding flatMap texts lastLine
   last-none old z = rw (linesOf-last held h, z) (record { content = sym (none-written 0 old); ends = refl })
 
   pub last-one : (length held ≡ 0 → ⊥) → texts t (linesOf held) ≡ t .text held

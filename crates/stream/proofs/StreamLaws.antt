@@ -9,7 +9,7 @@
 use mathlib.Core.Path.{_≡_, refl, sym, ap, _∙_}
 use mathlib.Core.Bool.{Bool, true, false, cond}
 use mathlib.Core.Logic.{⊎-elim}
-use mathlib.Core.List.{List, [], _∷_, _++_, append-assoc}
+use mathlib.Core.List.{List, [], _∷_, _++_, flatMap, append-assoc}
 use Prim.Native.Nat.{ℕ, zero, suc, _+_, _-_, _≤_, _<_}
 use native.Mathlib.Nat.{eq-or-lt-of-le}
 use native.Mathlib.Decide.{decLe}
@@ -18,6 +18,7 @@ use lib.Dec.{eqb}
 use lib.ListN.{length, take, drop, length-append, length-drop}
 use lib.Seq.{drop-drop, length-take-le, take-append-le, drop-append-le, take-all}
 use borrow.Author.Tests.{lt-ltb, le-ltb, ne-eqb}
+use Rattle.numbers.proofs.RowsLaws.{rows-append}
 use Rattle.text.specs.Bytes.{newline}
 use Rattle.text.specs.Parts.{parts, countBefore, onFirst}
 use Rattle.text.proofs.PartsLaws.{countBefore-le, parts-one, parts-more}
@@ -115,15 +116,14 @@ module _ (t : LineTexts) where
   unfolding answered fitting
   next-line room bs h l = rw (parts-more newline bs l, endedParts-cons (firstLine bs) (afterFirst bs), le-ltb room (t .longestText) h)
 
-  -- texts of two stretches of lines, by induction on the first
+  -- texts of two stretches of lines
   pub texts-append : (a b : List (List ℕ)) → texts t (a ++ b) ≡ texts t a ++ texts t b
   unfolding texts
-  texts-append [] b = refl
-  texts-append (l ∷ a) b = ap (λ (x : List ℕ). t .text l ++ x) (texts-append a b) ∙ sym (append-assoc (t .text l) (texts t a) (texts t b))
+  texts-append a b = rows-append (t .text) a b
 
   -- the first line's text, and the rest's
   first-line : (bs : List ℕ) → countBefore newline bs < length bs → outputOf t bs ≡ t .text (firstLine bs) ++ outputOf t (afterFirst bs)
-  unfolding texts linesOf outputOf
+  unfolding flatMap texts linesOf outputOf
   first-line bs h =
       ap (λ (ps : List (List ℕ)). texts t (withoutEmptyLast ps)) (parts-more newline bs h)
       ∙ ap (texts t) (withoutEmptyLast-cons (firstLine bs) (afterFirst bs))
@@ -139,7 +139,7 @@ module _ (t : LineTexts) where
   -- a turn prints the texts of the lines that it answers; by induction on the bytes, a line at a time
   lines-law : (k room : ℕ) (a f : List ℕ) → length a ≤ k
       → outputOf t (a ++ f) ≡ texts t (answered t room a) ++ outputOf t (drop (size (answered t room a)) a ++ f)
-  unfolding texts size
+  unfolding flatMap texts size
   lines-law zero room a f h = rw (none-left room a (omega (arith, countBefore-le newline a)))
   lines-law (suc k) room a f h =
       ⊎-elim (λ e. rw (none-left room a e))
@@ -167,7 +167,7 @@ module _ (t : LineTexts) where
     -- a first line that is too long may be replaced by another that is
     same-texts : (a b : List ℕ) (ps : List (List ℕ)) → t .longestLine < length a → t .longestLine < length b
         → texts t (withoutEmptyLast (a ∷ ps)) ≡ texts t (withoutEmptyLast (b ∷ ps))
-    unfolding texts lastLine withoutEmptyLast
+    unfolding flatMap texts lastLine withoutEmptyLast
     same-texts a b [] h k =
         rw (ne-eqb (length a) 0 (λ e. omega arith), ne-eqb (length b) 0 (λ e. omega arith)) (ap (λ (x : List ℕ). x ++ []) (alike a b h k))
     same-texts a b (q ∷ ps) h k = ap (λ (x : List ℕ). x ++ texts t (withoutEmptyLast (q ∷ ps))) (alike a b h k)
@@ -213,7 +213,7 @@ module _ (t : LineTexts) where
   -- a whole line would have printed its text, which has a byte at least
   pub nothing-left : (room : ℕ) (held : List ℕ) → ((l : List ℕ) → 0 < length (t .text l)) → t .longestText ≤ room
       → length (texts t (answered t room held)) ≡ 0 → countBefore newline held ≡ length held
-  unfolding texts
+  unfolding flatMap texts
   nothing-left room held some h e =
       ⊎-elim (λ s. s) (λ l. absurd (by l (ap (λ (ls : List (List ℕ)). length (texts t ls)) (next-line room held h l))))
       (eq-or-lt-of-le (countBefore-le newline held))

@@ -8,7 +8,7 @@
 -- Assumes nothing.
 use Prim.Native.Nat.{ℕ}
 use mathlib.Core.Bool.{cond}
-use mathlib.Core.List.{List, [], _∷_, _++_}
+use mathlib.Core.List.{List, [], _∷_, flatMap}
 use lib.Dec.{eqb}
 use lib.ListN.{length}
 use Rattle.text.specs.Bytes.{newline}
@@ -20,8 +20,7 @@ pub record LineTexts : Type 0 where
   pub longestLine : ℕ
 
 unfoldable pub texts : LineTexts → List (List ℕ) → List ℕ
-texts t [] = []
-texts t (l ∷ ls) = t .text l ++ texts t ls
+texts t ls = flatMap (t .text) ls
 
 -- "A last line without newline counts as a line"
 unfoldable pub lastLine : List ℕ → List (List ℕ)

@@ -5,7 +5,7 @@
 --   figuresText-mono   smaller numbers take no more room
 -- Assumes nothing.
 use mathlib.Core.Path.{_≡_, refl, sym, ap, _∙_}
-use mathlib.Core.List.{List, [], _∷_, _++_, append-assoc, append-nil}
+use mathlib.Core.List.{List, [], _∷_, _++_, flatMap, append-assoc, append-nil}
 use Prim.Native.Nat.{ℕ, suc, _+_, _-_, _/_, _%_, _^_, _≤_, _<_}
 use native.Mathlib.Nat.{add-zero}
 use native.Mathlib.Numerals.{add-one}
@@ -13,6 +13,8 @@ use native.Mathlib.Omega.{arith}
 use lib.ListN.{length, take, drop, getD, set, length-append, take-append-drop}
 use lib.Seq.{take-suc}
 use Rattle.numbers.specs.Bounds.{AllAtMost}
+use Rattle.numbers.proofs.RowsLaws.{rows-append, rows-next}
+use Rattle.text.specs.Bytes.{tab}
 use Rattle.text.specs.Decimal.{decimal, figuresText, rowText}
 use Rattle.text.specs.Buffer.{written, Wrote}
 use Rattle.text.proofs.DigitLaws.{decimal-small, decimal-more, decimal-room, decimal-mono}
@@ -74,25 +76,19 @@ number-written n at end first old mid room ends whole content =
     }
 
 -- ---- numbers after tabs
-figuresText-append : (a b : List ℕ) → figuresText (a ++ b) ≡ figuresText a ++ figuresText b
-unfolding figuresText
-figuresText-append [] b = refl
-figuresText-append (n ∷ a) b = ap (λ (l : List ℕ). 9 ∷ l)
-    (ap (λ (l : List ℕ). decimal n ++ l) (figuresText-append a b) ∙ sym (append-assoc (decimal n) (figuresText a) (figuresText b)))
-
 pub figuresText-next : (ns : List ℕ) (i : ℕ) → i < length ns
     → figuresText (take (i + 1) ns) ≡ figuresText (take i ns) ++ (9 ∷ decimal (getD ns i 0))
 unfolding figuresText
-figuresText-next ns i h =
-    rw (add-one i, take-suc ns i 0 h, figuresText-append (take i ns) (getD ns i 0 ∷ []), append-nil)
+figuresText-next ns i h = rows-next _ ns i 0 h
 
 -- the room that the numbers up to one take
 pub figuresText-room : (ns : List ℕ) (i : ℕ) → length (figuresText (take i ns)) ≤ length (figuresText ns)
+unfolding figuresText
 figuresText-room ns i =
     omega (
       arith,
       ap (λ (l : List ℕ). length (figuresText l)) (take-append-drop i ns),
-      ap length (figuresText-append (take i ns) (drop i ns)),
+      ap length (rows-append (λ n. tab ∷ decimal n) (take i ns) (drop i ns)),
       length-append (figuresText (take i ns)) (figuresText (drop i ns)),
     )
 
@@ -127,11 +123,11 @@ row-written {old} {out} {at} {p} b ns room w =
     then-byte 10 (then (first-byte old at b (omega arith)) w (omega arith)) (omega arith)
 
 pub rowText-one : (b n : ℕ) → length (rowText b (n ∷ [])) ≤ 23
-unfolding rowText figuresText
+unfolding rowText figuresText flatMap
 rowText-one b n = omega (arith, decimal-room n, length-append ((decimal n ++ [])) (10 ∷ []), length-append (decimal n) [])
 
 pub figuresText-mono : (ms ns : List ℕ) → AllAtMost ms ns → length (figuresText ms) ≤ length (figuresText ns)
-unfolding figuresText
+unfolding figuresText flatMap
 figuresText-mono [] [] h = omega arith
 figuresText-mono [] (n ∷ ns) h = absurd h
 figuresText-mono (m ∷ ms) [] h = absurd h

@@ -7,7 +7,7 @@
 use Prim.Native.Nat.{ℕ, zero, suc, _+_, _/_, _%_}
 use Prim.Native.Char.{code}
 use mathlib.Core.Bool.{cond}
-use mathlib.Core.List.{List, [], _∷_, _++_}
+use mathlib.Core.List.{List, [], _∷_, _++_, flatMap}
 use lib.Dec.{ltb}
 use Rattle.text.specs.Bytes.{tab, newline}
 
@@ -19,8 +19,7 @@ unfoldable pub decimal : ℕ → List ℕ
 decimal n = decimalUpTo 20 n
 
 unfoldable pub figuresText : List ℕ → List ℕ
-figuresText [] = []
-figuresText (n ∷ ns) = tab ∷ (decimal n ++ figuresText ns)
+figuresText ns = flatMap (λ n. tab ∷ decimal n) ns
 
 unfoldable pub rowText : ℕ → List ℕ → List ℕ
 rowText b ns = b ∷ (figuresText ns ++ (newline ∷ []))

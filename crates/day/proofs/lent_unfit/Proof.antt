@@ -1,11 +1,13 @@
 -- `day::lent_unfit` meets its contract: the two tests are the definition's.
 -- Assumes nothing.
 use mathlib.Core.Path.{sym, _∙_}
+use Rattle.day.specs.Days.{lentUnfit}
 use borrow.Author.Needs.{needs}
 use Rattle.day.proofs.lent_unfit.Statement.{statement}
 use Rattle.day.proofs.lent_unfit.Tie as tie
 
 pub lent-unfit-spec : {M : Type 1} → statement M
+unfolding lentUnfit
 lent-unfit-spec =
     tie.close
     (tie.spec (λ c κs. search needs)

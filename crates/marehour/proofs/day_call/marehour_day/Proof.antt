@@ -1,24 +1,19 @@
 -- `marehour::day_call::marehour_day` meets its contract: 18, then 15, then the answers to the case that was read.
 -- Assumes nothing.
-use mathlib.Core.Path.{sym, ap, _∙_}
-use mathlib.Core.List.{List}
-use Prim.Native.Nat.{ℕ, _/_}
+use mathlib.Core.Path.{refl, sym, ap, _∙_}
 use native.Mathlib.Omega.{arith}
 use lib.ListN.{length}
-use Rattle.day.specs.Days.{figureCount, lentRefusals}
-use Rattle.day.proofs.DayLaws.{lent-number}
+use Rattle.day.specs.Days.{lentRefusals}
+use Rattle.day.proofs.DayLaws.{lent-number, lent-passed, dayFigures-count}
+use Rattle.day.proofs.Promises.{lent-fits-exactly}
 use Rattle.lines.specs.declared.read.LineRead.the-variants as LineRead
 use Rattle.lines.specs.Reading.{readLine}
 use Rattle.lines.proofs.ReadingLaws.{readLine-refused}
-use Rattle.marehour.specs.Calls.{dayReply}
-use Rattle.marehour.proofs.CallLaws.{call-lent, call-refused, call-case}
+use Rattle.marehour.specs.Calls.{dayReply, answerCount}
+use Rattle.marehour.proofs.CallLaws.{call-lent, call-refused, call-wrote, positive-fits}
 use borrow.Author.Needs.{needs}
 use Rattle.marehour.proofs.day_call.marehour_day.Statement.{statement}
 use Rattle.marehour.proofs.day_call.marehour_day.Tie as tie
-
--- how a day is counted
-abbrev answers : List ℕ → ℕ
-answers ns = length ns / figureCount
 
 refused-requires : tie.Need-refused-requires
 refused-requires c κs =
@@ -28,7 +23,7 @@ returns : tie.Need-returns
 returns c =
     let a = c .before .before .before .before .before .before .args in
     let own = c .before .before .lent-refusal .ensures in
-    call-lent answers (dayReply (a .demands .now)) (readLine (a .line .now)) (lentRefusals _ _) (a .answers .now) (c .refused .result) _ own (c .before .if1 .taken)
+    call-lent answerCount (dayReply (a .demands .now)) (readLine (a .line .now)) (lentRefusals _ _) (a .answers .now) (c .refused .result) _ own (c .before .if1 .taken)
     (omega (arith, lent-number _ _ _ own (c .before .if1 .taken))) (c .refused .ensures)
 
 returns-2 : tie.Need-returns-2
@@ -36,22 +31,29 @@ returns-2 c =
     let found = c .before .before .before .before .before in
     let a = found .before .before .before .before .args in
     let e = sym (c .before .before .before .read-line .ensures) ∙ c .before .enum-told .given .1 in
-    call-refused answers (dayReply (a .demands .now)) _ (lentRefusals _ _) (a .answers .now)
-    (omega (arith, found .lent-refusal .ensures, c .before .before .before .before .if1 .left)) (c .refused2 .result) 15
+    call-refused answerCount (dayReply (a .demands .now)) _ (lentRefusals _ _) (a .answers .now)
+    (lent-passed _ _ _ (found .lent-refusal .ensures) (c .before .before .before .before .if1 .left)) (c .refused2 .result) 15
     (omega arith) (e ∙ ap LineRead.Refused (readLine-refused (a .line .now) _ e)) (c .refused2 .ensures)
+
+-- 32 bits hold the count of the demands
+cast-result : tie.Need-cast-result
+cast-result c =
+    let found = c .before .before .before .before .before .before .before .before in
+    let fits = lent-passed _ _ _ (found .before .lent-refusal .ensures) (found .if1 .left) in
+    positive-fits _ (omega (arith, lent-fits-exactly _ _ .0 fits))
 
 returns-3 : tie.Need-returns-3
 returns-3 c =
-    let s = c .before .before .day-case in
-    let found = c .before .before .before .before .before .before .before .before .before in
-    let a = found .before .before .before .before .args in
-    call-case answers (dayReply (a .demands .now)) _ (lentRefusals _ _) (a .answers .now)
-    (omega (arith, found .lent-refusal .ensures, c .before .before .before .before .before .before .before .before .if1 .left)) (s .result) _ _
+    let found = c .before .before .before .before .before .before .before .before in
+    let a = found .before .before .before .before .before .args in
+    let fits = lent-passed _ _ _ (found .before .lent-refusal .ensures) (found .if1 .left) in
+    call-wrote answerCount (dayReply (a .demands .now)) _ (lentRefusals _ _) (a .answers .now) fits _ _ _ _
     (sym (c .before .before .before .before .before .before .before .read-line .ensures)
-    ∙ c .before .before .before .before .before .reading .given .1) (search needs) (s .ensures)
+    ∙ c .before .before .before .before .before .reading .given .1) refl
+    (sym (dayFigures-count _ (a .demands .now))) (omega (arith, lent-fits-exactly _ _ .0 fits)) (c .before .before .put-day .ensures)
 
 pub marehour-day-spec : {M : Type 1} → statement M
 marehour-day-spec =
     tie.close
     (tie.spec (λ c κs. search needs) refused-requires returns (λ c κs. search needs) (λ c. search needs) (λ c. search needs)
-    (λ c κs. search needs) returns-2 (λ c κs. search needs) (λ c. search needs) returns-3)
+    (λ c κs. search needs) returns-2 (λ c κs. search needs) cast-result (λ c. search needs) returns-3)

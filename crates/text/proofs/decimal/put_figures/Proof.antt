@@ -1,6 +1,7 @@
 -- `text::decimal::put_figures` meets its contract: each turn writes a tab and a number behind what the figures before it took.
 -- Assumes nothing.
 use mathlib.Core.Path.{_≡_, refl, sym}
+use mathlib.Core.List.{flatMap}
 use Prim.Native.Nat.{_+_, _-_, _≤_}
 use native.Mathlib.Omega.{arith}
 use native.Mathlib.Nat.{add-zero}
@@ -22,7 +23,7 @@ abbrev μ-loop : tie.MeasureT-loop
 μ-loop figures out₀ at p₀ i₀ out p i = length figures - i
 
 loop-holds : tie.Need-loop-holds Inv-loop μ-loop
-unfolding figuresText
+unfolding figuresText flatMap
 loop-holds c = (search needs, refl, record { content = sym (none-written _ _); ends = sym (add-zero _) })
 
 slice-write-out : tie.Need-slice-write-out Inv-loop μ-loop
