@@ -33,7 +33,7 @@ use Rattle.day.specs.declared.DayAnswer.the-variants as DayAnswer
 abbrev pub mostDemands : ℕ
 mostDemands = 24
 
--- the refusal's number and the eleven figures
+-- the refusal's number and the eleven figures of a graded answer
 abbrev pub figureCount : ℕ
 figureCount = 12
 

@@ -102,7 +102,8 @@ day-case line demands room case z e = day-read line demands room z ∙ ap (lineR
 pub day-hands-back : DayHandsBack
 day-hands-back line demands room = (
   λ unfit. ⊎-elim (λ z. absurd (unfit z)) (λ p. ap dayResult (day-unfit line demands room p)) (eq-zero-or-pos _),
-  λ z n e. ap dayResult (day-read line demands room z ∙ ap (lineReply (dayReply demands)) (e ∙ ap LineRead.Refused (readLine-refused line n e))),
+  λ z n e. ap dayResult
+      (day-read line demands room z ∙ ap (lineReply (dayReply demands)) (e ∙ ap LineRead.Refused (readLine-refused line n e))),
   λ z case e. ap dayResult (day-case line demands room case z e) ∙ ap pos (dayFigures-count case demands),
 )
 

@@ -35,8 +35,8 @@ abbrev pub printedAnswer : String
 printedAnswer = "C\t60783\t230783\t1196\t60783\t197\t1117\t1829\t2642\t3360\t3858\n"
 
 -- Starred: the printed line. Not starred: what is printed for it between an empty line and a last line without newline; an empty input;
--- its day with 2,000, 1,000,000 and 2,643; its 13 values, letters by their bytes; the line with a leading zero, six digits and an empty field as its demand, with a 14th field, and
--- with an unknown terrain.
+-- its day with 2,000, 1,000,000 and 2,643; its 13 values, letters by their bytes; the line with a leading zero, six digits and an empty
+-- field as its demand, with a 14th field, and with an unknown terrain.
 unfoldable pub addedFigures : List Figure
 addedFigures =
     figure (lineText (bytesOf printedLine)) (bytesOf printedAnswer)

@@ -47,7 +47,8 @@ abbrev pub DayHandsBack : Type 0
 DayHandsBack =
     (line demands : List ℕ) (room : ℕ)
     → ((LentFits (length demands) room → ⊥) → dayResult (dayCall line demands room) ≡ negℤ (pos 18))
-    × (LentFits (length demands) room → (n : ℕ) → readLine line ≡ LineRead.Refused n → dayResult (dayCall line demands room) ≡ negℤ (pos 15))
+    × (LentFits (length demands) room → (n : ℕ) → readLine line ≡ LineRead.Refused n
+    → dayResult (dayCall line demands room) ≡ negℤ (pos 15))
     × (LentFits (length demands) room → (case : Case) → readLine line ≡ LineRead.Case case
     → dayResult (dayCall line demands room) ≡ pos (length demands))
 

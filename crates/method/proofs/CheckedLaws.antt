@@ -13,7 +13,8 @@ use mathlib.Core.Path.{_≡_, refl, sym, ap, _∙_}
 use Prim.Native.Nat.{ℕ, _<_}
 use native.Mathlib.Omega.{arith}
 use Rattle.checks.specs.Refusals.{unlessRefused}
-use Rattle.checks.proofs.RefusalLaws.{unlessRefused-none, unlessRefused-some, unlessRefused-number, unlessRefused-found, unlessRefused-refused}
+use Rattle.checks.proofs.RefusalLaws.{unlessRefused-none, unlessRefused-some, unlessRefused-number, unlessRefused-found}
+use Rattle.checks.proofs.RefusalLaws.{unlessRefused-refused}
 use Rattle.curve.specs.declared.Curve.{Curve}
 use Rattle.curve.specs.Curves.{curveAt, WellFormed, Sized}
 use Rattle.curve.proofs.CurveLaws.{curveAt-wellFormed, curveAt-sized}

@@ -1,4 +1,4 @@
--- Text in a lent buffer, piece by piece (specs/Buffer).
+-- Text, or numbers as they are, in a lent buffer, piece by piece (specs/Buffer). A byte of a law may be any number.
 --   length-written, none-written   a buffer keeps its length; no text leaves it as it was
 --   twice-written    one piece after another
 --   set-written, set-before   a byte at a place; a byte before text that was written behind its place

@@ -4,14 +4,12 @@
 --   figuresText-next, figuresText-room, next-room, rowText-length, rowText-one   the room that figures and rows take
 --   figuresText-mono   smaller numbers take no more room
 -- Assumes nothing.
-use mathlib.Core.Path.{_≡_, refl, sym, ap, _∙_}
+use mathlib.Core.Path.{_≡_, sym, ap, _∙_}
 use mathlib.Core.List.{List, [], _∷_, _++_, flatMap, append-assoc, append-nil}
 use Prim.Native.Nat.{ℕ, suc, _+_, _-_, _/_, _%_, _^_, _≤_, _<_}
 use native.Mathlib.Nat.{add-zero}
-use native.Mathlib.Numerals.{add-one}
 use native.Mathlib.Omega.{arith}
 use lib.ListN.{length, take, drop, getD, set, length-append, take-append-drop}
-use lib.Seq.{take-suc}
 use Rattle.numbers.specs.Bounds.{AllAtMost}
 use Rattle.numbers.proofs.RowsLaws.{rows-append, rows-next}
 use Rattle.text.specs.Bytes.{tab}

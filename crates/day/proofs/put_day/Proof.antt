@@ -12,7 +12,9 @@ put-accepted-requires : tie.Need-put-accepted-requires
 put-accepted-requires c κs =
     let asked = c .before .before .before .before .before in
     let s = asked .before .before .before in
-    (sym (ap checked (asked .with-demand .ensures)) ∙ sym (c .before .before .before .before .check .ensures) ∙ c .before .before .checked .given .1, s .pre)
+    let e = sym (ap checked (asked .with-demand .ensures)) ∙ sym (c .before .before .before .before .check .ensures)
+    ∙ c .before .before .checked .given .1 in
+    (e, s .pre)
 
 put-answers-requires : tie.Need-put-answers-requires
 put-answers-requires c κs =

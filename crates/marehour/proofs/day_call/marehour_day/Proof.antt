@@ -2,7 +2,6 @@
 -- Assumes nothing.
 use mathlib.Core.Path.{refl, sym, ap, _∙_}
 use native.Mathlib.Omega.{arith}
-use lib.ListN.{length}
 use Rattle.day.specs.Days.{lentRefusals}
 use Rattle.day.proofs.DayLaws.{lent-number, lent-passed, dayFigures-count}
 use Rattle.day.proofs.Promises.{lent-fits-exactly}
@@ -23,8 +22,8 @@ returns : tie.Need-returns
 returns c =
     let a = c .before .before .before .before .before .before .args in
     let own = c .before .before .lent-refusal .ensures in
-    call-lent answerCount (dayReply (a .demands .now)) (readLine (a .line .now)) (lentRefusals _ _) (a .answers .now) (c .refused .result) _ own (c .before .if1 .taken)
-    (omega (arith, lent-number _ _ _ own (c .before .if1 .taken))) (c .refused .ensures)
+    call-lent answerCount (dayReply (a .demands .now)) (readLine (a .line .now)) (lentRefusals _ _) (a .answers .now) (c .refused .result) _
+    own (c .before .if1 .taken) (omega (arith, lent-number _ _ _ own (c .before .if1 .taken))) (c .refused .ensures)
 
 returns-2 : tie.Need-returns-2
 returns-2 c =

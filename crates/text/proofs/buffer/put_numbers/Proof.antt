@@ -33,13 +33,14 @@ loop-again c =
     ap (λ n. take n (a .numbers .now)) (add-one (l .i)) ∙ take-suc (a .numbers .now) (l .i) 0 (omega arith) in (
       search needs,
       simp length-set (l .inv .1),
-      rw next (then-byte _ (l .inv .2) (omega (arith, length-take-le (l .i) (a .numbers .now) (l .inv .0), c .before .before .before .pre))),
+      rw next
+          (then-byte _ (l .inv .2) (omega (arith, length-take-le (l .i) (a .numbers .now) (l .inv .0), c .before .before .before .pre))),
     )
 
 pub put-numbers-spec : {M : Type 1} → statement M
 put-numbers-spec =
     tie.close
     (tie.spec Inv-loop μ-loop (λ c. (search needs, refl, record { content = sym (none-written _ _); ends = sym (add-zero _) }))
-    (λ c. search needs) (λ c. search needs) (λ c. let low = place c in search needs) place (λ c. let low = place c in search needs) (λ c. search needs) (λ c. search needs)
-    loop-again (λ c. search needs)
+    (λ c. search needs) (λ c. search needs) (λ c. let low = place c in search needs) place
+    (λ c. let low = place c in search needs) (λ c. search needs) (λ c. search needs) loop-again (λ c. search needs)
     (λ c. rw (take-all _ _ (c .loop-test .left)) at (c .before .loop .inv .2)))
