@@ -151,9 +151,9 @@ int32_t marehour_day(const uint8_t *line, size_t line_length, const uint64_t *de
      the refusal's number, 0 for none; letter by its number, A to F; free-flow speed; capacity; flow
      rate; speed; density; service volumes A to E
 
-   The number is 0, or the first of 1 to 10 that refuses the section with that demand; the other
-   eleven are 0 then. A demand above 99,999 gets 7, or one of 1 to 6 where that refuses the section;
-   the other positions go on.
+   Where one of 1 to 10 refuses the section with that demand, the number is the first that does, and
+   the other eleven are 0. A demand above 99,999 gets 7, or one of 1 to 6 where that refuses the
+   section; the other positions go on.
 
    The result is the count of answers written, which is demand_count; or minus the first of these
    refusals that holds, in this order:
