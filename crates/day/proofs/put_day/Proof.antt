@@ -1,7 +1,6 @@
 -- `day::put_day` meets its contract: the check with no demand finds a curve, or what refuses the case with every demand that 7 lets pass.
 -- Assumes nothing.
 use mathlib.Core.Path.{sym, ap, _∙_}
-use native.Mathlib.Omega.{arith}
 use Rattle.method.specs.Checked.{checked}
 use Rattle.method.proofs.CheckedLaws.{checked-refused, checked-number}
 use borrow.Author.Needs.{needs}
@@ -23,7 +22,7 @@ put-answers-requires c κs =
     let e = sym (ap checked (asked .with-demand .ensures)) ∙ sym (c .before .before .before .before .before .check .ensures)
     ∙ c .before .before .before .checked2 .given .1 in
     let own = checked-number _ _ e in
-    ((sym own, omega (arith, checked-refused _ _ e, own)), s .pre)
+    ((sym own, rw own at (checked-refused _ _ e)), s .pre)
 
 pub put-day-spec : {M : Type 1} → statement M
 put-day-spec =
