@@ -1,5 +1,6 @@
 -- The numbers of a day (specs/Days).
 --   answerFigures-length          an answer has twelve numbers
+--   number-first, letter-second   the first is its refusal's number, the second its letter's
 --   dayFigures-length             a day has twelve for each demand
 --   dayFigures-next, dayFigures-at   those of one demand more; those of one of the demands
 --   dayFigures-count              as many answers as demands
@@ -27,7 +28,8 @@ use Rattle.road.specs.declared.Case.{Case}
 use Rattle.road.specs.Cases.{withDemand}
 use Rattle.answer.specs.declared.evaluate.Answer.{Answer}
 use Rattle.answer.specs.declared.evaluate.Answer.the-variants as Answer
-use Rattle.answer.specs.Answers.{answerTo}
+use Rattle.answer.specs.Answers.{answerTo, refusalNumber}
+use Rattle.answer.specs.Promises.{letterIn}
 use Rattle.day.specs.declared.DayAnswer.the-variants as DayAnswer
 use Rattle.day.specs.Days.{mostDemands, figureCount, answerFigures, dayFigures, dayWritten, lentUnfit, lentRefusals, LentFits}
 use Rattle.day.specs.Days.{dayAnswer, dayContent}
@@ -35,6 +37,14 @@ use Rattle.day.specs.Days.{dayAnswer, dayContent}
 pub answerFigures-length : (a : Answer) → length (answerFigures a) ≡ figureCount
 answerFigures-length (Answer.Graded g) = refl
 answerFigures-length (Answer.Refused n) = refl
+
+pub number-first : (a : Answer) → getD (answerFigures a) 0 0 ≡ refusalNumber a
+number-first (Answer.Graded g) = refl
+number-first (Answer.Refused n) = refl
+
+pub letter-second : (a : Answer) → getD (answerFigures a) 1 0 ≡ letterIn a
+letter-second (Answer.Graded g) = refl
+letter-second (Answer.Refused n) = refl
 
 pub lent-number : (n room number : ℕ) → number ≡ firstRefusal (lentRefusals n room) → 0 < number → number ≡ 18
 unfolding lentRefusals

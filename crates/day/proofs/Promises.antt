@@ -3,7 +3,7 @@
 --   past-the-demands-kept, refused-day-changes-nothing, lent-fits-exactly
 -- Assumes nothing.
 use mathlib.Core.Path.{_≡_, refl, sym, ap, _∙_}
-use mathlib.Core.Logic.{⊎-elim}
+use mathlib.Core.Logic.{_⊎_, ⊎-elim}
 use mathlib.Core.Bool.{cond}
 use mathlib.Core.List.{List, _++_}
 use Prim.Native.Nat.{ℕ, _*_, _/_, _≤_, _<_, min}
@@ -21,18 +21,22 @@ use Rattle.text.specs.Buffer.{written}
 use Rattle.curve.specs.declared.service.Letter.{Letter}
 use Rattle.curve.specs.declared.service.Letter.the-variants as Letter
 use Rattle.curve.specs.Service.{letterNumber}
+use Rattle.road.specs.declared.Case.{Case}
 use Rattle.road.specs.Cases.{withDemand}
 use Rattle.road.specs.Refusals.{greatestDemand}
 use Rattle.method.specs.Refusals.{refusal}
 use Rattle.method.proofs.RefusalLaws.{refusal-within, refusal-above, accepted-withDemand}
 use Rattle.answer.specs.declared.evaluate.Answer.{Answer}
 use Rattle.answer.specs.declared.evaluate.Answer.the-variants as Answer
+use Rattle.answer.specs.Answers.{answerTo}
+use Rattle.answer.specs.Promises.{letterIn}
 use Rattle.answer.proofs.AnswerLaws.{answerTo-number}
 use Rattle.answer.proofs.Promises.{no-better-under-more-load}
-use Rattle.day.specs.Days.{mostDemands, figureCount, answerFigures, dayFigures, lentUnfit, lentRefusals, LentFits}
+use Rattle.day.specs.Days.{mostDemands, figureCount, answerFigures, dayFigures, lentUnfit, lentRefusals, LentFits, dayContent}
 use Rattle.day.specs.Promises.{position, DayIsTheSingleCalls, PositionHoldsTheAnswer, FiguresTellTheAnswer, PastTheDemandsKept}
-use Rattle.day.specs.Promises.{roadNumber, PositionNumbers, NoBetterWithMoreDemand, RefusedDayChangesNothing, LentFitsExactly}
-use Rattle.day.proofs.DayLaws.{dayFigures-length, dayFigures-at, lent-room, day-refused, day-answered}
+use Rattle.day.specs.Promises.{numberAt, letterNumberAt, roadNumber, PositionNumbers, NoBetterWithMoreDemand}
+use Rattle.day.specs.Promises.{RefusedDayChangesNothing, LentFitsExactly}
+use Rattle.day.proofs.DayLaws.{number-first, letter-second, dayFigures-length, dayFigures-at, lent-room, day-refused, day-answered}
 
 pub day-is-the-single-calls : DayIsTheSingleCalls
 unfolding written
@@ -87,14 +91,29 @@ pub figures-tell-the-answer : FiguresTellTheAnswer
 figures-tell-the-answer a b e = sym (answerOf-figures a) ∙ ap answerOf e ∙ answerOf-figures b
 
 -- ---- the number and the letter in a position
-pub position-numbers : PositionNumbers
-position-numbers case demand =
-    let asked = withDemand case demand in
-    let number = answerTo-number asked in (
-      λ h. number ∙ refusal-within asked h,
-      λ h k. number ∙ refusal-above asked h ∙ ⊎-elim (λ e. rw e) (λ p. later p) k,
-      λ p k. number ∙ either (decLe demand greatestDemand) p k,
-    )
+module _ (case : Case) (demands old : List ℕ) (z : LentFits (length demands) (length old)) (i : ℕ) (h : i < length demands) where
+  asked : Case
+  asked = withDemand case (getD demands i 0)
+
+  number-at : numberAt i (dayContent case demands old) ≡ refusal asked
+  unfolding asked
+  number-at =
+      ap (λ ns. getD ns 0 0) (position-holds-the-answer case demands old z i h) ∙ number-first (answerTo asked) ∙ answerTo-number asked
+
+  letter-at : letterNumberAt i (dayContent case demands old) ≡ letterIn (answerTo asked)
+  unfolding asked
+  letter-at = ap (λ ns. getD ns 1 0) (position-holds-the-answer case demands old z i h) ∙ letter-second (answerTo asked)
+
+-- by the refusal of the case with the demand
+numbers : (case : Case) (demand : ℕ)
+    → (demand ≤ greatestDemand → refusal (withDemand case demand) ≡ roadNumber case)
+    × (greatestDemand < demand → (roadNumber case ≡ 0) ⊎ (7 < roadNumber case) → refusal (withDemand case demand) ≡ 7)
+    × (1 ≤ roadNumber case → roadNumber case ≤ 6 → refusal (withDemand case demand) ≡ roadNumber case)
+numbers case demand = (
+  refusal-within (withDemand case demand),
+  λ h k. refusal-above (withDemand case demand) h ∙ ⊎-elim (λ e. rw e) later k,
+  either (decLe demand greatestDemand),
+)
   where
     later : 7 < roadNumber case → unlessRefused (roadNumber case) 7 (λ n. min n 7) ≡ 7
     later p = unlessRefused-some (roadNumber case) 7 (λ n. min n 7) (omega arith) ∙ omega arith
@@ -106,10 +125,23 @@ position-numbers case demand =
     either (yes h) p k = refusal-within (withDemand case demand) h
     either (no h) p k = refusal-above (withDemand case demand) (omega arith) ∙ earlier p k
 
+pub position-numbers : PositionNumbers
+unfolding asked
+position-numbers case demands old z i h =
+    let at = number-at case demands old z i h in
+    let by = numbers case (getD demands i 0) in (
+      λ k. at ∙ by .0 k,
+      λ k r. at ∙ by .1 k r,
+      λ p k. at ∙ by .2 p k,
+    )
+
 pub no-better-with-more-demand : NoBetterWithMoreDemand
-no-better-with-more-demand case a less more h k =
-    no-better-under-more-load (withDemand case less) (withDemand case more) (accepted-withDemand (withDemand case 0) less a (omega arith))
-    (accepted-withDemand (withDemand case 0) more a k) refl h (omega arith) (omega arith) (omega arith) (omega arith)
+unfolding asked
+no-better-with-more-demand case demands old z a i j h k less fits =
+    rw (letter-at case demands old z i h, letter-at case demands old z j k)
+    (no-better-under-more-load (withDemand case (getD demands i 0)) (withDemand case (getD demands j 0))
+    (accepted-withDemand (withDemand case 0) (getD demands i 0) a (omega arith))
+    (accepted-withDemand (withDemand case 0) (getD demands j 0) a fits) refl less (omega arith) (omega arith) (omega arith) (omega arith))
 
 -- ---- what is not written
 -- 18 refuses or does not

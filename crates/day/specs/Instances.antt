@@ -1,5 +1,6 @@
 -- Instances of a day, with every hypothesis of its promises met; proofs/Instances shows each.
 --   at2000, at2643      the numbers of the printed road of document 01 with these demands
+--   refusedWith n       the numbers of a position that n refuses
 --   exampleDemands, exampleDay   these demands on it with one that 7 refuses between, and what 38 nines then are: three positions, and
 --                       two numbers kept
 --   refusedBy8          F G 75000 120 60 60 D 0 2 V 249 0 L
@@ -16,7 +17,7 @@ use Rattle.road.specs.declared.Terrain.the-variants as Terrain
 use Rattle.road.specs.declared.Case.{Case}
 use Rattle.road.specs.Cases.{loaded, withLanes}
 use Rattle.method.specs.Boundary.{example, given, twoLanes}
-use Rattle.day.specs.Days.{figuresOf, dayAnswer, dayContent, refusalNumber, values}
+use Rattle.day.specs.Days.{dayAnswer, dayContent, refusalNumber, values}
 
 abbrev pub at2000 : List ℕ
 at2000 = 0 ∷ 3 ∷ 60783 ∷ 230783 ∷ 1196 ∷ 60783 ∷ 197 ∷ 1117 ∷ 1829 ∷ 2642 ∷ 3360 ∷ 3858 ∷ []
@@ -24,11 +25,14 @@ at2000 = 0 ∷ 3 ∷ 60783 ∷ 230783 ∷ 1196 ∷ 60783 ∷ 197 ∷ 1117 ∷ 18
 abbrev pub at2643 : List ℕ
 at2643 = 0 ∷ 4 ∷ 60783 ∷ 230783 ∷ 1581 ∷ 60780 ∷ 261 ∷ 1117 ∷ 1829 ∷ 2642 ∷ 3360 ∷ 3858 ∷ []
 
+abbrev pub refusedWith : ℕ → List ℕ
+refusedWith n = n ∷ 0 ∷ 0 ∷ 0 ∷ 0 ∷ 0 ∷ 0 ∷ 0 ∷ 0 ∷ 0 ∷ 0 ∷ 0 ∷ []
+
 abbrev pub exampleDemands : List ℕ
 exampleDemands = 2000 ∷ 1000000 ∷ 2643 ∷ []
 
 abbrev pub exampleDay : List ℕ
-exampleDay = at2000 ++ (figuresOf 7 [] ++ (at2643 ++ (9 ∷ 9 ∷ [])))
+exampleDay = at2000 ++ (refusedWith 7 ++ (at2643 ++ (9 ∷ 9 ∷ [])))
 
 abbrev pub refusedBy8 : Case
 refusedBy8 = loaded (given Kind.Freeway 75000 120) 2 0 249 0 Terrain.Level
@@ -50,9 +54,9 @@ unfoldable pub dayInstances : List Figure
 dayInstances =
     figure (dayContent example exampleDemands (replicate 38 9)) exampleDay
     ∷ figure (dayContent example exampleDemands (replicate 35 9)) (replicate 35 9)
-    ∷ figure (dayContent refusedBy8 (1000000 ∷ 5 ∷ []) (replicate 24 9)) (figuresOf 7 [] ++ figuresOf 8 [])
-    ∷ figure (dayContent refusedBy10 (1000000 ∷ 5 ∷ 1000000 ∷ []) (replicate 36 9)) (figuresOf 7 [] ++ (figuresOf 10 [] ++ figuresOf 7 []))
-    ∷ figure (dayContent refusedBy6 (1000000 ∷ 5 ∷ []) (replicate 24 9)) (figuresOf 6 [] ++ figuresOf 6 [])
+    ∷ figure (dayContent refusedBy8 (1000000 ∷ 5 ∷ []) (replicate 24 9)) (refusedWith 7 ++ refusedWith 8)
+    ∷ figure (dayContent refusedBy10 (1000000 ∷ 5 ∷ 1000000 ∷ []) (replicate 36 9)) (refusedWith 7 ++ (refusedWith 10 ++ refusedWith 7))
+    ∷ figure (dayContent refusedBy6 (1000000 ∷ 5 ∷ []) (replicate 24 9)) (refusedWith 6 ++ refusedWith 6)
     ∷ figure (called 0 300) (18 ∷ [])
     ∷ figure (called 1 300) (0 ∷ 1 ∷ [])
     ∷ figure (called 24 300) (0 ∷ 24 ∷ [])

@@ -1,6 +1,7 @@
 -- What a reader of the lent answers is promised (document 02, T-01), over the definitions that the contract of `evaluate_day` cites;
 -- proofs/Promises proves each.
 --   position i ns                the twelve numbers of position i, counted from 0
+--   numberAt i ns, letterNumberAt i ns   the first two of them: the refusal's number, and the letter's
 --   DayIsTheSingleCalls          the lent numbers afterwards are the answers of the single call with each demand, in order, and then what
 --                                stood there
 --   PositionHoldsTheAnswer       position i holds what the single call answers with demand i
@@ -23,8 +24,7 @@ use Rattle.road.specs.Cases.{withDemand}
 use Rattle.answer.specs.declared.evaluate.Answer.{Answer}
 use Rattle.road.specs.Refusals.{greatestDemand}
 use Rattle.method.specs.Refusals.{refusal}
-use Rattle.answer.specs.Answers.{answerTo, refusalNumber}
-use Rattle.answer.specs.Promises.{letterIn}
+use Rattle.answer.specs.Answers.{answerTo}
 use Rattle.day.specs.Days.{mostDemands, figureCount, answerFigures, dayFigures, LentFits, dayContent}
 
 abbrev pub position : ℕ → List ℕ → List ℕ
@@ -44,6 +44,12 @@ PositionHoldsTheAnswer =
 abbrev pub FiguresTellTheAnswer : Type 0
 FiguresTellTheAnswer = (a b : Answer) → answerFigures a ≡ answerFigures b → a ≡ b
 
+abbrev pub numberAt : ℕ → List ℕ → ℕ
+numberAt i ns = getD (position i ns) 0 0
+
+abbrev pub letterNumberAt : ℕ → List ℕ → ℕ
+letterNumberAt i ns = getD (position i ns) 1 0
+
 abbrev pub roadNumber : Case → ℕ
 roadNumber case = refusal (withDemand case 0)
 
@@ -51,15 +57,16 @@ roadNumber case = refusal (withDemand case 0)
 -- in each position", which is 7 for such a demand where 8, 9 or 10 refuses the road
 abbrev pub PositionNumbers : Type 0
 PositionNumbers =
-    (case : Case) (demand : ℕ)
-    → (demand ≤ greatestDemand → refusalNumber (answerTo (withDemand case demand)) ≡ roadNumber case)
-    × (greatestDemand < demand → (roadNumber case ≡ 0) ⊎ (7 < roadNumber case) → refusalNumber (answerTo (withDemand case demand)) ≡ 7)
-    × (1 ≤ roadNumber case → roadNumber case ≤ 6 → refusalNumber (answerTo (withDemand case demand)) ≡ roadNumber case)
+    (case : Case) (demands old : List ℕ) → LentFits (length demands) (length old) → (i : ℕ) → i < length demands
+    → (getD demands i 0 ≤ greatestDemand → numberAt i (dayContent case demands old) ≡ roadNumber case)
+    × (greatestDemand < getD demands i 0 → (roadNumber case ≡ 0) ⊎ (7 < roadNumber case) → numberAt i (dayContent case demands old) ≡ 7)
+    × (1 ≤ roadNumber case → roadNumber case ≤ 6 → numberAt i (dayContent case demands old) ≡ roadNumber case)
 
 abbrev pub NoBetterWithMoreDemand : Type 0
 NoBetterWithMoreDemand =
-    (case : Case) → roadNumber case ≡ 0 → (less more : ℕ) → less ≤ more → more ≤ greatestDemand
-    → letterIn (answerTo (withDemand case less)) ≤ letterIn (answerTo (withDemand case more))
+    (case : Case) (demands old : List ℕ) → LentFits (length demands) (length old) → roadNumber case ≡ 0
+    → (i j : ℕ) → i < length demands → j < length demands → getD demands i 0 ≤ getD demands j 0 → getD demands j 0 ≤ greatestDemand
+    → letterNumberAt i (dayContent case demands old) ≤ letterNumberAt j (dayContent case demands old)
 
 abbrev pub PastTheDemandsKept : Type 0
 PastTheDemandsKept =

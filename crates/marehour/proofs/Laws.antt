@@ -35,43 +35,44 @@ use Rattle.marehour.specs.Laws.{lastRefusal, WithinEnds, RepliesWithinEn
 use Rattle.marehour.specs.Laws.{DayCallIsTheDay, PositionIsTheLinesAnswer}
 use Rattle.marehour.proofs.CallLaws.{count-length, buffer-fits}
 
-answer-ends : (case : Case) → WithinEnds longestAnswer (caseReply case)
+answer-ends : (case : Case) → WithinEnds 1 longestAnswer (caseReply case)
 answer-ends case =
-    unlessRefused-by (refusal case) (Answer.Graded (graded case)) Answer.Refused (λ a. WithinEnds longestAnswer (answerReply a))
+    unlessRefused-by (refusal case) (Answer.Graded (graded case)) Answer.Refused (λ a. WithinEnds 1 longestAnswer (answerReply a))
     (λ z. (answerText-pos (Answer.Graded (graded case)), rw (answerTo-accepted case z) at (answerText-le case)))
     (λ p. (p, omega (arith, refusal-le case)))
 
-count-ends : (letter : ℕ) (case : Case) → WithinEnds longestAnswer (lanesReply letter case)
+count-ends : (letter : ℕ) (case : Case) → WithinEnds 1 longestAnswer (lanesReply letter case)
 count-ends letter case =
     let number : ℕ = firstRefusal (lanesRefusals case letter) in
     let found = LanesAnswer.Lanes (lanesFound case letter) in
-    unlessRefused-by number found LanesAnswer.Refused (λ a. WithinEnds longestAnswer (countReply a))
+    unlessRefused-by number found LanesAnswer.Refused (λ a. WithinEnds 1 longestAnswer (countReply a))
     (λ z. let long = count-length _
     (counts-are-digits case letter _ (ap values (unlessRefused-none number found LanesAnswer.Refused z))) in (omega arith, omega arith))
     (λ p. (p, omega (arith, refusals-within-ends case letter .1, lanesAnswer-number case letter)))
 
 day-ends : (demands : List ℕ) (room : ℕ) → LentFits (length demands) room → (case : Case)
-    → WithinEnds (mostDemands * figureCount) (dayReply demands case)
+    → WithinEnds figureCount (mostDemands * figureCount) (dayReply demands case)
 day-ends demands room z case =
     let fits = lent-fits-exactly (length demands) room .0 z in
     (omega (arith, dayFigures-length case demands, fits .0), omega (arith, dayFigures-length case demands, fits .1))
 
 -- lent memory that is refused, a line that is refused with 15, or a case
-of-line : (most : ℕ) (reply : Case → Reply) (lent : List Refusal) → firstRefusal lent ≤ lastRefusal
-    → (firstRefusal lent ≡ 0 → (case : Case) → WithinEnds most (reply case)) → (line : List ℕ)
-    → WithinEnds most (lineCall reply (readLine line) lent)
-of-line most reply lent h ends line =
-    unlessRefused-by (firstRefusal lent) (lineReply reply (readLine line)) refusalReply (WithinEnds most)
-    (λ z. readLine-by (λ r. WithinEnds most (lineReply reply r)) (ends z) (omega arith, omega arith) line) (λ p. (p, h))
+of-line : (least most : ℕ) (reply : Case → Reply) (lent : List Refusal) → firstRefusal lent ≤ lastRefusal
+    → (firstRefusal lent ≡ 0 → (case : Case) → WithinEnds least most (reply case)) → (line : List ℕ)
+    → WithinEnds least most (lineCall reply (readLine line) lent)
+of-line least most reply lent h ends line =
+    unlessRefused-by (firstRefusal lent) (lineReply reply (readLine line)) refusalReply (WithinEnds least most)
+    (λ z. readLine-by (λ r. WithinEnds least most (lineReply reply r)) (ends z) (omega arith, omega arith) line) (λ p. (p, h))
 
 pub replies-within-ends : RepliesWithinEnds
 unfolding bufferRefusals lentRefusals
 replies-within-ends line letter room demands =
     let buffer = firstRefusal-le lastRefusal (bufferRefusals room) tt in
     let lent = lentRefusals (length demands) room in (
-      of-line longestAnswer caseReply (bufferRefusals room) buffer (λ z. answer-ends) line,
-      of-line longestAnswer (lanesReply letter) (bufferRefusals room) buffer (λ z. count-ends letter) line,
-      of-line (mostDemands * figureCount) (dayReply demands) lent (firstRefusal-le lastRefusal lent tt) (day-ends demands room) line,
+      of-line 1 longestAnswer caseReply (bufferRefusals room) buffer (λ z. answer-ends) line,
+      of-line 1 longestAnswer (lanesReply letter) (bufferRefusals room) buffer (λ z. count-ends letter) line,
+      of-line figureCount (mostDemands * figureCount) (dayReply demands) lent (firstRefusal-le lastRefusal lent tt)
+          (day-ends demands room) line,
     )
 
 pub buffer-too-short : BufferTooShort
@@ -124,7 +125,8 @@ day-call-is-the-day line case e demands old =
     (eq-zero-or-pos (firstRefusal (lentRefusals (length demands) (length old))))
 
 pub position-is-the-lines-answer : PositionIsTheLinesAnswer
-position-is-the-lines-answer line other case demands old i room e z h k long = (
+position-is-the-lines-answer line case demands old i e z h = (
   ap (position i) (day-call-is-the-day line case e demands old .1) ∙ position-holds-the-answer case demands old z i h,
-  unlessRefused-none _ (lineReply caseReply (readLine other)) refusalReply (buffer-fits room long) ∙ ap (lineReply caseReply) k,
+  λ other room k long.
+      unlessRefused-none _ (lineReply caseReply (readLine other)) refusalReply (buffer-fits room long) ∙ ap (lineReply caseReply) k,
 )

@@ -1,7 +1,7 @@
 -- Laws of the calls, stated; proofs/Laws proves them.
 --   lastRefusal           18
---   WithinEnds most r     what is written, one byte or number at least and at most so many; or a refusal from 1 to the last
---   RepliesWithinEnds     every call over a line replies so: 0 is never handed back, and 64 bytes, or 288 numbers, are enough
+--   WithinEnds least most r   so many bytes or numbers at least and at most; or a refusal from 1 to the last
+--   RepliesWithinEnds     every call over a line replies so: 1 to 64 bytes, or 1 to 24 answers of twelve numbers; 0 is never handed back
 --   BufferTooShort        a buffer of 63 bytes gets 17, whatever the line
 --   LastRefusalIsReached  no demand gets 18, whatever the line and the room
 --   DayHandsBack          minus 18 where the lent memory does not fit; else minus 15 where the line is malformed; else the count of the
@@ -27,15 +27,15 @@ use Rattle.marehour.specs.Calls.{Reply, writes, refusal, answerReply, an
 abbrev pub lastRefusal : ℕ
 lastRefusal = 18
 
-abbrev pub WithinEnds : ℕ → Reply → Type 0
-WithinEnds most (writes ns) = (1 ≤ length ns) × (length ns ≤ most)
-WithinEnds most (refusal n) = (1 ≤ n) × (n ≤ lastRefusal)
+abbrev pub WithinEnds : ℕ → ℕ → Reply → Type 0
+WithinEnds least most (writes ns) = (least ≤ length ns) × (length ns ≤ most)
+WithinEnds least most (refusal n) = (1 ≤ n) × (n ≤ lastRefusal)
 
 abbrev pub RepliesWithinEnds : Type 0
 RepliesWithinEnds =
     (line : List ℕ) (letter room : ℕ) (demands : List ℕ)
-    → WithinEnds longestAnswer (answerCall line room) × WithinEnds longestAnswer (lanesCall line letter room)
-    × WithinEnds (mostDemands * figureCount) (dayCall line demands room)
+    → WithinEnds 1 longestAnswer (answerCall line room) × WithinEnds 1 longestAnswer (lanesCall line letter room)
+    × WithinEnds figureCount (mostDemands * figureCount) (dayCall line demands room)
 
 abbrev pub BufferTooShort : Type 0
 BufferTooShort = (line : List ℕ) (letter : ℕ) → (answerCall line 63 ≡ refusal 17) × (lanesCall line letter 63 ≡ refusal 17)
@@ -61,8 +61,8 @@ DayCallIsTheDay =
 
 abbrev pub PositionIsTheLinesAnswer : Type 0
 PositionIsTheLinesAnswer =
-    (line other : List ℕ) (case : Case) (demands old : List ℕ) (i room : ℕ)
+    (line : List ℕ) (case : Case) (demands old : List ℕ) (i : ℕ)
     → readLine line ≡ LineRead.Case case → LentFits (length demands) (length old) → i < length demands
-    → readLine other ≡ LineRead.Case (withDemand case (getD demands i 0)) → longestAnswer ≤ room
     → (position i (content (dayCall line demands (length old)) old) ≡ answerFigures (answerTo (withDemand case (getD demands i 0))))
-    × (answerCall other room ≡ answerReply (answerTo (withDemand case (getD demands i 0))))
+    × ((other : List ℕ) (room : ℕ) → readLine other ≡ LineRead.Case (withDemand case (getD demands i 0)) → longestAnswer ≤ room
+    → answerCall other room ≡ answerReply (answerTo (withDemand case (getD demands i 0))))
