@@ -27,11 +27,10 @@ use compare::days::Days;
 use compare::draw::Draw;
 use compare::paper::Paper;
 use compare::random::Random;
-use compare::tally::Tally;
+use compare::tally::{Outcomes, Tally};
 use compare::{curves, floats, laws, los, traps};
 use second::method::{Kind, Method};
 use second::survey::Unit;
-use std::collections::BTreeMap;
 use std::process::exit;
 use std::time::Instant;
 
@@ -56,31 +55,26 @@ fn filled(fill: impl FnOnce(&mut Tally)) -> Tally {
     tally
 }
 
-fn print_outcomes(outcomes: &BTreeMap<String, u64>) {
-    let seen: Vec<String> = outcomes.iter().map(|(outcome, count)| format!("{outcome} {count}")).collect();
-    println!("outcomes: {}", seen.join(", "));
-}
-
 fn random_cases(method: &Method) -> Tally {
-    let mut random = Random { method, draw: Draw(SEED), tally: Tally::default(), outcomes: BTreeMap::new() };
+    let mut random = Random { method, draw: Draw(SEED), tally: Tally::default(), outcomes: Outcomes::default() };
     random.cases(RANDOM_CASES);
     random.coverage();
-    print_outcomes(&random.outcomes);
+    random.outcomes.print();
     random.tally
 }
 
 fn every_demand(method: &Method) -> Tally {
-    let mut random = Random { method, draw: Draw(SEED + 1), tally: Tally::default(), outcomes: BTreeMap::new() };
+    let mut random = Random { method, draw: Draw(SEED + 1), tally: Tally::default(), outcomes: Outcomes::default() };
     random.every_demand(EVERY_DEMAND_CASES);
     random.tally
 }
 
 fn whole_days(method: &Method) -> Tally {
-    let mut days = Days { method, draw: Draw(SEED + 5), tally: Tally::default(), outcomes: BTreeMap::new() };
+    let mut days = Days { method, draw: Draw(SEED + 5), tally: Tally::default(), outcomes: Outcomes::default() };
     days.figures();
     days.random(RANDOM_DAYS);
     days.coverage();
-    print_outcomes(&days.outcomes);
+    days.outcomes.print();
     days.tally
 }
 

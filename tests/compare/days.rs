@@ -3,11 +3,10 @@
 
 use super::draw::{draw_demand, draw_line, Draw};
 use super::engine;
-use super::tally::Tally;
+use super::tally::{Outcomes, Tally};
 use crate::second::day::{self, POSITION};
 use crate::second::lines;
 use crate::second::method::{Case, Method, GREATEST_DEMAND};
-use std::collections::BTreeMap;
 
 const fn refused(number: u64) -> [u64; POSITION] {
     [number, 0, 0, 0, 0, 0, 0, 0, 0, 0, 0, 0]
@@ -217,7 +216,7 @@ pub struct Days<'a> {
     pub method: &'a Method,
     pub draw: Draw,
     pub tally: Tally,
-    pub outcomes: BTreeMap<String, u64>,
+    pub outcomes: Outcomes,
 }
 
 impl Days<'_> {
@@ -244,17 +243,13 @@ impl Days<'_> {
         }
     }
 
-    fn seen(&mut self, outcome: String) {
-        *self.outcomes.entry(outcome).or_default() += 1;
-    }
-
     fn positions(&mut self, call: &Call, theirs: &After, ours: &After) {
         for (place, &demand) in call.demands.iter().enumerate() {
             let (position, single) = (theirs.position(place), single(&call.line, demand));
             self.tally.check(position == single, || {
                 format!("day, {}: position {place} is {position:?}, the single call answers {single:?}", call.name())
             });
-            self.seen(outcome(ours.position(place)));
+            self.outcomes.seen(outcome(ours.position(place)));
         }
     }
 
@@ -264,18 +259,14 @@ impl Days<'_> {
             let (theirs, ours) = (call.by_engine(), call.by_second(self.method));
             self.same(&call, "engine and second", &theirs, &ours);
             if ours.result < 0 {
-                self.seen(ours.result.to_string());
+                self.outcomes.seen(ours.result.to_string());
             } else {
                 self.positions(&call, &theirs, &ours);
             }
         }
     }
 
-    // Each outcome must come up, or the random days show less than they seem to.
     pub fn coverage(&mut self) {
-        for outcome in OUTCOMES {
-            let seen = self.outcomes.get(outcome).copied().unwrap_or(0);
-            self.tally.check(seen >= LEAST_OF_EACH, || format!("outcome {outcome} of days came up {seen} times only"));
-        }
+        self.outcomes.cover(&mut self.tally, &OUTCOMES, LEAST_OF_EACH);
     }
 }

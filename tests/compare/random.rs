@@ -2,10 +2,9 @@
 
 use super::draw::{draw_accepted_case, draw_line, Draw};
 use super::engine;
-use super::tally::Tally;
+use super::tally::{Outcomes, Tally};
 use crate::second::lines;
 use crate::second::method::Method;
-use std::collections::BTreeMap;
 
 const LETTERS: [u32; 14] = [1, 2, 3, 4, 5, 0, 6, 7, 255, 256, 257, 65_537, 0x8000_0001, u32::MAX];
 
@@ -53,7 +52,7 @@ pub struct Random<'a> {
     pub method: &'a Method,
     pub draw: Draw,
     pub tally: Tally,
-    pub outcomes: BTreeMap<String, u64>,
+    pub outcomes: Outcomes,
 }
 
 impl Random<'_> {
@@ -73,7 +72,7 @@ impl Random<'_> {
             let (line, length) = (String::from_utf8_lossy(line), ours.len());
             format!("{line:?}, letter {letter:?}, buffer of {length}: engine {their_text:?}, second {our_text:?}{elsewhere}")
         });
-        *self.outcomes.entry(outcome(expected, ours)).or_default() += 1;
+        self.outcomes.seen(outcome(expected, ours));
     }
 
     pub fn cases(&mut self, count: u64) {
@@ -92,12 +91,8 @@ impl Random<'_> {
         }
     }
 
-    // Each outcome must come up, or the random cases show less than they seem to.
     pub fn coverage(&mut self) {
-        for outcome in OUTCOMES {
-            let seen = self.outcomes.get(outcome).copied().unwrap_or(0);
-            self.tally.check(seen >= LEAST_OF_EACH, || format!("outcome {outcome} came up {seen} times only"));
-        }
+        self.outcomes.cover(&mut self.tally, &OUTCOMES, LEAST_OF_EACH);
     }
 
     // The second implementation's own search for service volumes against trying every demand.

@@ -1,5 +1,6 @@
-// Counts of checks, and the differences found, of which the first 20 of a run are printed.
+// Counts of checks, and the differences found, of which the first 20 of a run are printed; counts of what came up.
 
+use std::collections::BTreeMap;
 use std::fmt::Debug;
 use std::sync::atomic::{AtomicU64, Ordering};
 
@@ -31,5 +32,28 @@ impl Tally {
     pub fn add(&mut self, other: Tally) {
         self.checks += other.checks;
         self.differences += other.differences;
+    }
+}
+
+// How often each outcome came up in a random run.
+#[derive(Default)]
+pub struct Outcomes(BTreeMap<String, u64>);
+
+impl Outcomes {
+    pub fn seen(&mut self, outcome: String) {
+        *self.0.entry(outcome).or_default() += 1;
+    }
+
+    // Each of these must come up, or the run shows less than it seems to.
+    pub fn cover(&self, tally: &mut Tally, outcomes: &[&str], least: u64) {
+        for &outcome in outcomes {
+            let seen = self.0.get(outcome).copied().unwrap_or(0);
+            tally.check(seen >= least, || format!("outcome {outcome} came up {seen} times only"));
+        }
+    }
+
+    pub fn print(&self) {
+        let seen: Vec<String> = self.0.iter().map(|(outcome, count)| format!("{outcome} {count}")).collect();
+        println!("outcomes: {}", seen.join(", "));
     }
 }

@@ -5,7 +5,7 @@
 --   dayFigures-next, dayFigures-at   those of one demand more; those of one of the demands
 --   dayFigures-count              as many answers as demands
 --   lent-number                   18 is all that refuses what is lent
---   lent-passed                   no number is none
+--   lent-passed                   where its number is 0 it does not refuse
 --   lent-room                     where 18 does not refuse there is room for every answer
 --   day-refused, day-answered     the answer and the lent numbers where 18 refuses, and where it does not
 --   next-room, next-answer        a turn of put_answers: there is room for one answer more; it is written

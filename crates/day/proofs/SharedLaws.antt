@@ -2,7 +2,7 @@
 --   accepted-within, accepted-above   a case that is accepted with no demand: with its demand it gets its grade, or 7
 --   refused-within, refused-above     one that is not: with its demand it gets the same number, or 7 unless that comes before it
 --   ready-within                      the terms of the case with no demand are those of the case
---   told-accepted, told-refused       what is shared, by what it is told to be
+--   told                              what is shared, by what it is told to be
 --   shared-withDemand                 what the demands on a case share is the same whatever its own is
 -- Assumes nothing.
 use mathlib.Core.Path.{_≡_, sym, subst, _∙_}
@@ -19,7 +19,6 @@ use Rattle.method.specs.Flow.{heavyFactor}
 use Rattle.method.specs.Assess.{CaseReady}
 use Rattle.method.proofs.RefusalLaws.{refusal-within, refusal-above}
 use Rattle.answer.specs.declared.evaluate.Answer.the-variants as Answer
-use Rattle.answer.specs.declared.evaluate.Volumes.{Volumes}
 use Rattle.answer.specs.Answers.{graded, answerTo}
 use Rattle.answer.proofs.AnswerLaws.{answerTo-accepted, answerTo-refused}
 use Rattle.answer.proofs.VolumeLaws.{serviceVolumes-withDemand}
@@ -48,13 +47,9 @@ module _ (case : Case) where
   ready-within terms table r h =
       record { accepted = refusal-within case h ∙ r .accepted; own-terms = r .own-terms; read = r .read }
 
-module _ (case : Case) (shared : Shared) (table : List ℕ) (s : SharedBy case shared table) where
-  pub told-accepted : (volumes : Volumes) (terms : CaseTerms) → shared ≡ Shared.Accepted volumes terms
-      → SharedBy case (Shared.Accepted volumes terms) table
-  told-accepted volumes terms e = subst (λ x. SharedBy case x table) e s
-
-  pub told-refused : (n : ℕ) → shared ≡ Shared.Refused n → SharedBy case (Shared.Refused n) table
-  told-refused n e = subst (λ x. SharedBy case x table) e s
+pub told : (case : Case) (shared : Shared) (table : List ℕ) → SharedBy case shared table → (found : Shared) → shared ≡ found
+    → SharedBy case found table
+told case shared table s found e = subst (λ x. SharedBy case x table) e s
 
 pub shared-withDemand : (case : Case) (demand : ℕ) (shared : Shared) (table : List ℕ) → SharedBy case shared table
     → SharedBy (withDemand case demand) shared table

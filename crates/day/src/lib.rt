@@ -55,7 +55,7 @@ pub fn lent_refusal(demands: usize, numbers: usize) -> u64
 }
 
 // A refusal's number, or 0, and the figures behind it, at a place.
-fn put_figures(number: u64, figures: &[u64], out: &mut [u64], at: usize) -> usize
+fn put_position(number: u64, figures: &[u64], out: &mut [u64], at: usize) -> usize
     requires { ⌜ at + length (now figures) < length (now out) ⌝ }
     ensures { λ r. ⌜ Wrote (number ∷ now (figures .entry)) at (now (out .entry)) (now (out .exit)) r ⌝ }
 {
@@ -71,9 +71,9 @@ fn put_answer(answer: Answer, out: &mut [u64], at: usize) -> usize
     match answer {
         Answer::Graded(grade) => {
             let figures = evaluate::grade_values(grade);
-            put_figures(0, &figures, out, at)
+            put_position(0, &figures, out, at)
         }
-        Answer::Refused(number) => put_figures(number, &[0; 11], out, at),
+        Answer::Refused(number) => put_position(number, &[0; 11], out, at),
     }
 }
 

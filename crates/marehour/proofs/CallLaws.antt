@@ -3,7 +3,7 @@
 --   handed-back              a number that another function handed back
 --   positive-is, positive-fits   a count or a speed
 --   Replied                  a call's result and its lent memory afterwards are those of a reply
---   wrote-reply, refused-reply   a reply that was written; a refusal
+--   wrote, wrote-reply, refused-reply   a reply that was written; the same in bytes; a refusal
 --   call-lent, call-refused, call-case, call-wrote   a call over a line that was read: refused lent memory; no case; a case that another
 --                            function answers; a case that was answered
 --   buffer-short, buffer-fits   a buffer that 17 refuses; one that it does not
@@ -61,6 +61,11 @@ module _ (count : List ℕ → ℕ) where
   abbrev pub Replied : ℤ → List ℕ → Reply → List ℕ → Type 0
   Replied z new r old = (z ≡ handedBack count r) × (new ≡ content r old)
 
+  -- what was written, and its count
+  pub wrote : (ns old new : List ℕ) (n : ℕ) (r : Reply) → n ≡ count ns → n ≤ 90000 → new ≡ written ns 0 old → r ≡ writes ns
+      → Replied (toZ w32 n) new r old
+  wrote ns old new n r k h e is = (positive-is n h ∙ ap pos k ∙ sym (ap (handedBack count) is), e ∙ sym (ap (λ x. content x old) is))
+
   pub refused-reply : (z : ℤ) (n : ℕ) (r : Reply) (old : List ℕ) → n ≤ 99 → z ≡ negℤ (pos n) → r ≡ refusal n
       → Replied (toZ w32 (ofZ w32 z)) old r old
   refused-reply z n r old h e k = (handed-back z n h e ∙ sym (ap (handedBack count) k), sym (ap (λ x. content x old) k))
@@ -88,21 +93,15 @@ module _ (count : List ℕ → ℕ) where
           let same = read ∙ ap (lineReply reply) is in
           (toZ-ofZ w32 z f ∙ e ∙ sym (ap (handedBack count) same), k ∙ sym (ap (λ x. content x old) same))
 
-      -- what was written, and its count
       pub call-wrote : (n : ℕ) (case : Case) (ns new : List ℕ) → r ≡ LineRead.Case case → reply case ≡ writes ns → n ≡ count ns → n ≤ 90000
           → new ≡ written ns 0 old → Replied (toZ w32 n) new (lineCall reply r lent) old
-      call-wrote n case ns new is w k h e =
-          let same = read ∙ ap (lineReply reply) is ∙ w in
-          (positive-is n h ∙ ap pos k ∙ sym (ap (handedBack count) same), e ∙ sym (ap (λ x. content x old) same))
+      call-wrote n case ns new is w k h e = wrote ns old new n (lineCall reply r lent) k h e (read ∙ ap (lineReply reply) is ∙ w)
 
 -- ---- an answer buffer
 pub wrote-reply : (bs old new : List ℕ) (n : ℕ) (r : Reply) → length bs ≤ 64 → Wrote bs 0 old new n → r ≡ writes bs
     → Replied length (toZ w32 n) new r old
 wrote-reply bs old new n r h w e =
-    let k : n ≡ length bs = w .ends ∙ omega arith in (
-      positive-is n (omega arith) ∙ ap pos k ∙ sym (ap result e),
-      w .content ∙ sym (ap (λ x. content x old) e),
-    )
+    let k : n ≡ length bs = w .ends ∙ omega arith in wrote length bs old new n r k (omega arith) (w .content) e
 
 pub buffer-short : (room : ℕ) → room < longestAnswer → 17 ≡ firstRefusal (bufferRefusals room)
 unfolding bufferRefusals

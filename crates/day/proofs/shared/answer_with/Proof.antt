@@ -3,8 +3,9 @@
 use mathlib.Core.Path.{sym, ap, _∙_}
 use Rattle.answer.specs.declared.evaluate.Answer.the-variants as Answer
 use Rattle.answer.specs.Answers.{graded}
+use Rattle.day.specs.declared.shared.Shared.the-variants as Shared
 use Rattle.day.proofs.SharedLaws.{accepted-within, accepted-above, refused-within, refused-above, ready-within}
-use Rattle.day.proofs.SharedLaws.{told-accepted, told-refused}
+use Rattle.day.proofs.SharedLaws.{told}
 use borrow.Author.Needs.{needs}
 use Rattle.day.proofs.shared.answer_with.Statement.{statement}
 use Rattle.day.proofs.shared.answer_with.Tie as tie
@@ -12,18 +13,18 @@ use Rattle.day.proofs.shared.answer_with.Tie as tie
 returns : tie.Need-returns
 returns c =
     let s = c .before .before .before .before .before .before in
-    let by = told-accepted _ _ _ (s .pre) _ _ (c .before .before .before .shared .given .1) in
+    let by = told _ _ _ (s .pre) (Shared.Accepted _ _) (c .before .before .before .shared .given .1) in
     sym (accepted-above (s .args .case) (by .0 .accepted) (c .if1 .taken))
 
 measures-with-requires : tie.Need-measures-with-requires
 measures-with-requires c κs =
     let s = c .before .before .before .before .before .before in
-    ready-within (s .args .case) _ _ (told-accepted _ _ _ (s .pre) _ _ (c .before .before .before .shared .given .1) .0) (c .if1 .left)
+    ready-within (s .args .case) _ _ (told _ _ _ (s .pre) (Shared.Accepted _ _) (c .before .before .before .shared .given .1) .0) (c .if1 .left)
 
 returns-2 : tie.Need-returns-2
 returns-2 c =
     let s = c .before .before .before .before .before .before .before in
-    let by = told-refused _ _ _ (s .pre) _ (c .before .before .before .before .shared2 .given .1) in
+    let by = told _ _ _ (s .pre) (Shared.Refused _) (c .before .before .before .before .shared2 .given .1) in
     ap Answer.Refused (c .lesser .ensures) ∙ sym (refused-above (s .args .case) _ (by .0) (by .1) (c .before .if2 .taken))
 
 returns-3 : tie.Need-returns-3
@@ -31,14 +32,14 @@ unfolding graded
 returns-3 c =
     let measured = c .before in
     let s = measured .before .before .before .before .before .before .before in
-    let by = told-accepted _ _ _ (s .pre) _ _ (measured .before .before .before .before .shared .given .1) in
+    let by = told _ _ _ (s .pre) (Shared.Accepted _ _) (measured .before .before .before .before .shared .given .1) in
     ap Answer.Graded (simp (c .grade-of .ensures, measured .measures-with .ensures, by .1))
     ∙ sym (accepted-within (s .args .case) (by .0 .accepted) (measured .before .if1 .left))
 
 returns-4 : tie.Need-returns-4
 returns-4 c =
     let s = c .before .before .before .before .before .before in
-    let by = told-refused _ _ _ (s .pre) _ (c .before .before .before .shared2 .given .1) in
+    let by = told _ _ _ (s .pre) (Shared.Refused _) (c .before .before .before .shared2 .given .1) in
     sym (refused-within (s .args .case) _ (by .0) (by .1) (c .if2 .left))
 
 pub answer-with-spec : {M : Type 1} → statement M
