@@ -2,6 +2,7 @@
 # make test     proves everything and tries every must-fail edit (rt ci), then tests the library and the program that were proved
 # make full     compares every curve and every float with the second implementation
 # make tables   writes the constant tables anew
+# make vectors  writes the answers of the vectors anew, as the second implementation has them
 # make bench    times los and the calls against plain C on a million made lines; RUNS=n sets how often
 SHELL = /bin/bash
 .SHELLFLAGS = -o pipefail -c
@@ -17,7 +18,7 @@ PLAIN = $(patsubst %,$(BENCH)/plain-%,gcc $(if $(shell command -v clang),clang))
 PLAINFLAGS = -std=c11 -Wall -Wextra -Werror -O3 -I$(BENCH)
 TABLES = $(BENCH)/powers.inc $(BENCH)/ramps.inc
 
-.PHONY: run test prove tests full tables bench clean
+.PHONY: run test prove tests full tables vectors bench clean
 
 run: target/bin/los
 	@target/bin/los < examples/sections.tsv
@@ -51,6 +52,9 @@ full: $(BUILD)/compare
 
 tables: $(BUILD)/tables
 	$(BUILD)/tables write
+
+vectors: $(BUILD)/compare
+	$(BUILD)/compare write-vectors
 
 # What is proved already is not proved again. Each crate is told as it is proved.
 define rt

@@ -1,10 +1,11 @@
-// Compares the engine, linked as an archive, with the second implementation of document 01 and of request T-01 (tests/second).
+// Compares the engine, linked as an archive, with the second implementation of document 01 and of requests T-01 and T-02 (tests/second).
 //
-//   compare quick         the document's figures, its traps, the manual's examples, curves by a stride, random cases, floats, the laws,
-//                         whole days
+//   compare quick         the documents' figures, the traps, the manual's examples, curves by a stride, random cases, floats, the laws,
+//                         whole days, the vectors
 //   compare full-curves   every free-flow speed with every flow rate up to capacity and one more
 //   compare full-floats   every float in both units
 //   compare los PATH      random lines through the program los
+//   compare write-vectors writes the vectors anew, as the second implementation answers them, at the project's root
 //
 // Prints the checks of each group and up to 20 differences; ends with 1 if there is any. The same seed gives the same run.
 
@@ -20,6 +21,7 @@ mod compare {
     pub mod random;
     pub mod tally;
     pub mod traps;
+    pub mod vectors;
 }
 mod second;
 
@@ -28,7 +30,7 @@ use compare::draw::Draw;
 use compare::paper::Paper;
 use compare::random::Random;
 use compare::tally::{Outcomes, Tally};
-use compare::{curves, floats, laws, los, traps};
+use compare::{curves, floats, laws, los, traps, vectors};
 use second::method::{Kind, Method};
 use second::survey::Unit;
 use std::process::exit;
@@ -93,7 +95,7 @@ fn examples(method: &Method) -> Tally {
 fn quick(total: &mut Tally) {
     let method = &Method::new();
     println!("seed {SEED}");
-    group(total, "figures of document 01", || boundary_sections(method));
+    group(total, "figures of documents 01 and 02", || boundary_sections(method));
     group(total, "traps", || filled(|tally| traps::traps(method, tally)));
     group(total, "examples of chapter 26", || examples(method));
     group(total, "curves by a stride", || filled(|tally| curves::by_stride(method, tally)));
@@ -103,6 +105,7 @@ fn quick(total: &mut Tally) {
     group(total, "floats", || filled(|tally| floats::by_stride(tally, &mut Draw(SEED + 2))));
     group(total, "laws", || filled(|tally| laws::sample(method, &mut Draw(SEED + 3), tally, LAW_CASES)));
     group(total, "days", || whole_days(method));
+    group(total, "vectors", || filled(|tally| vectors::check(method, tally)));
 }
 
 fn full_curves(total: &mut Tally) {
@@ -133,8 +136,9 @@ fn main() {
             let method = &Method::new();
             group(&mut total, "lines through los", || filled(|tally| los::random_lines(method, &mut Draw(SEED + 4), tally, path)));
         }
+        ["write-vectors"] => return vectors::write(&Method::new()),
         _ => {
-            println!("usage: compare quick | full-curves | full-floats | los PATH");
+            println!("usage: compare quick | full-curves | full-floats | los PATH | write-vectors");
             exit(2);
         }
     }

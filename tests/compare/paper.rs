@@ -1,5 +1,5 @@
-// What document 01 says by figures, and figures worked out by hand from its rules, checked against both implementations. Lines are written
-// with blanks for tabs; a - stands for a figure that is not checked there by itself.
+// What documents 01 and 02 (T-02) say by figures, and figures worked out by hand from their rules, checked against both implementations.
+// Lines are written with blanks for tabs; a - stands for a figure that is not checked there by itself.
 
 use super::engine;
 use super::tally::Tally;
@@ -30,8 +30,8 @@ const ANSWERS: &[(&str, &str)] = &[
     // Median D gives F = 54,300, U gives 53,600.
     ("M E 60000 110 40 20 D 10 2 0 1000 0 L", "A 54300"),
     ("M E 60000 110 40 20 U 10 2 0 1000 0 L", "A 53600"),
-    // Right clearance 59, F kind, 2 lanes: 600 off.
-    ("F E 70000 120 59 60 D 0 2 0 1000 0 L", "A 69400"),
+    // Right clearance 59, F kind, 2 lanes: 60 off.
+    ("F E 70000 120 59 60 D 0 2 0 1000 0 L", "A 69940"),
     // V = 0: density 0, A.
     ("F E 75400 110 20 0 D 24 2 0 920 50 R", "A 60783 - 0 60783 0"),
     ("M G 45000 100 0 0 U 200 3 0 250 1000 R", "A 45000 - 0 45000 0"),
@@ -77,12 +77,12 @@ const LANES: &[(u32, &str, &str)] = &[
     (3, "F E 75400 110 20 0 D 24 2 99999 920 50 R", "X 14"),
     // The answer does not rest on the lanes of the case.
     (3, "F E 75400 110 20 0 D 24 8 2000 920 50 R", "2"),
-    // It checks 1 to 9, not 10. One missing foot takes off 600, 400, 200: F is below 55,000 with one count, two counts, every count.
-    (5, "F E 55600 120 59 0 D 0 2 0 1000 0 L", "2"),
-    (5, "F E 55599 120 59 0 D 0 2 0 1000 0 L", "3"),
-    (5, "F E 55400 120 59 0 D 0 2 0 1000 0 L", "3"),
-    (5, "F E 55399 120 59 0 D 0 2 0 1000 0 L", "4"),
-    (5, "F E 55099 120 59 0 D 0 2 0 1000 0 L", "X 14"),
+    // It checks 1 to 9, not 10. A missing tenth takes off 60, 40, 20, 10: F is below 55,000 with no count, one, two, three, every count.
+    (5, "F E 55060 120 59 0 D 0 2 0 1000 0 L", "2"),
+    (5, "F E 55059 120 59 0 D 0 2 0 1000 0 L", "3"),
+    (5, "F E 55039 120 59 0 D 0 2 0 1000 0 L", "4"),
+    (5, "F E 55019 120 59 0 D 0 2 0 1000 0 L", "5"),
+    (5, "F E 55009 120 59 0 D 0 2 0 1000 0 L", "X 14"),
     (5, "F G 54999 120 60 60 D 0 2 0 1000 0 L", "X 14"),
     (5, "M G 44999 120 60 60 D 0 2 0 1000 0 L", "X 14"),
     // The least and the greatest count of each kind: 825 a lane is A at F = 75,000 on kind F, 2,200 is E at 60,000 on kind M.
@@ -107,35 +107,44 @@ const EXAMPLES: &[(&str, &str)] = &[
 // Width, and what it takes off.
 const WIDTHS: [(u64, u64); 6] = [(100, 6_600), (109, 6_600), (110, 1_900), (119, 1_900), (120, 0), (200, 0)];
 
-// Right clearance, and the missing feet; lanes, and what a missing foot takes off.
-const MISSING_FEET: [(u64, u64); 12] =
-    [(0, 6), (9, 6), (10, 5), (19, 5), (20, 4), (39, 3), (40, 2), (50, 1), (59, 1), (60, 0), (61, 0), (400, 0)];
-const PER_FOOT: [(u64, u64); 7] = [(2, 600), (3, 400), (4, 200), (5, 100), (6, 100), (7, 100), (8, 100)];
+// Right clearance, and the missing tenths; lanes, and what a missing tenth takes off.
+const MISSING_TENTHS: [(u64, u64); 12] =
+    [(0, 60), (1, 59), (9, 51), (10, 50), (20, 40), (25, 35), (39, 21), (50, 10), (59, 1), (60, 0), (61, 0), (400, 0)];
+const PER_TENTH: [(u64, u64); 7] = [(2, 60), (3, 40), (4, 20), (5, 10), (6, 10), (7, 10), (8, 10)];
 
-// Right and left clearance of a divided highway, and the even feet of their sum.
-const EVEN_FEET: [(u64, u64, u64); 18] = [
-    (60, 60, 12),
-    (400, 61, 12),
-    (60, 59, 10),
-    (59, 60, 10),
-    (40, 60, 10),
-    (60, 39, 8),
-    (20, 60, 8),
-    (60, 19, 6),
-    (60, 0, 6),
-    (0, 400, 6),
-    (59, 0, 4),
-    (20, 20, 4),
-    (20, 19, 2),
-    (19, 19, 2),
-    (10, 10, 2),
-    (0, 20, 2),
-    (19, 0, 0),
-    (0, 0, 0),
+// Right and left clearance of a divided highway, and what they take off with 2 and with 3 lanes.
+const TOTAL_CLEARANCE: [(u64, u64, u64, u64); 30] = [
+    (60, 60, 0, 0),
+    (400, 61, 0, 0),
+    (60, 59, 20, 20),
+    (59, 60, 20, 20),
+    (50, 60, 200, 200),
+    (60, 41, 380, 380),
+    (40, 60, 400, 400),
+    (60, 39, 425, 425),
+    (60, 30, 650, 650),
+    (38, 45, 825, 825),
+    (21, 60, 875, 875),
+    (20, 60, 900, 900),
+    (60, 19, 920, 920),
+    (35, 35, 1_100, 1_100),
+    (1, 60, 1_280, 1_280),
+    (60, 0, 1_300, 1_300),
+    (0, 400, 1_300, 1_300),
+    (59, 0, 1_325, 1_320),
+    (25, 25, 1_550, 1_500),
+    (20, 21, 1_775, 1_680),
+    (20, 20, 1_800, 1_700),
+    (20, 19, 1_890, 1_755),
+    (10, 11, 3_510, 2_745),
+    (10, 10, 3_600, 2_800),
+    (0, 20, 3_600, 2_800),
+    (19, 0, 3_690, 2_855),
+    (5, 5, 4_500, 3_350),
+    (1, 0, 5_310, 3_845),
+    (0, 1, 5_310, 3_845),
+    (0, 0, 5_400, 3_900),
 ];
-// Even feet, and what they take off with 2 and with 3 lanes.
-const TOTAL_CLEARANCE: [(u64, u64, u64); 7] =
-    [(12, 0, 0), (10, 400, 400), (8, 900, 900), (6, 1_300, 1_300), (4, 1_800, 1_700), (2, 3_600, 2_800), (0, 5_400, 3_900)];
 
 // Access points, and what they take off.
 const ACCESS: [(u64, u64); 6] = [(0, 0), (1, 250), (39, 9_750), (40, 10_000), (41, 10_000), (200, 10_000)];
@@ -303,31 +312,45 @@ impl Paper<'_> {
             self.free_flow_speed(&format!("F E 70000 {width} 60 60 D 0 2 0 1000 0 L"), 70_000 - off);
             self.free_flow_speed(&format!("M E 70000 {width} 60 60 D 0 2 0 1000 0 L"), 70_000 - off);
         }
-        for (right, missing) in MISSING_FEET {
-            for (lanes, per_foot) in PER_FOOT {
-                self.free_flow_speed(&format!("F E 70000 120 {right} 0 D 0 {lanes} 0 1000 0 L"), 70_000 - missing * per_foot);
+        for (right, missing) in MISSING_TENTHS {
+            for (lanes, per_tenth) in PER_TENTH {
+                self.free_flow_speed(&format!("F E 70000 120 {right} 0 D 0 {lanes} 0 1000 0 L"), 70_000 - missing * per_tenth);
             }
         }
-        for (right, left, feet) in EVEN_FEET {
-            let (_, two, three) = TOTAL_CLEARANCE.into_iter().find(|row| row.0 == feet).expect("each count has its row");
+        for (right, left, two, three) in TOTAL_CLEARANCE {
             for (lanes, off) in [(2, two), (3, three)] {
                 self.free_flow_speed(&format!("M E 70000 120 {right} {left} D 0 {lanes} 0 1000 0 L"), 70_000 - off);
             }
         }
         // Left counts as 60 for medians U and T; U takes 1,600 off.
-        for (left, right, off) in [(0, 60, 0), (60, 60, 0), (400, 59, 400), (0, 0, 1_300), (0, 39, 900)] {
+        for (left, right, off) in [(0, 60, 0), (60, 60, 0), (400, 59, 20), (0, 0, 1_300), (0, 39, 425), (7, 30, 650)] {
             self.free_flow_speed(&format!("M E 70000 120 {right} {left} U 0 2 0 1000 0 L"), 70_000 - off - 1_600);
             self.free_flow_speed(&format!("M E 70000 120 {right} {left} T 0 2 0 1000 0 L"), 70_000 - off);
         }
         for (points, off) in ACCESS {
             self.free_flow_speed(&format!("M E 70000 120 60 60 D {points} 2 0 1000 0 L"), 70_000 - off);
         }
+        self.every_clearance();
         // Every count of ramps and of access points, for which the document gives the rule alone.
         for ramps in 0..=48 {
             self.answer(&format!("F E 75000 120 60 60 D {ramps} 2 0 1000 0 L"), "A");
         }
         for points in 0..=200 {
             self.answer(&format!("M E 70000 120 60 60 D {points} 2 0 1000 0 L"), "A");
+        }
+    }
+
+    // Every clearance that counts, and one more, with every lane count and median: the rule alone.
+    fn every_clearance(&mut self) {
+        for right in 0..=61 {
+            for lanes in 2..=8 {
+                self.answer(&format!("F E 70000 120 {right} 0 D 0 {lanes} 0 1000 0 L"), "A");
+            }
+            for left in 0..=61 {
+                for (median, lanes) in [("D", 2), ("D", 3), ("U", 2), ("U", 3), ("T", 2), ("T", 3)] {
+                    self.answer(&format!("M E 70000 120 {right} {left} {median} 0 {lanes} 0 1000 0 L"), "A");
+                }
+            }
         }
     }
 

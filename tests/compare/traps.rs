@@ -1,4 +1,4 @@
-// The traps that document 01 names. Each is written out as a formula, with an input at which it answers something else: both
+// The traps that document 01 names, and three of clearances (document 02, T-02). Each is written out as a formula, with an input at which it answers something else: both
 // implementations must give the right answer there, and the trap its wrong one.
 
 use super::engine;
@@ -57,6 +57,30 @@ const TRAPS: &[Trap] = &[
         wrong: "C 60000 220000 1533 60000 256",
         formula: freeway_breakpoint,
     },
+    Trap {
+        name: "right clearance cut down to whole feet",
+        letter: 0,
+        line: "F E 70000 120 59 60 D 0 2 0 1000 0 L",
+        right: "A 69940 239940 0 69940 0",
+        wrong: "A 69400 239400 0 69400 0",
+        formula: cut_to_whole_feet,
+    },
+    Trap {
+        name: "the first entry's slope over the whole row",
+        letter: 0,
+        line: "M E 60000 120 0 0 D 0 2 1000 1000 0 L",
+        right: "A 54600 209200 500 54600 92",
+        wrong: "A 57600 215200 500 57600 87",
+        formula: first_slope,
+    },
+    Trap {
+        name: "each side of the total clearance interpolated alone",
+        letter: 0,
+        line: "M E 60000 120 38 45 D 0 2 1000 1000 0 L",
+        right: "A 59175 218350 500 59175 85",
+        wrong: "A 59250 218500 500 59250 85",
+        formula: sides_alone,
+    },
 ];
 
 // The first six fields of an answer, with blanks.
@@ -88,9 +112,7 @@ fn letter_from_shown_speed(method: &Method, case: &Case) -> String {
 }
 
 fn rounded_to_five(method: &Method, case: &Case) -> String {
-    let wrong = (free_flow_speed(method, case) + 2_500) / 5_000 * 5_000;
-    let service = method.service(case.kind, wrong, flow_rate(case));
-    fields(case, service.letter, wrong, flow_rate(case), service.speed, service.density)
+    with_speed(method, case, (free_flow_speed(method, case) + 2_500) / 5_000 * 5_000)
 }
 
 fn kept_free_flow_speed(method: &Method, case: &Case) -> String {
@@ -106,6 +128,28 @@ fn freeway_breakpoint(method: &Method, case: &Case) -> String {
     let exact = speed_at_weight(case.kind, speed, millionths(method.power(i)));
     let density = density(exact, flow).rounded_up();
     fields(case, letter_of(density), speed, flow, exact.rounded_down(), density)
+}
+
+// The answer with a wrong F.
+fn with_speed(method: &Method, case: &Case, wrong: u64) -> String {
+    let service = method.service(case.kind, wrong, flow_rate(case));
+    fields(case, service.letter, wrong, flow_rate(case), service.speed, service.density)
+}
+
+fn cut_to_whole_feet(method: &Method, case: &Case) -> String {
+    with_speed(method, case, free_flow_speed(method, &Case { right: case.right / 10 * 10, ..*case }))
+}
+
+fn first_slope(method: &Method, case: &Case) -> String {
+    let (none_missing, one_missing) = (Case { right: 60, left: 60, ..*case }, Case { right: 60, left: 59, ..*case });
+    let per_tenth = free_flow_speed(method, &none_missing) - free_flow_speed(method, &one_missing);
+    with_speed(method, case, free_flow_speed(method, &none_missing) - (120 - case.right - case.left) * per_tenth)
+}
+
+fn sides_alone(method: &Method, case: &Case) -> String {
+    let [none, right, left] = [(60, 60), (case.right, 60), (60, case.left)]
+        .map(|(right, left)| free_flow_speed(method, &Case { right, left, ..*case }));
+    with_speed(method, case, none - (none - right) - (none - left))
 }
 
 // Blanks for tabs, and no more fields than there are wanted.

@@ -17,8 +17,19 @@ pub const LETTER_F: u32 = 6;
 // The greatest density of the letters A to E.
 const DENSITY_LIMITS: [u64; 5] = [110, 180, 260, 350, 450];
 
+// What right clearance takes off at 6, 5, 4, 3, 2, 1 and 0 feet, for 2, 3, 4, and 5 and more lanes.
+const RIGHT_CLEARANCE: [[u64; 7]; 4] = [
+    [0, 600, 1_200, 1_800, 2_400, 3_000, 3_600],
+    [0, 400, 800, 1_200, 1_600, 2_000, 2_400],
+    [0, 200, 400, 600, 800, 1_000, 1_200],
+    [0, 100, 200, 300, 400, 500, 600],
+];
+
 // What total clearance takes off at 12, 10, 8, 6, 4, 2 and 0 feet, for 2 and for 3 lanes.
 const TOTAL_CLEARANCE: [[u64; 7]; 2] = [[0, 400, 900, 1_300, 1_800, 3_600, 5_400], [0, 400, 900, 1_300, 1_700, 2_800, 3_900]];
+
+// The greatest clearance that counts on one side.
+const GREATEST_CLEARANCE: u64 = 60;
 
 #[derive(Clone, Copy, PartialEq, Eq, Debug)]
 pub enum Kind {
@@ -122,6 +133,12 @@ impl Fraction {
     pub fn rounded_up(self) -> u64 {
         self.over.div_ceil(self.under) as u64
     }
+
+    // The value of a fraction that must be whole.
+    fn exactly(self) -> u64 {
+        assert_eq!(self.over % self.under, 0, "all results are whole");
+        self.rounded_down()
+    }
 }
 
 impl Kind {
@@ -202,22 +219,23 @@ fn lane_width_adjustment(width: u64) -> u64 {
     }
 }
 
-fn right_clearance_adjustment(right: u64, lanes: u64) -> u64 {
-    let missing_feet = 6 - (right / 10).min(6);
-    let per_foot = match lanes {
-        2 => 600,
-        3 => 400,
-        4 => 200,
-        _ => 100,
-    };
-    missing_feet * per_foot
+// "Linear between the entries, in tenths, with no cutting down. All results are whole." The entries of a row lie `spacing` tenths apart,
+// the last at 0 feet; on an entry both neighbours are that entry.
+fn interpolated(row: &[u64; 7], spacing: u64, clearance: u64) -> u64 {
+    let missing = 6 * spacing - clearance;
+    let (wider, narrower) = (row[(missing / spacing) as usize], row[missing.div_ceil(spacing) as usize]);
+    let past_wider = missing % spacing;
+    Fraction::new(wider * (spacing - past_wider) + narrower * past_wider, spacing).exactly()
 }
 
+fn right_clearance_adjustment(right: u64, lanes: u64) -> u64 {
+    interpolated(&RIGHT_CLEARANCE[lanes.min(5) as usize - 2], 10, right.min(GREATEST_CLEARANCE))
+}
+
+// Right plus left, each at most 60 tenths; left counts as 60 for medians U and T.
 fn total_clearance_adjustment(case: &Case) -> u64 {
-    let left = if case.median == Median::Divided { case.left.min(60) } else { 60 };
-    let total = case.right.min(60) + left;
-    let pairs_of_feet = (total / 20) as usize;
-    TOTAL_CLEARANCE[case.lanes as usize - 2][6 - pairs_of_feet]
+    let left = if case.median == Median::Divided { case.left.min(GREATEST_CLEARANCE) } else { GREATEST_CLEARANCE };
+    interpolated(&TOTAL_CLEARANCE[case.lanes as usize - 2], 20, case.right.min(GREATEST_CLEARANCE) + left)
 }
 
 fn median_adjustment(median: Median) -> u64 {

@@ -12,8 +12,9 @@ use Rattle.powers.proofs.PowerLaws.{power-eq}
 use Rattle.curve.specs.Curves.{capacity, breakpoint, curveAt}
 use Rattle.curve.specs.Speed.{fallShareBy, speed, shownSpeed}
 use Rattle.curve.specs.Service.{density, shownDensity, densityLimit, densityLetter, letterAt, performance}
-use Rattle.road.specs.Adjustments.{laneWidthAdjustment, perMissingFoot, rightClearanceAdjustment, totalClearance, twoLaneRow}
-use Rattle.road.specs.Adjustments.{totalClearanceAdjustment, accessAdjustment}
+use Rattle.road.specs.Interpolation.{entryBefore, entryAfter, weighted, interpolated}
+use Rattle.road.specs.Adjustments.{laneWidthAdjustment, perMissingFoot, rightClearanceRow, rightClearanceAdjustment, totalClearance}
+use Rattle.road.specs.Adjustments.{twoLaneRow, threeLaneRow, totalClearanceRow, totalClearanceAdjustment, accessAdjustment}
 use Rattle.road.specs.RampTerm.{rampAtMost, rampTerm}
 use Rattle.road.specs.FreeFlowSpeed.{estimatedBy, uncappedBy, freeFlowSpeed}
 use Rattle.road.specs.Refusals.{roadRefusals, loadRefusals, fieldRefusals}
@@ -45,8 +46,8 @@ unfolding startsAt reachesPower
 power-1000 = power-eq 1000 1000000 (omega arith) tt
 
 pub boundary-shown : Shown boundaryFigures
-unfolding divUp laneWidthAdjustment perMissingFoot rightClearanceAdjustment totalClearance twoLaneRow totalClearanceAdjustment
-    accessAdjustment estimatedBy uncappedBy freeFlowSpeed roadRefusals loadRefusals fieldRefusals speedRefusals refusals capacity breakpoint
+unfolding divUp entryBefore entryAfter weighted interpolated laneWidthAdjustment perMissingFoot rightClearanceRow
+    rightClearanceAdjustment totalClearance twoLaneRow threeLaneRow totalClearanceRow totalClearanceAdjustment accessAdjustment estimatedBy uncappedBy freeFlowSpeed roadRefusals loadRefusals fieldRefusals speedRefusals refusals capacity breakpoint
     curveAt curveOf heavyFactor flowRate fallShareBy speed shownSpeed density shownDensity densityLimit densityLetter letterAt performance
     measures boundaryFigures
 boundary-shown = (
@@ -69,7 +70,7 @@ boundary-shown = (
                   simp power-500,
                   (
                     simp power-500,
-                    (refl, (refl, (refl, (refl, (simp power-1000, (refl, (refl, (refl, tt)))))))),
+                    (refl, (refl, (refl, (refl, (simp power-1000, (refl, (refl, (refl, (refl, (refl, (refl, (refl, (refl, (refl, (refl, (refl, (refl, tt))))))))))))))))),
                   ),
                 ),
               ),

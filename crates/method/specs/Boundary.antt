@@ -19,7 +19,7 @@ use Rattle.road.specs.declared.Terrain.the-variants as Terrain
 use Rattle.road.specs.declared.Road.{Road}
 use Rattle.road.specs.declared.Case.{Case}
 use Rattle.road.specs.Cases.{road, loaded}
-use Rattle.road.specs.Adjustments.{rightClearanceAdjustment}
+use Rattle.road.specs.Adjustments.{rightClearanceAdjustment, totalClearance, totalClearanceAdjustment}
 use Rattle.road.specs.RampTerm.{rampTerm}
 use Rattle.road.specs.FreeFlowSpeed.{freeFlowSpeed}
 use Rattle.method.specs.Checked as checked
@@ -44,6 +44,16 @@ example = loaded (road Kind.Freeway Way.Estimated 75400 110 20 0 Median.Divided 
 abbrev multilane : Median → Road
 multilane m = road Kind.Multilane Way.Estimated 60000 110 40 20 m 10
 
+-- what right clearance r takes off with 2, 3, 4, 5 and 8 lanes
+abbrev rightOff : ℕ → List ℕ
+rightOff r =
+    rightClearanceAdjustment r 2 ∷ rightClearanceAdjustment r 3 ∷ rightClearanceAdjustment r 4 ∷ rightClearanceAdjustment r 5
+    ∷ rightClearanceAdjustment r 8 ∷ []
+
+-- what right clearance r and left clearance l take off with 2 and with 3 lanes
+abbrev totalOff : Median → ℕ → ℕ → List ℕ
+totalOff m r l = totalClearanceAdjustment 2 (totalClearance m r l) ∷ totalClearanceAdjustment 3 (totalClearance m r l) ∷ []
+
 -- the number of an assessment's refusal, 0 for none, and its values
 abbrev assessed : Case → List ℕ
 assessed case = refusalNumber (assessment case) ∷ values (assessment case)
@@ -53,8 +63,9 @@ abbrev checkedAs : Case → List ℕ
 checkedAs case = checked.refusalNumber (checked.checked case) ∷ checked.values (checked.checked case)
 
 -- Of a case that is accepted 0, and then letter, F, c, v, speed and density, of one that is refused its number. A is 1 and F is 6.
--- Starred in document 01: all down to the right clearance. Not starred: no demand; two letters that the shown speed would miss; a case
--- that breaks 1 and 2; the curve of a case and its refusal.
+-- Starred in document 01: all down to the right clearance of 59, which takes off 60 by document 02. Not starred: no demand; two letters that
+-- the shown speed would miss; a case that breaks 1 and 2; the curve of a case and its refusal; clearances between the table's entries and at
+-- their ends.
 unfoldable pub boundaryFigures : List Figure
 boundaryFigures =
     figure (assessed example) (0 ∷ 3 ∷ 60783 ∷ 230783 ∷ 1196 ∷ 60783 ∷ 197 ∷ [])
@@ -68,11 +79,20 @@ boundaryFigures =
     ∷ figure (assessed (twoLanes (given Kind.Multilane 60000 120) 3600)) (0 ∷ 4 ∷ 60000 ∷ 220000 ∷ 1800 ∷ 55518 ∷ 325 ∷ [])
     ∷ figure (power 500 ∷ []) (403321 ∷ [])
     ∷ figure (freeFlowSpeed (multilane Median.Divided) 2 ∷ freeFlowSpeed (multilane Median.Undivided) 2 ∷ []) (54300 ∷ 53600 ∷ [])
-    ∷ figure (rightClearanceAdjustment 59 2 ∷ []) (600 ∷ [])
+    ∷ figure (rightOff 59) (60 ∷ 40 ∷ 20 ∷ 10 ∷ 10 ∷ [])
     ∷ figure (assessed (twoLanes (given Kind.Freeway 55000 120) 0)) (0 ∷ 1 ∷ 55000 ∷ 225000 ∷ 0 ∷ 55000 ∷ 0 ∷ [])
     ∷ figure (assessed (twoLanes (given Kind.Freeway 55052 120) 3830)) (0 ∷ 4 ∷ 55052 ∷ 225052 ∷ 1915 ∷ 54714 ∷ 350 ∷ [])
     ∷ figure (assessed (twoLanes (given Kind.Multilane 45000 120) 3800)) (0 ∷ 5 ∷ 45000 ∷ 190000 ∷ 1900 ∷ 42222 ∷ 450 ∷ [])
     ∷ figure (assessed (twoLanes (given Kind.Freeway 0 0) 0)) (1 ∷ [])
     ∷ figure (checkedAs (twoLanes (given Kind.Freeway 55000 120) 0)) (0 ∷ 55000 ∷ 225000 ∷ 180000 ∷ [])
     ∷ figure (checkedAs (twoLanes (given Kind.Freeway 54999 120) 0)) (10 ∷ [])
+    ∷ figure (rightOff 0) (3600 ∷ 2400 ∷ 1200 ∷ 600 ∷ 600 ∷ [])
+    ∷ figure (rightOff 61) (0 ∷ 0 ∷ 0 ∷ 0 ∷ 0 ∷ [])
+    ∷ figure (rightOff 400) (0 ∷ 0 ∷ 0 ∷ 0 ∷ 0 ∷ [])
+    ∷ figure (totalOff Median.Divided 38 45) (825 ∷ 825 ∷ [])
+    ∷ figure (totalOff Median.Divided 0 0) (5400 ∷ 3900 ∷ [])
+    ∷ figure (totalOff Median.Divided 1 0) (5310 ∷ 3845 ∷ [])
+    ∷ figure (totalOff Median.Undivided 30 7) (650 ∷ 650 ∷ [])
+    ∷ figure (totalOff Median.TwoWayLeftTurnLane 400 0) (0 ∷ 0 ∷ [])
+    ∷ figure (freeFlowSpeed (road Kind.Multilane Way.Estimated 60000 120 30 7 Median.Undivided 0) 2 ∷ []) (57750 ∷ [])
     ∷ []

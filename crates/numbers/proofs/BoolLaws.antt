@@ -4,6 +4,7 @@
 --   or-false            two tests of which none is met
 --   leb-iff             tests of facts that hold together are equal
 --   leb-test            a test of a fact is equal to a test that passes exactly when it holds
+--   cond-all            what holds of both outcomes holds of the choice
 --   cond-le             both outcomes are at most z: so is the choice
 --   le-cond             both outcomes are at least z: so is the choice
 --   cond-leb-mono       x ≤ limit, else worse: with a larger x no less
@@ -48,13 +49,15 @@ pub leb-test : (a b : ℕ) (c : Bool) → (a ≤ b) ↔ T c → leb a b ≡ c
 leb-test a b true e = le-leb a b (e .1 tt)
 leb-test a b false e = let not : a ≤ b → ⊥ = e .0 in lt-leb a b (omega arith)
 
+pub cond-all : {A : Type 0} (P : A → Type 0) (b : Bool) {x y : A} → P x → P y → P (cond b x y)
+cond-all P true px py = px
+cond-all P false px py = py
+
 pub cond-le : (b : Bool) {x y z : ℕ} → x ≤ z → y ≤ z → cond b x y ≤ z
-cond-le true h k = h
-cond-le false h k = k
+cond-le b {z = z} h k = cond-all (λ v. v ≤ z) b h k
 
 pub le-cond : (b : Bool) {x y z : ℕ} → z ≤ x → z ≤ y → z ≤ cond b x y
-le-cond true h k = h
-le-cond false h k = k
+le-cond b {z = z} h k = cond-all (λ v. z ≤ v) b h k
 
 -- by whether the larger number, and the smaller, is within the limit
 module _ (m n limit : ℕ) {a x y : ℕ} (h : m ≤ n) where

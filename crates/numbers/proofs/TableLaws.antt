@@ -1,14 +1,17 @@
--- A test of every entry of a table (specs/Table).
+-- A test of every entry of a table, and of every number up to an end (specs/Table).
 --   everyEntry-at   the test passes at each place
+--   everyUpTo-at    the test passes at each number
 -- Assumes nothing.
-use mathlib.Core.Path.{_∙_, subst, sym}
+use mathlib.Core.Path.{_≡_, _∙_, subst, sym}
 use mathlib.Core.Bool.{Bool}
 use mathlib.Core.List.{List, [], _∷_}
-use Prim.Native.Nat.{ℕ, zero, suc, _+_, _<_}
+use Prim.Native.Nat.{ℕ, zero, suc, _+_, _≤_, _<_}
+use native.Mathlib.Omega.{arith}
+use native.Mathlib.Decide.{decLe}
 use native.Mathlib.Nat.{add-zero, zero-add, add-suc, suc-add, le-of-suc-le-suc, not-suc-le-zero}
 use lib.Dec.{T}
 use lib.ListN.{length, getD}
-use Rattle.numbers.specs.Table.{everyFrom, everyEntry}
+use Rattle.numbers.specs.Table.{everyFrom, everyEntry, everyUpTo}
 use Rattle.numbers.proofs.BoolLaws.{and-left, and-right}
 
 everyFrom-at : (f : ℕ → ℕ → ℕ → Bool) (xs : List ℕ) (i before : ℕ) → T (everyFrom f i before xs)
@@ -24,3 +27,12 @@ pub everyEntry-at : (f : ℕ → ℕ → ℕ → Bool) (xs : List ℕ) → T (ev
     → (k : ℕ) → k < length xs → T (f k (getD (0 ∷ xs) k 0) (getD xs k 0))
 everyEntry-at f xs t k h =
     subst (λ (m : ℕ). T (f m (getD (0 ∷ xs) k 0) (getD xs k 0))) (zero-add k) (everyFrom-at f xs 0 0 t k h)
+
+pub everyUpTo-at : (p : ℕ → Bool) (n : ℕ) → T (everyUpTo p n) → (k : ℕ) → k ≤ n → T (p k)
+everyUpTo-at p zero t k h = let e : k ≡ 0 = omega arith in rw e t
+everyUpTo-at p (suc n) t k h =
+    go (everyUpTo-at p n (and-right (p (suc n)) (everyUpTo p n) t) k) (decLe k n)
+  where
+    go : (k ≤ n → T (p k)) → Dec (k ≤ n) → T (p k)
+    go below (yes b) = below b
+    go below (no b) = let e : k ≡ suc n = omega arith in rw e (and-left (p (suc n)) (everyUpTo p n) t)

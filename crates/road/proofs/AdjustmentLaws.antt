@@ -1,29 +1,43 @@
--- What is taken off a base speed (specs/Adjustments): how much at most, and never more with more lanes.
+-- What is taken off a base speed (specs/Adjustments): how much at most, and never more with more lanes. What is said of clearances is a
+-- test, computed at every tenth.
 --   laneWidthAdjustment-le, perMissingFoot-le, rightClearanceAdjustment-le, countedLeftClearance-le, totalClearance-le,
---   totalClearanceAdjustment-le, medianAdjustment-le, accessAdjustment-le          the most that it is
---   rightClearanceAdjustment-antitone, totalClearanceAdjustment-antitone           with more lanes it is no more
+--   totalClearanceAdjustment-le, medianAdjustment-le, accessAdjustment-le   the most that it is
+--   rightClearanceAdjustment-antitone, totalClearanceAdjustment-antitone    with more lanes it is no more
+--   rightClearance-whole, totalClearance-whole                              the interpolation rounds nothing
+--   rightClearance-tenths                                                   a missing tenth takes off a tenth of what a foot takes
+--   entries-rise, entryAfter-le                                             the entries on both sides of a total clearance
 -- Assumes nothing.
-use Prim.Native.Nat.{ℕ, _-_, _/_, _≤_, _<_, min}
+use mathlib.Core.Path.{_≡_}
+use mathlib.Core.Bool.{Bool}
+use mathlib.Core.List.{List}
+use Prim.Native.Nat.{ℕ, _*_, _-_, _≤_, min}
 use native.Mathlib.Omega.{arith}
-use native.Mathlib.Nat.{mul-le-mul, mul-le-mul-left, le-refl, le-trans}
-use lib.Dec.{leb, leb→le}
-use lib.ListN.{getD}
-use Rattle.numbers.proofs.TableLaws.{everyEntry-at}
-use Rattle.numbers.proofs.BoolLaws.{cond-le, cond-leb-antitone}
+use native.Mathlib.Decide.{decLe}
+use native.Mathlib.Nat.{mul-le-mul-left, le-refl, le-trans}
+use borrow.Author.Tests.{le-leb, lt-leb}
+use lib.Dec.{T, leb, eqb, leb→le, eqb→eq}
+use Rattle.numbers.specs.Division.{divUp}
+use Rattle.numbers.specs.Table.{everyUpTo}
+use Rattle.numbers.proofs.TableLaws.{everyUpTo-at}
+use Rattle.numbers.proofs.BoolLaws.{cond-all, cond-le, cond-leb-antitone}
 use Rattle.road.specs.declared.Median.{Median}
 use Rattle.road.specs.declared.Median.the-variants as Median
-use Rattle.road.specs.Adjustments.{laneWidthAdjustment, perMissingFoot, rightClearanceAdjustment, countedLeftClearance}
-use Rattle.road.specs.Adjustments.{totalClearance, twoLaneRow, threeLaneRow, totalClearanceAdjustment, medianAdjustment}
-use Rattle.road.specs.Adjustments.{accessAdjustment}
+use Rattle.road.specs.Interpolation.{entryBefore, entryAfter, weighted, interpolated}
+use Rattle.road.specs.Adjustments.{laneWidthAdjustment, perMissingFoot, rightClearanceRow, rightClearanceAdjustment}
+use Rattle.road.specs.Adjustments.{countedLeftClearance, totalClearance, twoLaneRow, threeLaneRow, totalClearanceRow}
+use Rattle.road.specs.Adjustments.{totalClearanceAdjustment, medianAdjustment, accessAdjustment}
 
 pub laneWidthAdjustment-le : (w : ℕ) → laneWidthAdjustment w ≤ 6600
 unfolding laneWidthAdjustment
 laneWidthAdjustment-le w = cond-le (leb 120 w) (omega arith) (cond-le (leb 110 w) (omega arith) (omega arith))
 
-pub perMissingFoot-le : (n : ℕ) → perMissingFoot n ≤ 600
+-- what holds of the four rates holds with any lanes
+perMissingFoot-all : (P : ℕ → Type 0) → P 600 → P 400 → P 200 → P 100 → (n : ℕ) → P (perMissingFoot n)
 unfolding perMissingFoot
-perMissingFoot-le n =
-    cond-le (leb n 2) (omega arith) (cond-le (leb n 3) (omega arith) (cond-le (leb n 4) (omega arith) (omega arith)))
+perMissingFoot-all P p600 p400 p200 p100 n = cond-all P (leb n 2) p600 (cond-all P (leb n 3) p400 (cond-all P (leb n 4) p200 p100))
+
+pub perMissingFoot-le : (n : ℕ) → perMissingFoot n ≤ 600
+perMissingFoot-le = perMissingFoot-all (λ p. p ≤ 600) (omega arith) (omega arith) (omega arith) (omega arith)
 
 perMissingFoot-antitone : (m n : ℕ) → m ≤ n → perMissingFoot n ≤ perMissingFoot m
 unfolding perMissingFoot
@@ -32,13 +46,39 @@ perMissingFoot-antitone m n h =
     (cond-leb-antitone m n 3 h (cond-le (leb n 4) (omega arith) (omega arith))
     (cond-leb-antitone m n 4 h (omega arith) (omega arith)))
 
+-- a test that passes at each tenth to 60 with each of the four rates passes at any right clearance with any lanes
+at-rate : (p : ℕ → ℕ → Bool) → T (everyUpTo (p 600) 60) → T (everyUpTo (p 400) 60) → T (everyUpTo (p 200) 60) → T (everyUpTo (p 100) 60)
+    → (r n : ℕ) → T (p (perMissingFoot n) (60 - min 60 r))
+at-rate p p600 p400 p200 p100 r n =
+    everyUpTo-at (p (perMissingFoot n)) 60 (perMissingFoot-all (λ f. T (everyUpTo (p f) 60)) p600 p400 p200 p100 n) (60 - min 60 r)
+    (omega arith)
+
+pub rightClearance-whole : (r n : ℕ)
+    → 10 * rightClearanceAdjustment r n ≡ weighted (rightClearanceRow (perMissingFoot n)) 10 (60 - min 60 r)
+unfolding divUp rightClearanceRow entryBefore entryAfter weighted interpolated rightClearanceAdjustment
+rightClearance-whole r n =
+    eqb→eq (10 * rightClearanceAdjustment r n) (weighted (rightClearanceRow (perMissingFoot n)) 10 (60 - min 60 r))
+    (at-rate (λ p x. eqb (10 * interpolated (rightClearanceRow p) 10 x) (weighted (rightClearanceRow p) 10 x)) tt tt tt tt r n)
+
+pub rightClearance-tenths : (r n : ℕ) → 10 * rightClearanceAdjustment r n ≡ (60 - min 60 r) * perMissingFoot n
+unfolding divUp rightClearanceRow entryBefore entryAfter weighted interpolated rightClearanceAdjustment
+rightClearance-tenths r n =
+    eqb→eq (10 * rightClearanceAdjustment r n) ((60 - min 60 r) * perMissingFoot n)
+    (at-rate (λ p x. eqb (10 * interpolated (rightClearanceRow p) 10 x) (x * p)) tt tt tt tt r n)
+
 pub rightClearanceAdjustment-le : (r n : ℕ) → rightClearanceAdjustment r n ≤ 3600
-unfolding rightClearanceAdjustment
-rightClearanceAdjustment-le r n = mul-le-mul {n₂ = 6} {m₂ = 600} (omega arith) (perMissingFoot-le n)
+unfolding divUp rightClearanceRow entryBefore entryAfter weighted interpolated rightClearanceAdjustment
+rightClearanceAdjustment-le r n =
+    leb→le (rightClearanceAdjustment r n) 3600 (at-rate (λ p x. leb (interpolated (rightClearanceRow p) 10 x) 3600) tt tt tt tt r n)
 
 pub rightClearanceAdjustment-antitone : (r m n : ℕ) → m ≤ n → rightClearanceAdjustment r n ≤ rightClearanceAdjustment r m
-unfolding rightClearanceAdjustment
-rightClearanceAdjustment-antitone r m n h = mul-le-mul-left (6 - min 6 (r / 10)) (perMissingFoot-antitone m n h)
+rightClearanceAdjustment-antitone r m n h =
+    omega (
+      arith,
+      rightClearance-tenths r m,
+      rightClearance-tenths r n,
+      mul-le-mul-left (60 - min 60 r) (perMissingFoot-antitone m n h),
+    )
 
 pub countedLeftClearance-le : (m : Median) (l : ℕ) → countedLeftClearance m l ≤ 60
 countedLeftClearance-le Median.Undivided l = omega arith
@@ -49,27 +89,50 @@ pub totalClearance-le : (m : Median) (r l : ℕ) → totalClearance m r l ≤ 12
 unfolding totalClearance
 totalClearance-le m r l = omega (arith, countedLeftClearance-le m l)
 
--- the rows: no entry is above 5,400, and with 3 lanes none is above that with 2
-twoLaneRow-le : (j : ℕ) → j < 7 → getD twoLaneRow j 0 ≤ 5400
-unfolding twoLaneRow
-twoLaneRow-le j h = leb→le (getD twoLaneRow j 0) 5400 (everyEntry-at (λ i before x. leb x 5400) twoLaneRow tt j h)
+-- a test that passes at each tenth to 120 in each of the two rows passes at any total clearance with any lanes
+at-row : (p : List ℕ → ℕ → Bool) → T (everyUpTo (p twoLaneRow) 120) → T (everyUpTo (p threeLaneRow) 120)
+    → (n s : ℕ) → T (p (totalClearanceRow n) (120 - s))
+unfolding totalClearanceRow
+at-row p two three n s =
+    everyUpTo-at (p (totalClearanceRow n)) 120 (cond-all (λ row. T (everyUpTo (p row) 120)) (leb n 2) two three) (120 - s) (omega arith)
 
-threeLaneRow-le : (j : ℕ) → j < 7 → getD threeLaneRow j 0 ≤ getD twoLaneRow j 0
-unfolding twoLaneRow threeLaneRow
-threeLaneRow-le j h =
-    leb→le (getD threeLaneRow j 0) (getD twoLaneRow j 0)
-    (everyEntry-at (λ i before x. leb (getD threeLaneRow i 0) x) twoLaneRow tt j h)
+pub totalClearance-whole : (n s : ℕ) → 20 * totalClearanceAdjustment n s ≡ weighted (totalClearanceRow n) 20 (120 - s)
+unfolding divUp twoLaneRow threeLaneRow entryBefore entryAfter weighted interpolated totalClearanceAdjustment
+totalClearance-whole n s =
+    eqb→eq (20 * totalClearanceAdjustment n s) (weighted (totalClearanceRow n) 20 (120 - s))
+    (at-row (λ row x. eqb (20 * interpolated row 20 x) (weighted row 20 x)) tt tt n s)
 
 pub totalClearanceAdjustment-le : (n s : ℕ) → totalClearanceAdjustment n s ≤ 5400
-unfolding totalClearanceAdjustment
+unfolding divUp twoLaneRow threeLaneRow entryBefore entryAfter weighted interpolated totalClearanceAdjustment
 totalClearanceAdjustment-le n s =
-    let two : getD twoLaneRow (6 - s / 20) 0 ≤ 5400 = twoLaneRow-le (6 - s / 20) (omega arith) in
-    cond-le (leb n 2) two (le-trans (threeLaneRow-le (6 - s / 20) (omega arith)) two)
+    leb→le (totalClearanceAdjustment n s) 5400 (at-row (λ row x. leb (interpolated row 20 x) 5400) tt tt n s)
+
+-- with 3 lanes it is no more than with any
+threeLanes-le : (n s : ℕ) → interpolated threeLaneRow 20 (120 - s) ≤ totalClearanceAdjustment n s
+unfolding divUp twoLaneRow threeLaneRow entryBefore entryAfter weighted interpolated totalClearanceAdjustment
+threeLanes-le n s =
+    leb→le (interpolated threeLaneRow 20 (120 - s)) (totalClearanceAdjustment n s)
+    (at-row (λ row x. leb (interpolated threeLaneRow 20 x) (interpolated row 20 x)) tt tt n s)
 
 pub totalClearanceAdjustment-antitone : (m n s : ℕ) → m ≤ n → totalClearanceAdjustment n s ≤ totalClearanceAdjustment m s
-unfolding totalClearanceAdjustment
-totalClearanceAdjustment-antitone m n s h =
-    cond-leb-antitone m n 2 h (threeLaneRow-le (6 - s / 20) (omega arith)) (le-refl (getD threeLaneRow (6 - s / 20) 0))
+unfolding totalClearanceRow totalClearanceAdjustment
+totalClearanceAdjustment-antitone m n s h = go (decLe n 2)
+  where
+    go : Dec (n ≤ 2) → totalClearanceAdjustment n s ≤ totalClearanceAdjustment m s
+    go (yes k) = simp (le-leb n 2 k, le-leb m 2 (le-trans h k)) (le-refl (interpolated twoLaneRow 20 (120 - s)))
+    go (no k) = rw (lt-leb n 2 (omega arith)) (threeLanes-le m s)
+
+-- the entries on both sides of a total clearance: the first is no more than the second, and that is at most 5,400
+pub entries-rise : (n s : ℕ) → entryBefore (totalClearanceRow n) 20 (120 - s) ≤ entryAfter (totalClearanceRow n) 20 (120 - s)
+unfolding divUp twoLaneRow threeLaneRow entryBefore entryAfter
+entries-rise n s =
+    leb→le (entryBefore (totalClearanceRow n) 20 (120 - s)) (entryAfter (totalClearanceRow n) 20 (120 - s))
+    (at-row (λ row x. leb (entryBefore row 20 x) (entryAfter row 20 x)) tt tt n s)
+
+pub entryAfter-le : (n s : ℕ) → entryAfter (totalClearanceRow n) 20 (120 - s) ≤ 5400
+unfolding divUp twoLaneRow threeLaneRow entryAfter
+entryAfter-le n s =
+    leb→le (entryAfter (totalClearanceRow n) 20 (120 - s)) 5400 (at-row (λ row x. leb (entryAfter row 20 x) 5400) tt tt n s)
 
 pub medianAdjustment-le : (m : Median) → medianAdjustment m ≤ 1600
 medianAdjustment-le Median.Undivided = omega arith

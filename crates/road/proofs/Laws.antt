@@ -1,14 +1,31 @@
 -- The laws that specs/Laws states, proved: each by the law of the file beside its definition.
---   ramp-term-is-greatest, estimate-never-below-zero, free-flow-speed-never-falls-with-lanes
+--   straight-between-entries, clearances-are-whole, right-clearance-by-tenths, ramp-term-is-greatest, estimate-never-below-zero,
+--   free-flow-speed-never-falls-with-lanes
 -- Assumes nothing.
-use Prim.Native.Nat.{_≤_}
+use mathlib.Core.Path.{_≡_}
+use Prim.Native.Nat.{_≤_, min}
 use native.Mathlib.Omega.{arith}
 use Rattle.road.specs.Adjustments.{totalClearance}
 use Rattle.road.specs.FreeFlowSpeed.{estimatedBy}
-use Rattle.road.specs.Laws.{RampTermIsGreatest, EstimateNeverBelowZero, FreeFlowSpeedNeverFallsWithLanes}
+use Rattle.road.specs.Laws.{StraightBetweenEntries, ClearancesAreWhole, RightClearanceByTenths, RampTermIsGreatest}
+use Rattle.road.specs.Laws.{EstimateNeverBelowZero, FreeFlowSpeedNeverFallsWithLanes}
+use Rattle.road.proofs.InterpolationLaws.{weighted-between}
+use Rattle.road.proofs.AdjustmentLaws.{rightClearance-whole, totalClearance-whole, rightClearance-tenths}
 use Rattle.road.proofs.RampLaws.{rampTerm-rule}
 use Rattle.road.proofs.RefusalLaws.{road-ends}
 use Rattle.road.proofs.FreeFlowSpeedLaws.{freewayTerms-le, multilaneTerms-le, freeFlowSpeed-mono}
+
+pub straight-between-entries : StraightBetweenEntries
+straight-between-entries = weighted-between
+
+pub clearances-are-whole : ClearancesAreWhole
+clearances-are-whole = (
+  λ r n h. let e : min 60 r ≡ r = omega arith in rw e at (rightClearance-whole r n),
+  λ n s h. totalClearance-whole n s,
+)
+
+pub right-clearance-by-tenths : RightClearanceByTenths
+right-clearance-by-tenths = rightClearance-tenths
 
 pub ramp-term-is-greatest : RampTermIsGreatest
 ramp-term-is-greatest = rampTerm-rule

@@ -1,19 +1,21 @@
--- What is taken off a base speed, in thousandths of mi/h (document 01, "Free-flow speed F"). Lengths are tenths of a foot.
+-- What is taken off a base speed, in thousandths of mi/h (document 01, "Free-flow speed F"; clearances by document 02, T-02). Lengths are
+-- tenths of a foot.
 --   laneWidthAdjustment w              for the lane width
+--   perMissingFoot n                   kind F: for each foot that the right clearance is short of 6, with n lanes
+--   rightClearanceRow p                kind F: the row for 6, 5, 4, 3, 2, 1, 0 feet, with p for each missing foot
 --   rightClearanceAdjustment r n       kind F: for right clearance r and n lanes
---   perMissingFoot n                   kind F: for each foot that the right clearance is short of 6
 --   countedLeftClearance m l           the left clearance that counts, by the median
 --   totalClearance m r l               kind M: right plus left
+--   twoLaneRow, threeLaneRow, totalClearanceRow n   kind M: the row for 12, 10, 8, 6, 4, 2, 0 feet
 --   totalClearanceAdjustment n s       kind M: for n lanes and total clearance s
---   twoLaneRow, threeLaneRow           kind M: the table for 12, 10, 8, 6, 4, 2, 0 feet
 --   medianAdjustment m                 kind M: for the median
 --   accessAdjustment p                 kind M: for p access points per mile
 -- Assumes nothing.
-use Prim.Native.Nat.{ℕ, _+_, _*_, _-_, _/_, min}
+use Prim.Native.Nat.{ℕ, _+_, _*_, _-_, min}
 use mathlib.Core.Bool.{cond}
 use mathlib.Core.List.{List, [], _∷_}
 use lib.Dec.{leb}
-use lib.ListN.{getD}
+use Rattle.road.specs.Interpolation.{interpolated}
 use Rattle.road.specs.declared.Median.{Median}
 use Rattle.road.specs.declared.Median.the-variants as Median
 
@@ -25,9 +27,13 @@ laneWidthAdjustment w = cond (leb 120 w) 0 (cond (leb 110 w) 1900 6600)
 unfoldable pub perMissingFoot : ℕ → ℕ
 perMissingFoot n = cond (leb n 2) 600 (cond (leb n 3) 400 (cond (leb n 4) 200 100))
 
--- "Right clearance is cut down to whole feet, at most 6"
+-- for 6, 5, 4, 3, 2, 1, 0 feet, with p for each missing foot
+unfoldable pub rightClearanceRow : ℕ → List ℕ
+rightClearanceRow p = 0 ∷ p ∷ 2 * p ∷ 3 * p ∷ 4 * p ∷ 5 * p ∷ 6 * p ∷ []
+
+-- "Right clearance and total clearance are therefore linear between the entries": an entry a foot, and "at most 6"
 unfoldable pub rightClearanceAdjustment : ℕ → ℕ → ℕ
-rightClearanceAdjustment r n = (6 - min 6 (r / 10)) * perMissingFoot n
+rightClearanceAdjustment r n = interpolated (rightClearanceRow (perMissingFoot n)) 10 (60 - min 60 r)
 
 -- "left counts as 60 for medians U and T"
 abbrev pub countedLeftClearance : Median → ℕ → ℕ
@@ -46,11 +52,12 @@ twoLaneRow = 0 ∷ 400 ∷ 900 ∷ 1300 ∷ 1800 ∷ 3600 ∷ 5400 ∷ []
 unfoldable pub threeLaneRow : List ℕ
 threeLaneRow = 0 ∷ 400 ∷ 900 ∷ 1300 ∷ 1700 ∷ 2800 ∷ 3900 ∷ []
 
--- "The sum is cut down to an even foot": the row's place is the missing pairs of feet
+unfoldable pub totalClearanceRow : ℕ → List ℕ
+totalClearanceRow n = cond (leb n 2) twoLaneRow threeLaneRow
+
+-- "Right clearance and total clearance are therefore linear between the entries": an entry every two feet, the sum at most 12
 unfoldable pub totalClearanceAdjustment : ℕ → ℕ → ℕ
-totalClearanceAdjustment n s =
-    let place = 6 - s / 20 in
-    cond (leb n 2) (getD twoLaneRow place 0) (getD threeLaneRow place 0)
+totalClearanceAdjustment n s = interpolated (totalClearanceRow n) 20 (120 - s)
 
 -- "Median: undivided (U) 1,600; divided (D) and two-way left-turn lane (T) 0"
 abbrev pub medianAdjustment : Median → ℕ

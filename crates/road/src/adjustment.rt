@@ -3,11 +3,13 @@
 //   right_clearance_adjustment    kind F
 //   total_clearance, total_clearance_adjustment, median_adjustment, access_adjustment   kind M
 use crate::Median;
+use numbers::div_up;
 use numbers::lesser;
 ghost use mathlib.Core.Path.{_≡_};
-ghost use Prim.Native.Nat.{_≤_};
+ghost use Prim.Native.Nat.{_+_, _*_, _-_, _/_, _≤_, _<_};
 ghost use Rattle.road.specs.Adjustments.{laneWidthAdjustment, perMissingFoot, rightClearanceAdjustment, countedLeftClearance};
-ghost use Rattle.road.specs.Adjustments.{totalClearance, totalClearanceAdjustment, medianAdjustment, accessAdjustment};
+ghost use Rattle.road.specs.Adjustments.{totalClearance, totalClearanceRow, totalClearanceAdjustment};
+ghost use Rattle.road.specs.Adjustments.{medianAdjustment, accessAdjustment};
 
 // What total clearance takes off, for 12, 10, 8, 6, 4, 2 and 0 feet.
 const TWO_LANES: [u64; 7] = [0, 400, 900, 1_300, 1_800, 3_600, 5_400];
@@ -24,21 +26,21 @@ pub(crate) fn lane_width_adjustment(width: u64) -> u64
     }
 }
 
-fn per_missing_foot(lanes: u64) -> u64
-    ensures { λ r. ⌜ r ≡ perMissingFoot lanes ⌝ }
+fn per_missing_tenth(lanes: u64) -> u64
+    ensures { λ r. ⌜ 10 * r ≡ perMissingFoot lanes ⌝ }
 {
     match lanes {
-        0..=2 => 600,
-        3 => 400,
-        4 => 200,
-        _ => 100,
+        0..=2 => 60,
+        3 => 40,
+        4 => 20,
+        _ => 10,
     }
 }
 
 pub(crate) fn right_clearance_adjustment(right: u64, lanes: u64) -> u64
     ensures { λ r. ⌜ r ≡ rightClearanceAdjustment right lanes ⌝ }
 {
-    (6 - lesser(6, right / 10)) * per_missing_foot(lanes)
+    (60 - lesser(60, right)) * per_missing_tenth(lanes)
 }
 
 fn counted_left_clearance(median: Median, left: u64) -> u64
@@ -57,15 +59,29 @@ pub(crate) fn total_clearance(median: Median, right: u64, left: u64) -> u64
     lesser(60, right) + counted_left_clearance(median, left)
 }
 
+fn total_clearance_row(lanes: u64) -> [u64; 7]
+    ensures { λ r. ⌜ r ≡ totalClearanceRow lanes ⌝ }
+{
+    if lanes <= 2 { TWO_LANES } else { THREE_LANES }
+}
+
+// On the straight line from one entry to the next, which is 20 tenths of a foot further.
+fn between(before: u64, after: u64, past: u64) -> u64
+    requires { ⌜ (before ≤ after) × (after ≤ 5400) × (past < 20) ⌝ }
+    ensures { λ r. ⌜ r ≡ (before * (20 - past) + after * past) / 20 ⌝ }
+{
+    before + (after - before) * past / 20
+}
+
 pub(crate) fn total_clearance_adjustment(lanes: u64, total: u64) -> u64
     requires { ⌜ total ≤ 120 ⌝ }
     ensures { λ r. ⌜ r ≡ totalClearanceAdjustment lanes total ⌝ }
 {
-    let place = (6 - total / 20) as usize;
-    if lanes <= 2 {
-        return TWO_LANES[place];
-    }
-    THREE_LANES[place]
+    let row = total_clearance_row(lanes);
+    let missing = 120 - total;
+    let before = (missing / 20) as usize;
+    let after = div_up(missing, 20) as usize;
+    between(row[before], row[after], missing % 20)
 }
 
 pub(crate) fn median_adjustment(median: Median) -> u64

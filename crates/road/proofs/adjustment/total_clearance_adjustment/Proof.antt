@@ -1,16 +1,22 @@
--- `road::adjustment::total_clearance_adjustment` meets its contract: the constants are the table's rows, and a total to 120 has its place
--- in them.
+-- `road::adjustment::total_clearance_adjustment` meets its contract: it reads the entries on both sides, and the line between them is the
+-- definition's.
 -- Assumes nothing.
-use borrow.Author.Tests.{le-leb, lt-leb}
-use Rattle.road.specs.Adjustments.{totalClearanceAdjustment, twoLaneRow, threeLaneRow}
+use native.Mathlib.Omega.{arith}
+use Rattle.numbers.specs.Division.{divUp}
+use Rattle.road.specs.Interpolation.{entryBefore, entryAfter, weighted, interpolated}
+use Rattle.road.specs.Adjustments.{totalClearanceAdjustment}
+use Rattle.road.proofs.AdjustmentLaws.{entries-rise, entryAfter-le}
 use borrow.Author.Needs.{needs}
 use Rattle.road.proofs.adjustment.total_clearance_adjustment.Statement.{statement}
 use Rattle.road.proofs.adjustment.total_clearance_adjustment.Tie as tie
 
 pub total-clearance-adjustment-spec : {M : Type 1} → statement M
-unfolding totalClearanceAdjustment twoLaneRow threeLaneRow
+unfolding divUp entryBefore entryAfter weighted interpolated totalClearanceAdjustment
 total-clearance-adjustment-spec =
     tie.close
-    (tie.spec (λ c. search needs) (λ c. search needs) (λ c. search needs)
-    (λ c. simp (le-leb (c .before .args .lanes) 2 (c .if1 .taken))) (λ c. search needs) (λ c. search needs)
-    (λ c. simp (lt-leb (c .before .args .lanes) 2 (c .if1 .left))))
+    (tie.spec (λ c κs. search needs) (λ c. search needs) (λ c κs. search needs) (λ c. search needs) (λ c. search needs) (λ c. omega arith)
+    (λ c. omega arith)
+    (λ c κs. let a = c .before .before .args in
+    rw (c .before .total-clearance-row .ensures)
+    (rw (c .div-up .ensures) (entries-rise (a .lanes) (a .total), entryAfter-le (a .lanes) (a .total), omega arith)))
+    (λ c. simp (c .between .ensures, c .before .div-up .ensures, c .before .before .total-clearance-row .ensures)))
