@@ -164,17 +164,24 @@ static uint64_t width_term(uint64_t width)
 
 static uint64_t freeway_estimate(const uint64_t *n, uint64_t lanes)
 {
-    static const uint64_t per_foot[4] = {600, 400, 200, 100};
-    uint64_t missing = 6 - lesser(6, n[RIGHT] / 10);
-    return n[SPEED] - width_term(n[WIDTH]) - missing * per_foot[lesser(lanes, 5) - 2] - ramp_terms[n[ACCESS]];
+    static const uint64_t per_tenth[4] = {60, 40, 20, 10};
+    uint64_t missing = 60 - lesser(60, n[RIGHT]);
+    return n[SPEED] - width_term(n[WIDTH]) - missing * per_tenth[lesser(lanes, 5) - 2] - ramp_terms[n[ACCESS]];
+}
+
+/* For 12, 10, 8, 6, 4, 2 and 0 feet, and straight between them. */
+static uint64_t clearance_term(uint64_t total, uint64_t lanes)
+{
+    static const uint64_t clearance[2][8] = {{0, 400, 900, 1300, 1800, 3600, 5400, 5400}, {0, 400, 900, 1300, 1700, 2800, 3900, 3900}};
+    const uint64_t *row = clearance[lanes - 2] + (120 - total) / 20;
+    return row[0] + (row[1] - row[0]) * ((120 - total) % 20) / 20;
 }
 
 static uint64_t multilane_estimate(const uint64_t *n, uint8_t median, uint64_t lanes)
 {
-    static const uint64_t clearance[2][7] = {{5400, 3600, 1800, 1300, 900, 400, 0}, {3900, 2800, 1700, 1300, 900, 400, 0}};
     uint64_t left = median == 'D' ? lesser(60, n[LEFT]) : 60;
     uint64_t total = lesser(60, n[RIGHT]) + left;
-    return n[SPEED] - width_term(n[WIDTH]) - clearance[lanes - 2][total / 20] - (median == 'U' ? 1600 : 0)
+    return n[SPEED] - width_term(n[WIDTH]) - clearance_term(total, lanes) - (median == 'U' ? 1600 : 0)
         - lesser(10000, 250 * n[ACCESS]);
 }
 

@@ -23,8 +23,8 @@
         free-flow speed itself, and fields 4 to 8 are checked and not used
      3  speed
      4  lane width
-     5  right clearance
-     6  left clearance
+     5  right clearance; more than 60 counts as 60
+     6  left clearance, likewise; used on kind M with median D only
      7  median: U undivided, D divided, T two-way left-turn lane
      8  ramps in six miles (kind F), access points per mile (kind M)
      9  lanes in one direction
@@ -33,7 +33,8 @@
     12  heavy share
     13  terrain: L level, R rolling
 
-   A number has one to five digits and no leading zero, save 0 itself.
+   A number has one to five digits and no leading zero, save 0 itself. What clearances take off a
+   base speed is linear, tenth by tenth, between the feet that the manual's tables have.
 
    Memory. A call reads line[0] to line[line_length - 1] and demands[0] to
    demands[demand_count - 1], and nothing else, and keeps no pointer. It writes into answer[0] to

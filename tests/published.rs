@@ -1,5 +1,5 @@
 // Compares the answers of the program los with figures that others published, at the project's root; its path is the argument.
-//   br101.tsv          nine sections of a multilane highway, worked out with another program
+//   br101.tsv          nine sections of a multilane highway, worked out with another program; F given, and F estimated
 //   service_flows.tsv  25 maximum service flows of freeways
 //   section_5001.tsv   a freeway section, worked out figure by figure
 //   sections.tsv       freeway sections of a practical application
@@ -8,6 +8,7 @@
 //   - a converted column is not what the published one converts to;
 //   - a figure is outside its tolerance and not marked, or marked and not outside;
 //   - the cause of a mark does not account for the difference, or one does and the mark says unexplained;
+//   - a section of the multilane highway is answered otherwise with its F estimated than with it given;
 //   - the source's own steps, worked out anew, do not give the figures it prints (the sections of document 001).
 
 use std::collections::BTreeMap;
@@ -52,15 +53,17 @@ enum Cause {
     Whole,
     Share,
     Ramps,
+    Clearance,
     Capacity,
     Shown,
     Limit,
 }
 
-const CAUSES: [(&str, Cause); 6] = [
+const CAUSES: [(&str, Cause); 7] = [
     ("whole", Cause::Whole),
     ("share", Cause::Share),
     ("ramps", Cause::Ramps),
+    ("clearance", Cause::Clearance),
     ("capacity", Cause::Capacity),
     ("shown", Cause::Shown),
     ("limit", Cause::Limit),
@@ -157,34 +160,54 @@ fn columns<const N: usize>(file: &str, row: Vec<String>) -> [String; N] {
 
 // br101.tsv
 
+// Of each section a row with F given and one with F estimated.
 fn br101() -> Vec<Row> {
-    rows_of("br101.tsv").into_iter().map(|row| br101_row(&columns::<32>("br101.tsv", row))).collect()
+    rows_of("br101.tsv").into_iter().flat_map(|row| br101_rows(&columns::<45>("br101.tsv", row))).collect()
 }
 
-fn br101_row(row: &[String; 32]) -> Row {
+fn br101_rows(row: &[String; 45]) -> [Row; 2] {
     let number = |at: usize| Decimal::read(&row[at]);
-    let (access, left) = (number(8), number(9).whole(1));
+    let (access, left) = (number(8).nearest(25, 10) * 100, number(9).whole(1));
     let clearance = match left {
         3 => 650,
         6 => 0,
         _ => fail(&format!("br101.tsv: no left clearance of {left} ft expected")),
     };
-    let free_flow = number(7).whole(1000) - 1900 - clearance - access.nearest(25, 10) * 100;
+    let base = number(7).whole(1000) - access;
     let terrain = match row[5].as_str() {
         "Plano" => "L",
         "Ondulado" => "R",
         terrain => fail(&format!("br101.tsv: unknown terrain {terrain}")),
     };
     let (demand, factor, share) = (number(3).whole(1), number(4).whole(1000), number(6).whole(10));
-    let line = format!("M\tG\t{free_flow}\t110\t60\t{}\tD\t0\t2\t{demand}\t{factor}\t{share}\t{terrain}", left * 10);
+    let line = |way: &str, speed: i64| {
+        format!("M\t{way}\t{speed}\t110\t60\t{}\tD\t0\t2\t{demand}\t{factor}\t{share}\t{terrain}", left * 10)
+    };
     let mut published = [None; FIGURES];
     published[0] = published_letter(&row[14]);
     published[2] = Some(number(10).whole(100));
     published[3] = Some(number(11).whole(1));
     published[4] = Some(number(12).whole(1000));
     published[5] = Some(number(13).up(10, 1));
-    let expected = [texts(&published[2..6]), line.split('\t').map(str::to_string).collect()].concat();
-    Row { name: row[0].clone(), line, published, marks: Marks::new(), section: None, faults: faults_of(&row[15..], &expected) }
+    let fields = |line: &str| line.split('\t').map(str::to_string).collect::<Vec<_>>();
+    let (given, estimated) = (line("G", base - 1900 - clearance), line("E", base));
+    let expected = [texts(&published[2..6]), fields(&given), fields(&estimated)].concat();
+    [(given, faults_of(&row[15..], &expected)), (estimated, Vec::new())].map(|(line, faults)| Row {
+        name: row[0].clone(),
+        line,
+        published,
+        marks: Marks::new(),
+        section: None,
+        faults,
+    })
+}
+
+// Whether both rows of each section have one answer.
+fn ways_agree(los: &str, rows: &[Row]) -> bool {
+    let answers = answers(los, rows);
+    let apart: Vec<_> = rows.chunks(2).zip(answers.chunks(2)).filter(|(_, answers)| answers[0] != answers[1]).collect();
+    apart.iter().for_each(|(rows, answers)| println!("published: br101.tsv {}: WRONG {}, {}", rows[0].name, answers[0], answers[1]));
+    apart.is_empty()
 }
 
 // service_flows.tsv
@@ -307,7 +330,7 @@ impl Section {
         wrong
     }
 
-    // How far ours is from the source's figure, with document 01's way in the place of the step that the cause names.
+    // How far ours is from the source's figure, with the documents' way in the place of the step that the cause names.
     fn left(&self, cause: Cause, figure: usize, ours: i64) -> i64 {
         ours - Steps::of(self, Some(cause)).figures(cause)[figure]
     }
@@ -336,7 +359,11 @@ impl Steps {
             Some(Cause::Ramps) => section.ramps_in_six_miles() as f64 / 6.0,
             _ => section.ramps.real() * 1.609,
         };
-        let free_flow = 121.3 - width_takes(section.width) - clearance_takes(section.right, section.lanes) - 3.22 * ramps.powf(0.84) * 1.609;
+        let clearance = match cause {
+            Some(Cause::Clearance) => by_tenths(section.right, section.lanes),
+            _ => clearance_takes(section.right, section.lanes),
+        };
+        let free_flow = 121.3 - width_takes(section.width) - clearance - 3.22 * ramps.powf(0.84) * 1.609;
         let capacity = (2200.0 + 10.0 * (free_flow / 1.609 - 50.0)).min(2400.0);
         let breakpoint = 1000.0 + 40.0 * (75.0 - free_flow / 1.609);
         let flow = flow_of(section, cause);
@@ -389,6 +416,13 @@ fn clearance_takes(right: i64, lanes: i64) -> f64 {
         (100, 3) => 1.9,
         _ => fail(&format!("no clearance of {right} cm with {lanes} lanes expected")),
     }
+}
+
+// What document 02 has in the place of table 7: 0.06, 0.04, 0.02 or 0.01 mi/h for each tenth of a foot short of 6 feet.
+fn by_tenths(right: i64, lanes: i64) -> f64 {
+    let missing = 60 - (right / 3).min(60);
+    let per_tenth = [0.06, 0.04, 0.02, 0.01][lanes.min(5) as usize - 2];
+    missing as f64 * per_tenth * 1.609
 }
 
 fn flow_of(section: &Section, cause: Option<Cause>) -> f64 {
@@ -599,7 +633,8 @@ fn compare_file(los: &str, file: &str, rows: Vec<Row>, expected: usize) -> bool 
 fn main() {
     let Some(los) = std::env::args().nth(1) else { fail("usage: published PATH-OF-LOS") };
     let all = [
-        compare_file(&los, "br101.tsv", br101(), 9),
+        compare_file(&los, "br101.tsv", br101(), 18),
+        ways_agree(&los, &br101()),
         compare_file(&los, "service_flows.tsv", service_flows(), 5),
         compare_file(&los, "section_5001.tsv", section_5001(), 1),
         compare_file(&los, "sections.tsv", sections(), 121),

@@ -96,8 +96,9 @@ pub fn check(method: &Method, tally: &mut Tally) {
 pub fn write(method: &Method) {
     for (path, worked_out) in FILES {
         let (held, expected) = (read(path), worked_out(method));
-        let changed = lines::input_lines(&held).iter().zip(lines::input_lines(&expected)).filter(|(held, expected)| *held != expected).count();
-        println!("{path}: {changed} of {} rows changed", lines::input_lines(&expected).len());
+        let rows = lines::input_lines(&expected);
+        let same = lines::input_lines(&held).iter().zip(&rows).filter(|(held, row)| held == row).count();
+        println!("{path}: {} of {} rows changed", rows.len() - same, rows.len());
         std::fs::write(path, expected).unwrap_or_else(|error| fail(&format!("{path}: {error}")));
     }
 }

@@ -23,7 +23,7 @@ use Rattle.method.specs.Refusals.{speedRefusals, refusals}
 use Rattle.method.specs.Checked.{curveOf}
 use Rattle.method.specs.Flow.{heavyFactor, flowRate}
 use Rattle.method.specs.Assess.{measures}
-use Rattle.method.specs.Boundary.{boundaryFigures}
+use Rattle.method.specs.Boundary.{clearanceFigures, boundaryFigures}
 
 pub ramp-6 : rampTerm 6 ≡ 3220
 unfolding endsAt rampAtMost
@@ -45,11 +45,17 @@ power-1000 : power 1000 ≡ 1000000
 unfolding startsAt reachesPower
 power-1000 = power-eq 1000 1000000 (omega arith) tt
 
+clearances-shown : Shown clearanceFigures
+unfolding divUp entryBefore entryAfter weighted interpolated laneWidthAdjustment perMissingFoot rightClearanceRow
+    rightClearanceAdjustment totalClearance twoLaneRow threeLaneRow totalClearanceRow totalClearanceAdjustment accessAdjustment estimatedBy
+    uncappedBy freeFlowSpeed clearanceFigures
+clearances-shown = (refl, (refl, (refl, (refl, (refl, (refl, (refl, (refl, (refl, (refl, tt))))))))))
+
 pub boundary-shown : Shown boundaryFigures
 unfolding divUp entryBefore entryAfter weighted interpolated laneWidthAdjustment perMissingFoot rightClearanceRow
-    rightClearanceAdjustment totalClearance twoLaneRow threeLaneRow totalClearanceRow totalClearanceAdjustment accessAdjustment estimatedBy uncappedBy freeFlowSpeed roadRefusals loadRefusals fieldRefusals speedRefusals refusals capacity breakpoint
-    curveAt curveOf heavyFactor flowRate fallShareBy speed shownSpeed density shownDensity densityLimit densityLetter letterAt performance
-    measures boundaryFigures
+    rightClearanceAdjustment totalClearance twoLaneRow threeLaneRow totalClearanceRow totalClearanceAdjustment accessAdjustment estimatedBy
+    uncappedBy freeFlowSpeed roadRefusals loadRefusals fieldRefusals speedRefusals refusals capacity breakpoint curveAt curveOf heavyFactor
+    flowRate fallShareBy speed shownSpeed density shownDensity densityLimit densityLetter letterAt performance measures boundaryFigures
 boundary-shown = (
   simp ramp-24,
   (
@@ -70,7 +76,7 @@ boundary-shown = (
                   simp power-500,
                   (
                     simp power-500,
-                    (refl, (refl, (refl, (refl, (simp power-1000, (refl, (refl, (refl, (refl, (refl, (refl, (refl, (refl, (refl, (refl, (refl, (refl, tt))))))))))))))))),
+                    (refl, (refl, (refl, (refl, (simp power-1000, (refl, (refl, (refl, clearances-shown)))))))),
                   ),
                 ),
               ),

@@ -2,7 +2,7 @@
 --   given kind f w   a road of given speed f and lane width w
 --   twoLanes road v  its case with two lanes and demand v, no heavy vehicles, level
 --   example          the printed line's case
---   boundaryFigures  the list
+--   clearanceFigures, boundaryFigures   the list, and its last part
 -- Assumes nothing.
 use mathlib.Core.List.{List, [], _∷_}
 use Prim.Native.Nat.{ℕ}
@@ -62,10 +62,24 @@ assessed case = refusalNumber (assessment case) ∷ values (assessment case)
 abbrev checkedAs : Case → List ℕ
 checkedAs case = checked.refusalNumber (checked.checked case) ∷ checked.values (checked.checked case)
 
+-- Clearances between the table's entries and at their ends (document 02, T-02).
+unfoldable pub clearanceFigures : List Figure
+clearanceFigures =
+    figure (rightOff 0) (3600 ∷ 2400 ∷ 1200 ∷ 600 ∷ 600 ∷ [])
+    ∷ figure (rightOff 61) (0 ∷ 0 ∷ 0 ∷ 0 ∷ 0 ∷ [])
+    ∷ figure (rightOff 400) (0 ∷ 0 ∷ 0 ∷ 0 ∷ 0 ∷ [])
+    ∷ figure (totalOff Median.Divided 38 45) (825 ∷ 825 ∷ [])
+    ∷ figure (totalOff Median.Divided 25 25) (1550 ∷ 1500 ∷ [])
+    ∷ figure (totalOff Median.Divided 0 0) (5400 ∷ 3900 ∷ [])
+    ∷ figure (totalOff Median.Divided 1 0) (5310 ∷ 3845 ∷ [])
+    ∷ figure (totalOff Median.Undivided 30 7) (650 ∷ 650 ∷ [])
+    ∷ figure (totalOff Median.TwoWayLeftTurnLane 400 0) (0 ∷ 0 ∷ [])
+    ∷ figure (freeFlowSpeed (road Kind.Multilane Way.Estimated 60000 120 30 7 Median.Undivided 0) 2 ∷ []) (57750 ∷ [])
+    ∷ []
+
 -- Of a case that is accepted 0, and then letter, F, c, v, speed and density, of one that is refused its number. A is 1 and F is 6.
--- Starred in document 01: all down to the right clearance of 59, which takes off 60 by document 02. Not starred: no demand; two letters that
--- the shown speed would miss; a case that breaks 1 and 2; the curve of a case and its refusal; clearances between the table's entries and at
--- their ends.
+-- Starred in document 01: all down to the right clearance of 59, which takes off 60 by document 02. Not starred: no demand; two letters
+-- that the shown speed would miss; a case that breaks 1 and 2; the curve of a case and its refusal; more clearances.
 unfoldable pub boundaryFigures : List Figure
 boundaryFigures =
     figure (assessed example) (0 ∷ 3 ∷ 60783 ∷ 230783 ∷ 1196 ∷ 60783 ∷ 197 ∷ [])
@@ -86,13 +100,4 @@ boundaryFigures =
     ∷ figure (assessed (twoLanes (given Kind.Freeway 0 0) 0)) (1 ∷ [])
     ∷ figure (checkedAs (twoLanes (given Kind.Freeway 55000 120) 0)) (0 ∷ 55000 ∷ 225000 ∷ 180000 ∷ [])
     ∷ figure (checkedAs (twoLanes (given Kind.Freeway 54999 120) 0)) (10 ∷ [])
-    ∷ figure (rightOff 0) (3600 ∷ 2400 ∷ 1200 ∷ 600 ∷ 600 ∷ [])
-    ∷ figure (rightOff 61) (0 ∷ 0 ∷ 0 ∷ 0 ∷ 0 ∷ [])
-    ∷ figure (rightOff 400) (0 ∷ 0 ∷ 0 ∷ 0 ∷ 0 ∷ [])
-    ∷ figure (totalOff Median.Divided 38 45) (825 ∷ 825 ∷ [])
-    ∷ figure (totalOff Median.Divided 0 0) (5400 ∷ 3900 ∷ [])
-    ∷ figure (totalOff Median.Divided 1 0) (5310 ∷ 3845 ∷ [])
-    ∷ figure (totalOff Median.Undivided 30 7) (650 ∷ 650 ∷ [])
-    ∷ figure (totalOff Median.TwoWayLeftTurnLane 400 0) (0 ∷ 0 ∷ [])
-    ∷ figure (freeFlowSpeed (road Kind.Multilane Way.Estimated 60000 120 30 7 Median.Undivided 0) 2 ∷ []) (57750 ∷ [])
-    ∷ []
+    ∷ clearanceFigures

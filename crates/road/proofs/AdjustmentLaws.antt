@@ -5,7 +5,7 @@
 --   rightClearanceAdjustment-antitone, totalClearanceAdjustment-antitone    with more lanes it is no more
 --   rightClearance-whole, totalClearance-whole                              the interpolation rounds nothing
 --   rightClearance-tenths                                                   a missing tenth takes off a tenth of what a foot takes
---   entries-rise, entryAfter-le                                             the entries on both sides of a total clearance
+--   interpolated-le, entries-rise, entryAfter-le                            in a row of kind M, the line and the entries on both sides
 -- Assumes nothing.
 use mathlib.Core.Path.{_≡_}
 use mathlib.Core.Bool.{Bool}
@@ -89,30 +89,34 @@ pub totalClearance-le : (m : Median) (r l : ℕ) → totalClearance m r l ≤ 12
 unfolding totalClearance
 totalClearance-le m r l = omega (arith, countedLeftClearance-le m l)
 
--- a test that passes at each tenth to 120 in each of the two rows passes at any total clearance with any lanes
+-- a test that passes at each tenth to 120 in each of the two rows passes there with any lanes
 at-row : (p : List ℕ → ℕ → Bool) → T (everyUpTo (p twoLaneRow) 120) → T (everyUpTo (p threeLaneRow) 120)
-    → (n s : ℕ) → T (p (totalClearanceRow n) (120 - s))
+    → (n x : ℕ) → x ≤ 120 → T (p (totalClearanceRow n) x)
 unfolding totalClearanceRow
-at-row p two three n s =
-    everyUpTo-at (p (totalClearanceRow n)) 120 (cond-all (λ row. T (everyUpTo (p row) 120)) (leb n 2) two three) (120 - s) (omega arith)
+at-row p two three n x h =
+    everyUpTo-at (p (totalClearanceRow n)) 120 (cond-all (λ row. T (everyUpTo (p row) 120)) (leb n 2) two three) x h
 
 pub totalClearance-whole : (n s : ℕ) → 20 * totalClearanceAdjustment n s ≡ weighted (totalClearanceRow n) 20 (120 - s)
 unfolding divUp twoLaneRow threeLaneRow entryBefore entryAfter weighted interpolated totalClearanceAdjustment
 totalClearance-whole n s =
     eqb→eq (20 * totalClearanceAdjustment n s) (weighted (totalClearanceRow n) 20 (120 - s))
-    (at-row (λ row x. eqb (20 * interpolated row 20 x) (weighted row 20 x)) tt tt n s)
+    (at-row (λ row x. eqb (20 * interpolated row 20 x) (weighted row 20 x)) tt tt n (120 - s) (omega arith))
+
+pub interpolated-le : (n x : ℕ) → x ≤ 120 → interpolated (totalClearanceRow n) 20 x ≤ 5400
+unfolding divUp twoLaneRow threeLaneRow entryBefore entryAfter weighted interpolated
+interpolated-le n x h =
+    leb→le (interpolated (totalClearanceRow n) 20 x) 5400 (at-row (λ row y. leb (interpolated row 20 y) 5400) tt tt n x h)
 
 pub totalClearanceAdjustment-le : (n s : ℕ) → totalClearanceAdjustment n s ≤ 5400
-unfolding divUp twoLaneRow threeLaneRow entryBefore entryAfter weighted interpolated totalClearanceAdjustment
-totalClearanceAdjustment-le n s =
-    leb→le (totalClearanceAdjustment n s) 5400 (at-row (λ row x. leb (interpolated row 20 x) 5400) tt tt n s)
+unfolding totalClearanceAdjustment
+totalClearanceAdjustment-le n s = interpolated-le n (120 - s) (omega arith)
 
 -- with 3 lanes it is no more than with any
 threeLanes-le : (n s : ℕ) → interpolated threeLaneRow 20 (120 - s) ≤ totalClearanceAdjustment n s
 unfolding divUp twoLaneRow threeLaneRow entryBefore entryAfter weighted interpolated totalClearanceAdjustment
 threeLanes-le n s =
     leb→le (interpolated threeLaneRow 20 (120 - s)) (totalClearanceAdjustment n s)
-    (at-row (λ row x. leb (interpolated threeLaneRow 20 x) (interpolated row 20 x)) tt tt n s)
+    (at-row (λ row x. leb (interpolated threeLaneRow 20 x) (interpolated row 20 x)) tt tt n (120 - s) (omega arith))
 
 pub totalClearanceAdjustment-antitone : (m n s : ℕ) → m ≤ n → totalClearanceAdjustment n s ≤ totalClearanceAdjustment m s
 unfolding totalClearanceRow totalClearanceAdjustment
@@ -122,17 +126,16 @@ totalClearanceAdjustment-antitone m n s h = go (decLe n 2)
     go (yes k) = simp (le-leb n 2 k, le-leb m 2 (le-trans h k)) (le-refl (interpolated twoLaneRow 20 (120 - s)))
     go (no k) = rw (lt-leb n 2 (omega arith)) (threeLanes-le m s)
 
--- the entries on both sides of a total clearance: the first is no more than the second, and that is at most 5,400
-pub entries-rise : (n s : ℕ) → entryBefore (totalClearanceRow n) 20 (120 - s) ≤ entryAfter (totalClearanceRow n) 20 (120 - s)
+-- the entries on both sides of x: the first is no more than the second, and that is at most 5,400
+pub entries-rise : (n x : ℕ) → x ≤ 120 → entryBefore (totalClearanceRow n) 20 x ≤ entryAfter (totalClearanceRow n) 20 x
 unfolding divUp twoLaneRow threeLaneRow entryBefore entryAfter
-entries-rise n s =
-    leb→le (entryBefore (totalClearanceRow n) 20 (120 - s)) (entryAfter (totalClearanceRow n) 20 (120 - s))
-    (at-row (λ row x. leb (entryBefore row 20 x) (entryAfter row 20 x)) tt tt n s)
+entries-rise n x h =
+    leb→le (entryBefore (totalClearanceRow n) 20 x) (entryAfter (totalClearanceRow n) 20 x)
+    (at-row (λ row y. leb (entryBefore row 20 y) (entryAfter row 20 y)) tt tt n x h)
 
-pub entryAfter-le : (n s : ℕ) → entryAfter (totalClearanceRow n) 20 (120 - s) ≤ 5400
+pub entryAfter-le : (n x : ℕ) → x ≤ 120 → entryAfter (totalClearanceRow n) 20 x ≤ 5400
 unfolding divUp twoLaneRow threeLaneRow entryAfter
-entryAfter-le n s =
-    leb→le (entryAfter (totalClearanceRow n) 20 (120 - s)) 5400 (at-row (λ row x. leb (entryAfter row 20 x) 5400) tt tt n s)
+entryAfter-le n x h = leb→le (entryAfter (totalClearanceRow n) 20 x) 5400 (at-row (λ row y. leb (entryAfter row 20 y) 5400) tt tt n x h)
 
 pub medianAdjustment-le : (m : Median) → medianAdjustment m ≤ 1600
 medianAdjustment-le Median.Undivided = omega arith

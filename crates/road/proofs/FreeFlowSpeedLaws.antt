@@ -26,14 +26,17 @@ use Rattle.road.proofs.RampLaws.{rampTerm-le}
 pub freewayTerms-le : (w r n k : ℕ) → laneWidthAdjustment w + rightClearanceAdjustment r n + rampTerm k ≤ 30000
 freewayTerms-le w r n k = omega (arith, laneWidthAdjustment-le w, rightClearanceAdjustment-le r n, rampTerm-le k)
 
-pub multilaneTerms-le : (road : Road) (n s : ℕ)
-    → laneWidthAdjustment (road .«lane_width») + totalClearanceAdjustment n s + medianAdjustment
-    (road .median) + accessAdjustment (road .access) ≤ 30000
-multilaneTerms-le road n s =
+pub multilaneTerms-le : (road : Road) (n : ℕ)
+    → laneWidthAdjustment (road .«lane_width»)
+    + totalClearanceAdjustment n (totalClearance (road .median) (road .«right_clearance») (road .«left_clearance»))
+    + medianAdjustment (road .median)
+    + accessAdjustment (road .access)
+    ≤ 30000
+multilaneTerms-le road n =
     omega (
       arith,
       laneWidthAdjustment-le (road .«lane_width»),
-      totalClearanceAdjustment-le n s,
+      totalClearanceAdjustment-le n (totalClearance (road .median) (road .«right_clearance») (road .«left_clearance»)),
       medianAdjustment-le (road .median),
       accessAdjustment-le (road .access),
     )

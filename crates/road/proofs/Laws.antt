@@ -5,7 +5,6 @@
 use mathlib.Core.Path.{_≡_}
 use Prim.Native.Nat.{_≤_, min}
 use native.Mathlib.Omega.{arith}
-use Rattle.road.specs.Adjustments.{totalClearance}
 use Rattle.road.specs.FreeFlowSpeed.{estimatedBy}
 use Rattle.road.specs.Laws.{StraightBetweenEntries, ClearancesAreWhole, RightClearanceByTenths, RampTermIsGreatest}
 use Rattle.road.specs.Laws.{EstimateNeverBelowZero, FreeFlowSpeedNeverFallsWithLanes}
@@ -35,8 +34,7 @@ unfolding estimatedBy
 estimate-never-below-zero road n z =
     let base : 30000 ≤ road .speed = road-ends road z .speed-low in (
       λ f. rw f (omega (arith, freewayTerms-le (road .«lane_width») (road .«right_clearance») n (road .access))),
-      λ m. rw m
-          (omega (arith, multilaneTerms-le road n (totalClearance (road .median) (road .«right_clearance») (road .«left_clearance»)))),
+      λ m. rw m (omega (arith, multilaneTerms-le road n)),
     )
 
 pub free-flow-speed-never-falls-with-lanes : FreeFlowSpeedNeverFallsWithLanes

@@ -1,12 +1,13 @@
 // What lane width, clearances, median and access points take off a base speed, in thousandths of mi/h.
 //   lane_width_adjustment         both kinds
 //   right_clearance_adjustment    kind F
-//   total_clearance, total_clearance_adjustment, median_adjustment, access_adjustment   kind M
+//   total_clearance_adjustment, median_adjustment, access_adjustment   kind M
 use crate::Median;
 use numbers::div_up;
 use numbers::lesser;
 ghost use mathlib.Core.Path.{_≡_};
 ghost use Prim.Native.Nat.{_+_, _*_, _-_, _/_, _≤_, _<_};
+ghost use Rattle.road.specs.Interpolation.{interpolated};
 ghost use Rattle.road.specs.Adjustments.{laneWidthAdjustment, perMissingFoot, rightClearanceAdjustment, countedLeftClearance};
 ghost use Rattle.road.specs.Adjustments.{totalClearance, totalClearanceRow, totalClearanceAdjustment};
 ghost use Rattle.road.specs.Adjustments.{medianAdjustment, accessAdjustment};
@@ -53,7 +54,7 @@ fn counted_left_clearance(median: Median, left: u64) -> u64
     }
 }
 
-pub(crate) fn total_clearance(median: Median, right: u64, left: u64) -> u64
+fn total_clearance(median: Median, right: u64, left: u64) -> u64
     ensures { λ r. ⌜ r ≡ totalClearance median right left ⌝ }
 {
     lesser(60, right) + counted_left_clearance(median, left)
@@ -73,15 +74,21 @@ fn between(before: u64, after: u64, past: u64) -> u64
     before + (after - before) * past / 20
 }
 
-pub(crate) fn total_clearance_adjustment(lanes: u64, total: u64) -> u64
-    requires { ⌜ total ≤ 120 ⌝ }
-    ensures { λ r. ⌜ r ≡ totalClearanceAdjustment lanes total ⌝ }
+// For a total clearance so many tenths short of 12 feet.
+fn for_missing_tenths(lanes: u64, missing: u64) -> u64
+    requires { ⌜ missing ≤ 120 ⌝ }
+    ensures { λ r. ⌜ r ≡ interpolated (totalClearanceRow lanes) 20 missing ⌝ }
 {
     let row = total_clearance_row(lanes);
-    let missing = 120 - total;
     let before = (missing / 20) as usize;
     let after = div_up(missing, 20) as usize;
     between(row[before], row[after], missing % 20)
+}
+
+pub(crate) fn total_clearance_adjustment(lanes: u64, median: Median, right: u64, left: u64) -> u64
+    ensures { λ r. ⌜ r ≡ totalClearanceAdjustment lanes (totalClearance median right left) ⌝ }
+{
+    for_missing_tenths(lanes, 120 - total_clearance(median, right, left))
 }
 
 pub(crate) fn median_adjustment(median: Median) -> u64

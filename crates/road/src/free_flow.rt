@@ -28,10 +28,14 @@ fn multilane_estimate(road: Road, lanes: u64) -> u64
     ensures { λ r. ⌜ r ≡ estimatedBy Kind.Multilane road lanes ⌝ }
 {
     let median = road.median;
-    let total = adjustment::total_clearance(median, road.right_clearance, road.left_clearance);
     road.speed
         - adjustment::lane_width_adjustment(road.lane_width)
-        - adjustment::total_clearance_adjustment(lanes, total)
+        - adjustment::total_clearance_adjustment(
+            lanes,
+            median,
+            road.right_clearance,
+            road.left_clearance,
+        )
         - adjustment::median_adjustment(median)
         - adjustment::access_adjustment(road.access)
 }

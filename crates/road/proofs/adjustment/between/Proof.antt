@@ -19,6 +19,6 @@ between-spec =
     tie.close
     (tie.spec (λ c. search needs) (λ c. record { fits = product-fits 5400 20 (omega arith) (omega arith) tt })
     (λ c. let rise : (c .args .after - c .args .before) * c .args .past ≤ 108000 =
-      mul-le-mul {n₂ = 5400} {m₂ = 20} (omega arith) (omega arith)
+    mul-le-mul {n₂ = 5400} {m₂ = 20} (omega arith) (omega arith)
     in omega arith)
     (λ c. by-rise (c .args .before) (c .args .after) (c .args .past) (c .pre .0) (c .pre .2)))

@@ -1,22 +1,15 @@
--- `road::adjustment::total_clearance_adjustment` meets its contract: it reads the entries on both sides, and the line between them is the
--- definition's.
+-- `road::adjustment::total_clearance_adjustment` meets its contract: a total clearance is at most 12 feet.
 -- Assumes nothing.
 use native.Mathlib.Omega.{arith}
-use Rattle.numbers.specs.Division.{divUp}
-use Rattle.road.specs.Interpolation.{entryBefore, entryAfter, weighted, interpolated}
 use Rattle.road.specs.Adjustments.{totalClearanceAdjustment}
-use Rattle.road.proofs.AdjustmentLaws.{entries-rise, entryAfter-le}
+use Rattle.road.proofs.AdjustmentLaws.{totalClearance-le}
 use borrow.Author.Needs.{needs}
 use Rattle.road.proofs.adjustment.total_clearance_adjustment.Statement.{statement}
 use Rattle.road.proofs.adjustment.total_clearance_adjustment.Tie as tie
 
 pub total-clearance-adjustment-spec : {M : Type 1} → statement M
-unfolding divUp entryBefore entryAfter weighted interpolated totalClearanceAdjustment
+unfolding totalClearanceAdjustment
 total-clearance-adjustment-spec =
     tie.close
-    (tie.spec (λ c κs. search needs) (λ c. search needs) (λ c κs. search needs) (λ c. search needs) (λ c. search needs) (λ c. omega arith)
-    (λ c. omega arith)
-    (λ c κs. let a = c .before .before .args in
-    rw (c .before .total-clearance-row .ensures)
-    (rw (c .div-up .ensures) (entries-rise (a .lanes) (a .total), entryAfter-le (a .lanes) (a .total), omega arith)))
-    (λ c. simp (c .between .ensures, c .before .div-up .ensures, c .before .before .total-clearance-row .ensures)))
+    (tie.spec (λ c κs. search needs)
+    (λ c. let a = c .before .args in omega (arith, totalClearance-le (a .median) (a .right) (a .left))) (λ c κs. search needs) (λ c. (cc)))

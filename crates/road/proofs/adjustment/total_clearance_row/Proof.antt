@@ -9,4 +9,5 @@ pub total-clearance-row-spec : {M : Type 1} → statement M
 unfolding totalClearanceRow twoLaneRow threeLaneRow
 total-clearance-row-spec =
     tie.close
-    (tie.spec (λ c. simp (le-leb (c .before .args .lanes) 2 (c .if1 .taken))) (λ c. simp (lt-leb (c .before .args .lanes) 2 (c .if1 .left))))
+    (tie.spec (λ c. simp (le-leb (c .before .args .lanes) 2 (c .if1 .taken)))
+    (λ c. simp (lt-leb (c .before .args .lanes) 2 (c .if1 .left))))
