@@ -169,7 +169,7 @@ static uint64_t freeway_estimate(const uint64_t *n, uint64_t lanes)
     return n[SPEED] - width_term(n[WIDTH]) - missing * per_tenth[lesser(lanes, 5) - 2] - ramp_terms[n[ACCESS]];
 }
 
-/* For 12, 10, 8, 6, 4, 2 and 0 feet, and straight between them. */
+/* For 12, 10, 8, 6, 4, 2 and 0 feet, and straight between them; the last entry once more, for 0 feet. */
 static uint64_t clearance_term(uint64_t total, uint64_t lanes)
 {
     static const uint64_t clearance[2][8] = {{0, 400, 900, 1300, 1800, 3600, 5400, 5400}, {0, 400, 900, 1300, 1700, 2800, 3900, 3900}};

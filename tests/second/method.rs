@@ -17,16 +17,22 @@ pub const LETTER_F: u32 = 6;
 // The greatest density of the letters A to E.
 const DENSITY_LIMITS: [u64; 5] = [110, 180, 260, 350, 450];
 
-// What right clearance takes off at 6, 5, 4, 3, 2, 1 and 0 feet, for 2, 3, 4, and 5 and more lanes.
-const RIGHT_CLEARANCE: [[u64; 7]; 4] = [
-    [0, 600, 1_200, 1_800, 2_400, 3_000, 3_600],
-    [0, 400, 800, 1_200, 1_600, 2_000, 2_400],
-    [0, 200, 400, 600, 800, 1_000, 1_200],
-    [0, 100, 200, 300, 400, 500, 600],
+// A row of a clearance table: points of a clearance, in tenths of a foot, and what it takes off.
+type Row = [(i64, i64); 7];
+
+// Right clearance at 6, 5, 4, 3, 2, 1 and 0 feet, for 2, 3, 4, and 5 and more lanes.
+const RIGHT_CLEARANCE: [Row; 4] = [
+    [(60, 0), (50, 600), (40, 1_200), (30, 1_800), (20, 2_400), (10, 3_000), (0, 3_600)],
+    [(60, 0), (50, 400), (40, 800), (30, 1_200), (20, 1_600), (10, 2_000), (0, 2_400)],
+    [(60, 0), (50, 200), (40, 400), (30, 600), (20, 800), (10, 1_000), (0, 1_200)],
+    [(60, 0), (50, 100), (40, 200), (30, 300), (20, 400), (10, 500), (0, 600)],
 ];
 
-// What total clearance takes off at 12, 10, 8, 6, 4, 2 and 0 feet, for 2 and for 3 lanes.
-const TOTAL_CLEARANCE: [[u64; 7]; 2] = [[0, 400, 900, 1_300, 1_800, 3_600, 5_400], [0, 400, 900, 1_300, 1_700, 2_800, 3_900]];
+// Total clearance at 12, 10, 8, 6, 4, 2 and 0 feet, for 2 and for 3 lanes.
+const TOTAL_CLEARANCE: [Row; 2] = [
+    [(120, 0), (100, 400), (80, 900), (60, 1_300), (40, 1_800), (20, 3_600), (0, 5_400)],
+    [(120, 0), (100, 400), (80, 900), (60, 1_300), (40, 1_700), (20, 2_800), (0, 3_900)],
+];
 
 // The greatest clearance that counts on one side.
 const GREATEST_CLEARANCE: u64 = 60;
@@ -133,12 +139,6 @@ impl Fraction {
     pub fn rounded_up(self) -> u64 {
         self.over.div_ceil(self.under) as u64
     }
-
-    // The value of a fraction that must be whole.
-    fn exactly(self) -> u64 {
-        assert_eq!(self.over % self.under, 0, "all results are whole");
-        self.rounded_down()
-    }
 }
 
 impl Kind {
@@ -219,23 +219,25 @@ fn lane_width_adjustment(width: u64) -> u64 {
     }
 }
 
-// "Linear between the entries, in tenths, with no cutting down. All results are whole." The entries of a row lie `spacing` tenths apart,
-// the last at 0 feet; on an entry both neighbours are that entry.
-fn interpolated(row: &[u64; 7], spacing: u64, clearance: u64) -> u64 {
-    let missing = 6 * spacing - clearance;
-    let (wider, narrower) = (row[(missing / spacing) as usize], row[missing.div_ceil(spacing) as usize]);
-    let past_wider = missing % spacing;
-    Fraction::new(wider * (spacing - past_wider) + narrower * past_wider, spacing).exactly()
+// "linear between the entries, in tenths, with no cutting down. All results are whole." The clearance x lies between two neighbouring
+// points, and the straight line through them takes y0 + (y1 − y0) × (x − x0) / (x1 − x0) off.
+fn interpolated(row: &Row, clearance: u64) -> u64 {
+    let x = clearance as i64;
+    let neighbours = row.iter().zip(&row[1..]).find(|&(&(x0, _), &(x1, _))| x0 >= x && x >= x1);
+    let (&(x0, y0), &(x1, y1)) = neighbours.expect("the clearance lies in the table");
+    let (over, under) = ((y1 - y0) * (x - x0), x1 - x0);
+    assert_eq!(over % under, 0, "all results are whole");
+    (y0 + over / under) as u64
 }
 
 fn right_clearance_adjustment(right: u64, lanes: u64) -> u64 {
-    interpolated(&RIGHT_CLEARANCE[lanes.min(5) as usize - 2], 10, right.min(GREATEST_CLEARANCE))
+    interpolated(&RIGHT_CLEARANCE[lanes.min(5) as usize - 2], right.min(GREATEST_CLEARANCE))
 }
 
 // Right plus left, each at most 60 tenths; left counts as 60 for medians U and T.
 fn total_clearance_adjustment(case: &Case) -> u64 {
     let left = if case.median == Median::Divided { case.left.min(GREATEST_CLEARANCE) } else { GREATEST_CLEARANCE };
-    interpolated(&TOTAL_CLEARANCE[case.lanes as usize - 2], 20, case.right.min(GREATEST_CLEARANCE) + left)
+    interpolated(&TOTAL_CLEARANCE[case.lanes as usize - 2], case.right.min(GREATEST_CLEARANCE) + left)
 }
 
 fn median_adjustment(median: Median) -> u64 {

@@ -21,7 +21,7 @@ use Rattle.curve.specs.declared.kind.Kind.the-variants as Kind
 use Rattle.curve.specs.Curves.{capacity, breakpoint, curveAt}
 use Rattle.curve.specs.Speed.{fallShareBy, speed, shownSpeed}
 use Rattle.curve.specs.Service.{density, shownDensity, densityLetter, letterAt, meetsLimit, densityLimit, performance}
-use Rattle.road.specs.Interpolation.{entryBefore, entryAfter, weighted, interpolated}
+use Rattle.road.specs.Interpolation.{entryBefore, entryAfter, weightedSum, interpolated}
 use Rattle.road.specs.Adjustments.{laneWidthAdjustment, perMissingFoot, rightClearanceRow, rightClearanceAdjustment}
 use Rattle.road.specs.FreeFlowSpeed.{estimatedBy, uncappedBy, freeFlowSpeed}
 use Rattle.road.specs.Refusals.{greatestDemand, roadRefusals, loadRefusals, fieldRefusals}
@@ -48,14 +48,14 @@ use Rattle.answer.proofs.VolumeLaws.{demandMeets-down, serviceVolume-eq
 pub example-speeds : (freeFlowSpeed (example .road) 2 ≡ 60783) × (freeFlowSpeed (example .road) 3 ≡ 61583)
     × (freeFlowSpeed (example .road) 4 ≡ 62383) × (freeFlowSpeed (example .road) 5 ≡ 62783) × (freeFlowSpeed (example .road) 6 ≡ 62783)
     × (freeFlowSpeed (example .road) 7 ≡ 62783) × (freeFlowSpeed (example .road) 8 ≡ 62783)
-unfolding divUp entryBefore entryAfter weighted interpolated laneWidthAdjustment perMissingFoot rightClearanceRow rightClearanceAdjustment
-    estimatedBy uncappedBy freeFlowSpeed
+unfolding divUp entryBefore entryAfter weightedSum interpolated laneWidthAdjustment perMissingFoot rightClearanceRow
+    rightClearanceAdjustment estimatedBy uncappedBy freeFlowSpeed
 example-speeds = (simp ramp-24, simp ramp-24, simp ramp-24, simp ramp-24, simp ramp-24, simp ramp-24, simp ramp-24)
 
 pub estimated-speeds : (freeFlowSpeed (estimated .road) 2 ≡ 53180) × (freeFlowSpeed (estimated .road) 3 ≡ 54380)
     × (freeFlowSpeed (estimated .road) 4 ≡ 55580)
-unfolding divUp entryBefore entryAfter weighted interpolated laneWidthAdjustment perMissingFoot rightClearanceRow rightClearanceAdjustment
-    estimatedBy uncappedBy freeFlowSpeed
+unfolding divUp entryBefore entryAfter weightedSum interpolated laneWidthAdjustment perMissingFoot rightClearanceRow
+    rightClearanceAdjustment estimatedBy uncappedBy freeFlowSpeed
 estimated-speeds = (simp ramp-6, simp ramp-6, simp ramp-6)
 
 pub example-accepted : Accepted example

@@ -12,7 +12,7 @@ use Rattle.powers.proofs.PowerLaws.{power-eq}
 use Rattle.curve.specs.Curves.{capacity, breakpoint, curveAt}
 use Rattle.curve.specs.Speed.{fallShareBy, speed, shownSpeed}
 use Rattle.curve.specs.Service.{density, shownDensity, densityLimit, densityLetter, letterAt, performance}
-use Rattle.road.specs.Interpolation.{entryBefore, entryAfter, weighted, interpolated}
+use Rattle.road.specs.Interpolation.{entryBefore, entryAfter, weightedSum, interpolated}
 use Rattle.road.specs.Adjustments.{laneWidthAdjustment, perMissingFoot, rightClearanceRow, rightClearanceAdjustment, totalClearance}
 use Rattle.road.specs.Adjustments.{twoLaneRow, threeLaneRow, totalClearanceRow, totalClearanceAdjustment, accessAdjustment}
 use Rattle.road.specs.RampTerm.{rampAtMost, rampTerm}
@@ -46,14 +46,15 @@ unfolding startsAt reachesPower
 power-1000 = power-eq 1000 1000000 (omega arith) tt
 
 clearances-shown : Shown clearanceFigures
-unfolding divUp entryBefore entryAfter weighted interpolated laneWidthAdjustment perMissingFoot rightClearanceRow
+unfolding divUp entryBefore entryAfter weightedSum interpolated laneWidthAdjustment perMissingFoot rightClearanceRow
     rightClearanceAdjustment totalClearance twoLaneRow threeLaneRow totalClearanceRow totalClearanceAdjustment accessAdjustment estimatedBy
     uncappedBy freeFlowSpeed clearanceFigures
-clearances-shown = (refl, (refl, (refl, (refl, (refl, (refl, (refl, (refl, (refl, (refl, tt))))))))))
+clearances-shown =
+    (refl, (refl, (refl, (refl, (refl, (refl, (refl, (refl, (refl, (refl, (refl, (refl, (refl, (refl, tt))))))))))))))
 
 pub boundary-shown : Shown boundaryFigures
-unfolding divUp entryBefore entryAfter weighted interpolated laneWidthAdjustment perMissingFoot rightClearanceRow
-    rightClearanceAdjustment totalClearance twoLaneRow threeLaneRow totalClearanceRow totalClearanceAdjustment accessAdjustment estimatedBy
+unfolding divUp entryBefore entryAfter weightedSum interpolated laneWidthAdjustment perMissingFoot rightClearanceRow
+    rightClearanceAdjustment totalClearance twoLaneRow totalClearanceRow totalClearanceAdjustment accessAdjustment estimatedBy
     uncappedBy freeFlowSpeed roadRefusals loadRefusals fieldRefusals speedRefusals refusals capacity breakpoint curveAt curveOf heavyFactor
     flowRate fallShareBy speed shownSpeed density shownDensity densityLimit densityLetter letterAt performance measures boundaryFigures
 boundary-shown = (

@@ -1,8 +1,9 @@
--- The boundary sections of document 01, as far as this layer can state them: one list, which the layers above make longer.
+-- The boundary sections of document 01, with clearances by document 02, as far as this layer can state them: one list, which the layers
+-- above make longer.
 --   given kind f w   a road of given speed f and lane width w
 --   twoLanes road v  its case with two lanes and demand v, no heavy vehicles, level
 --   example          the printed line's case
---   clearanceFigures, boundaryFigures   the list, and its last part
+--   boundaryFigures, clearanceFigures   the list, and its last part
 -- Assumes nothing.
 use mathlib.Core.List.{List, [], _∷_}
 use Prim.Native.Nat.{ℕ}
@@ -62,7 +63,7 @@ assessed case = refusalNumber (assessment case) ∷ values (assessment case)
 abbrev checkedAs : Case → List ℕ
 checkedAs case = checked.refusalNumber (checked.checked case) ∷ checked.values (checked.checked case)
 
--- Clearances between the table's entries and at their ends (document 02, T-02).
+-- Clearances between the table's entries, at its ends and past them (document 02, T-02); with a given speed they take off nothing.
 unfoldable pub clearanceFigures : List Figure
 clearanceFigures =
     figure (rightOff 0) (3600 ∷ 2400 ∷ 1200 ∷ 600 ∷ 600 ∷ [])
@@ -74,7 +75,11 @@ clearanceFigures =
     ∷ figure (totalOff Median.Divided 1 0) (5310 ∷ 3845 ∷ [])
     ∷ figure (totalOff Median.Undivided 30 7) (650 ∷ 650 ∷ [])
     ∷ figure (totalOff Median.TwoWayLeftTurnLane 400 0) (0 ∷ 0 ∷ [])
+    ∷ figure (totalOff Median.Divided 400 0) (1300 ∷ 1300 ∷ [])
+    ∷ figure (totalOff Median.Divided 0 400) (1300 ∷ 1300 ∷ [])
     ∷ figure (freeFlowSpeed (road Kind.Multilane Way.Estimated 60000 120 30 7 Median.Undivided 0) 2 ∷ []) (57750 ∷ [])
+    ∷ figure (freeFlowSpeed (road Kind.Freeway Way.Given 60000 100 0 0 Median.Divided 48) 2 ∷ []) (60000 ∷ [])
+    ∷ figure (freeFlowSpeed (road Kind.Multilane Way.Given 60000 100 0 0 Median.Undivided 200) 2 ∷ []) (60000 ∷ [])
     ∷ []
 
 -- Of a case that is accepted 0, and then letter, F, c, v, speed and density, of one that is refused its number. A is 1 and F is 6.

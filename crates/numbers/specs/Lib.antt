@@ -2,7 +2,7 @@
 --   Division   division rounded up
 --   Fraction   exact fractions and their order
 --   Search     the greatest and the least number that pass a test
---   Table      a test of every entry of a table
+--   Table      a test of every entry of a table, and of every number up to an end
 --   Bounds     lists compared place by place
 pub mod Division
 pub mod Fraction

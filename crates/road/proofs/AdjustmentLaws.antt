@@ -3,9 +3,10 @@
 --   laneWidthAdjustment-le, perMissingFoot-le, rightClearanceAdjustment-le, countedLeftClearance-le, totalClearance-le,
 --   totalClearanceAdjustment-le, medianAdjustment-le, accessAdjustment-le   the most that it is
 --   rightClearanceAdjustment-antitone, totalClearanceAdjustment-antitone    with more lanes it is no more
---   rightClearance-whole, totalClearance-whole                              the interpolation rounds nothing
---   rightClearance-tenths                                                   a missing tenth takes off a tenth of what a foot takes
---   interpolated-le, entries-rise, entryAfter-le                            in a row of kind M, the line and the entries on both sides
+--   rightClearanceAdjustment-whole, totalClearanceAdjustment-whole          the interpolation rounds nothing
+--   rightClearanceAdjustment-tenths                                         a missing tenth takes off a tenth of what a foot takes
+--   totalClearanceRow-line-le                                               the line of a row of kind M is at most 5,400
+--   totalClearanceRow-rises, totalClearanceRow-after-le                     its entries on both sides of a place
 -- Assumes nothing.
 use mathlib.Core.Path.{_≡_}
 use mathlib.Core.Bool.{Bool}
@@ -13,7 +14,7 @@ use mathlib.Core.List.{List}
 use Prim.Native.Nat.{ℕ, _*_, _-_, _≤_, min}
 use native.Mathlib.Omega.{arith}
 use native.Mathlib.Decide.{decLe}
-use native.Mathlib.Nat.{mul-le-mul-left, le-refl, le-trans}
+use native.Mathlib.Nat.{mul-le-mul, mul-le-mul-left, le-refl, le-trans}
 use borrow.Author.Tests.{le-leb, lt-leb}
 use lib.Dec.{T, leb, eqb, leb→le, eqb→eq}
 use Rattle.numbers.specs.Division.{divUp}
@@ -22,7 +23,7 @@ use Rattle.numbers.proofs.TableLaws.{everyUpTo-at}
 use Rattle.numbers.proofs.BoolLaws.{cond-all, cond-le, cond-leb-antitone}
 use Rattle.road.specs.declared.Median.{Median}
 use Rattle.road.specs.declared.Median.the-variants as Median
-use Rattle.road.specs.Interpolation.{entryBefore, entryAfter, weighted, interpolated}
+use Rattle.road.specs.Interpolation.{entryBefore, entryAfter, weightedSum, interpolated}
 use Rattle.road.specs.Adjustments.{laneWidthAdjustment, perMissingFoot, rightClearanceRow, rightClearanceAdjustment}
 use Rattle.road.specs.Adjustments.{countedLeftClearance, totalClearance, twoLaneRow, threeLaneRow, totalClearanceRow}
 use Rattle.road.specs.Adjustments.{totalClearanceAdjustment, medianAdjustment, accessAdjustment}
@@ -53,30 +54,30 @@ at-rate p p600 p400 p200 p100 r n =
     everyUpTo-at (p (perMissingFoot n)) 60 (perMissingFoot-all (λ f. T (everyUpTo (p f) 60)) p600 p400 p200 p100 n) (60 - min 60 r)
     (omega arith)
 
-pub rightClearance-whole : (r n : ℕ)
-    → 10 * rightClearanceAdjustment r n ≡ weighted (rightClearanceRow (perMissingFoot n)) 10 (60 - min 60 r)
-unfolding divUp rightClearanceRow entryBefore entryAfter weighted interpolated rightClearanceAdjustment
-rightClearance-whole r n =
-    eqb→eq (10 * rightClearanceAdjustment r n) (weighted (rightClearanceRow (perMissingFoot n)) 10 (60 - min 60 r))
-    (at-rate (λ p x. eqb (10 * interpolated (rightClearanceRow p) 10 x) (weighted (rightClearanceRow p) 10 x)) tt tt tt tt r n)
+pub rightClearanceAdjustment-whole : (r n : ℕ)
+    → 10 * rightClearanceAdjustment r n ≡ weightedSum (rightClearanceRow (perMissingFoot n)) 10 (60 - min 60 r)
+unfolding divUp rightClearanceRow entryBefore entryAfter weightedSum interpolated rightClearanceAdjustment
+rightClearanceAdjustment-whole r n =
+    eqb→eq (10 * rightClearanceAdjustment r n) (weightedSum (rightClearanceRow (perMissingFoot n)) 10 (60 - min 60 r))
+    (at-rate (λ p x. eqb (10 * interpolated (rightClearanceRow p) 10 x) (weightedSum (rightClearanceRow p) 10 x)) tt tt tt tt r n)
 
-pub rightClearance-tenths : (r n : ℕ) → 10 * rightClearanceAdjustment r n ≡ (60 - min 60 r) * perMissingFoot n
-unfolding divUp rightClearanceRow entryBefore entryAfter weighted interpolated rightClearanceAdjustment
-rightClearance-tenths r n =
+pub rightClearanceAdjustment-tenths : (r n : ℕ) → 10 * rightClearanceAdjustment r n ≡ (60 - min 60 r) * perMissingFoot n
+unfolding divUp rightClearanceRow entryBefore entryAfter weightedSum interpolated rightClearanceAdjustment
+rightClearanceAdjustment-tenths r n =
     eqb→eq (10 * rightClearanceAdjustment r n) ((60 - min 60 r) * perMissingFoot n)
     (at-rate (λ p x. eqb (10 * interpolated (rightClearanceRow p) 10 x) (x * p)) tt tt tt tt r n)
 
 pub rightClearanceAdjustment-le : (r n : ℕ) → rightClearanceAdjustment r n ≤ 3600
-unfolding divUp rightClearanceRow entryBefore entryAfter weighted interpolated rightClearanceAdjustment
 rightClearanceAdjustment-le r n =
-    leb→le (rightClearanceAdjustment r n) 3600 (at-rate (λ p x. leb (interpolated (rightClearanceRow p) 10 x) 3600) tt tt tt tt r n)
+    let product : (60 - min 60 r) * perMissingFoot n ≤ 36000 = mul-le-mul {n₂ = 60} {m₂ = 600} (omega arith) (perMissingFoot-le n) in
+    omega (arith, rightClearanceAdjustment-tenths r n)
 
 pub rightClearanceAdjustment-antitone : (r m n : ℕ) → m ≤ n → rightClearanceAdjustment r n ≤ rightClearanceAdjustment r m
 rightClearanceAdjustment-antitone r m n h =
     omega (
       arith,
-      rightClearance-tenths r m,
-      rightClearance-tenths r n,
+      rightClearanceAdjustment-tenths r m,
+      rightClearanceAdjustment-tenths r n,
       mul-le-mul-left (60 - min 60 r) (perMissingFoot-antitone m n h),
     )
 
@@ -96,24 +97,24 @@ unfolding totalClearanceRow
 at-row p two three n x h =
     everyUpTo-at (p (totalClearanceRow n)) 120 (cond-all (λ row. T (everyUpTo (p row) 120)) (leb n 2) two three) x h
 
-pub totalClearance-whole : (n s : ℕ) → 20 * totalClearanceAdjustment n s ≡ weighted (totalClearanceRow n) 20 (120 - s)
-unfolding divUp twoLaneRow threeLaneRow entryBefore entryAfter weighted interpolated totalClearanceAdjustment
-totalClearance-whole n s =
-    eqb→eq (20 * totalClearanceAdjustment n s) (weighted (totalClearanceRow n) 20 (120 - s))
-    (at-row (λ row x. eqb (20 * interpolated row 20 x) (weighted row 20 x)) tt tt n (120 - s) (omega arith))
+pub totalClearanceAdjustment-whole : (n s : ℕ) → 20 * totalClearanceAdjustment n s ≡ weightedSum (totalClearanceRow n) 20 (120 - s)
+unfolding divUp twoLaneRow threeLaneRow entryBefore entryAfter weightedSum interpolated totalClearanceAdjustment
+totalClearanceAdjustment-whole n s =
+    eqb→eq (20 * totalClearanceAdjustment n s) (weightedSum (totalClearanceRow n) 20 (120 - s))
+    (at-row (λ row x. eqb (20 * interpolated row 20 x) (weightedSum row 20 x)) tt tt n (120 - s) (omega arith))
 
-pub interpolated-le : (n x : ℕ) → x ≤ 120 → interpolated (totalClearanceRow n) 20 x ≤ 5400
-unfolding divUp twoLaneRow threeLaneRow entryBefore entryAfter weighted interpolated
-interpolated-le n x h =
+pub totalClearanceRow-line-le : (n x : ℕ) → x ≤ 120 → interpolated (totalClearanceRow n) 20 x ≤ 5400
+unfolding divUp twoLaneRow threeLaneRow entryBefore entryAfter weightedSum interpolated
+totalClearanceRow-line-le n x h =
     leb→le (interpolated (totalClearanceRow n) 20 x) 5400 (at-row (λ row y. leb (interpolated row 20 y) 5400) tt tt n x h)
 
 pub totalClearanceAdjustment-le : (n s : ℕ) → totalClearanceAdjustment n s ≤ 5400
 unfolding totalClearanceAdjustment
-totalClearanceAdjustment-le n s = interpolated-le n (120 - s) (omega arith)
+totalClearanceAdjustment-le n s = totalClearanceRow-line-le n (120 - s) (omega arith)
 
 -- with 3 lanes it is no more than with any
 threeLanes-le : (n s : ℕ) → interpolated threeLaneRow 20 (120 - s) ≤ totalClearanceAdjustment n s
-unfolding divUp twoLaneRow threeLaneRow entryBefore entryAfter weighted interpolated totalClearanceAdjustment
+unfolding divUp twoLaneRow threeLaneRow entryBefore entryAfter weightedSum interpolated totalClearanceAdjustment
 threeLanes-le n s =
     leb→le (interpolated threeLaneRow 20 (120 - s)) (totalClearanceAdjustment n s)
     (at-row (λ row x. leb (interpolated threeLaneRow 20 x) (interpolated row 20 x)) tt tt n (120 - s) (omega arith))
@@ -127,15 +128,16 @@ totalClearanceAdjustment-antitone m n s h = go (decLe n 2)
     go (no k) = rw (lt-leb n 2 (omega arith)) (threeLanes-le m s)
 
 -- the entries on both sides of x: the first is no more than the second, and that is at most 5,400
-pub entries-rise : (n x : ℕ) → x ≤ 120 → entryBefore (totalClearanceRow n) 20 x ≤ entryAfter (totalClearanceRow n) 20 x
+pub totalClearanceRow-rises : (n x : ℕ) → x ≤ 120 → entryBefore (totalClearanceRow n) 20 x ≤ entryAfter (totalClearanceRow n) 20 x
 unfolding divUp twoLaneRow threeLaneRow entryBefore entryAfter
-entries-rise n x h =
+totalClearanceRow-rises n x h =
     leb→le (entryBefore (totalClearanceRow n) 20 x) (entryAfter (totalClearanceRow n) 20 x)
     (at-row (λ row y. leb (entryBefore row 20 y) (entryAfter row 20 y)) tt tt n x h)
 
-pub entryAfter-le : (n x : ℕ) → x ≤ 120 → entryAfter (totalClearanceRow n) 20 x ≤ 5400
+pub totalClearanceRow-after-le : (n x : ℕ) → x ≤ 120 → entryAfter (totalClearanceRow n) 20 x ≤ 5400
 unfolding divUp twoLaneRow threeLaneRow entryAfter
-entryAfter-le n x h = leb→le (entryAfter (totalClearanceRow n) 20 x) 5400 (at-row (λ row y. leb (entryAfter row 20 y) 5400) tt tt n x h)
+totalClearanceRow-after-le n x h =
+    leb→le (entryAfter (totalClearanceRow n) 20 x) 5400 (at-row (λ row y. leb (entryAfter row 20 y) 5400) tt tt n x h)
 
 pub medianAdjustment-le : (m : Median) → medianAdjustment m ≤ 1600
 medianAdjustment-le Median.Undivided = omega arith

@@ -26,17 +26,17 @@ use Rattle.road.proofs.RampLaws.{rampTerm-le}
 pub freewayTerms-le : (w r n k : ℕ) → laneWidthAdjustment w + rightClearanceAdjustment r n + rampTerm k ≤ 30000
 freewayTerms-le w r n k = omega (arith, laneWidthAdjustment-le w, rightClearanceAdjustment-le r n, rampTerm-le k)
 
+abbrev total : Road → ℕ
+total road = totalClearance (road .median) (road .«right_clearance») (road .«left_clearance»)
+
 pub multilaneTerms-le : (road : Road) (n : ℕ)
-    → laneWidthAdjustment (road .«lane_width»)
-    + totalClearanceAdjustment n (totalClearance (road .median) (road .«right_clearance») (road .«left_clearance»))
-    + medianAdjustment (road .median)
-    + accessAdjustment (road .access)
-    ≤ 30000
+    → laneWidthAdjustment (road .«lane_width») + totalClearanceAdjustment n (total road) + medianAdjustment
+    (road .median) + accessAdjustment (road .access) ≤ 30000
 multilaneTerms-le road n =
     omega (
       arith,
       laneWidthAdjustment-le (road .«lane_width»),
-      totalClearanceAdjustment-le n (totalClearance (road .median) (road .«right_clearance») (road .«left_clearance»)),
+      totalClearanceAdjustment-le n (total road),
       medianAdjustment-le (road .median),
       accessAdjustment-le (road .access),
     )
@@ -49,9 +49,9 @@ estimatedBy-mono : (kind : Kind) (road : Road) (m n : ℕ) → m ≤ n → estim
 unfolding estimatedBy
 estimatedBy-mono Kind.Freeway road m n h = omega (arith, rightClearanceAdjustment-antitone (road .«right_clearance») m n h)
 estimatedBy-mono Kind.Multilane road m n h =
-    let total : ℕ = totalClearance (road .median) (road .«right_clearance») (road .«left_clearance») in
-    less-off (road .speed - laneWidthAdjustment (road .«lane_width»)) (totalClearanceAdjustment m total) (totalClearanceAdjustment n total)
-    (medianAdjustment (road .median)) (accessAdjustment (road .access)) (totalClearanceAdjustment-antitone m n total h)
+    less-off (road .speed - laneWidthAdjustment (road .«lane_width»)) (totalClearanceAdjustment m (total road))
+    (totalClearanceAdjustment n (total road)) (medianAdjustment (road .median)) (accessAdjustment (road .access))
+    (totalClearanceAdjustment-antitone m n (total road) h)
 
 uncappedBy-mono : (way : Way) (road : Road) (m n : ℕ) → m ≤ n → uncappedBy way road m ≤ uncappedBy way road n
 unfolding uncappedBy

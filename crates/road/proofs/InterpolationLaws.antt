@@ -1,5 +1,5 @@
 -- Interpolation over a row (specs/Interpolation).
---   weighted-between   from each entry to the next it is the straight line, both ends included
+--   weightedSum-between   from each entry to the next it is the straight line, both ends included
 -- Assumes nothing.
 use mathlib.Core.Path.{_≡_}
 use mathlib.Core.List.{List}
@@ -10,7 +10,7 @@ use native.Mathlib.Nat.{div-eq-of-lt-le, div-add-mod'}
 use lib.ListN.{getD}
 use Rattle.numbers.specs.Division.{divUp}
 use Rattle.numbers.proofs.DivisionLaws.{divUp-suc}
-use Rattle.road.specs.Interpolation.{entryBefore, entryAfter, weighted}
+use Rattle.road.specs.Interpolation.{entryBefore, entryAfter, weightedSum}
 
 -- t tenths past entry j, short of the next
 module _ (step j : ℕ) where
@@ -29,16 +29,16 @@ module _ (step j : ℕ) where
       rw (divUp-suc (j * step + suc t) step (omega arith) (omega arith), before, place t (omega arith)) (omega arith)
 
 within : (row : List ℕ) (step j t : ℕ) → t < step
-    → weighted row step (j * step + t) ≡ getD row j 0 * (step - t) + getD row (suc j) 0 * t
-unfolding entryBefore entryAfter weighted
+    → weightedSum row step (j * step + t) ≡ getD row j 0 * (step - t) + getD row (suc j) 0 * t
+unfolding entryBefore entryAfter weightedSum
 within row step j zero h = simp (place step j 0 h, past step j 0 h) (omega arith)
 within row step j (suc t) h = simp (place step j (suc t) h, past step j (suc t) h, next step j t h)
 
-pub weighted-between : (row : List ℕ) (step j t : ℕ) → 0 < step → t ≤ step
-    → weighted row step (j * step + t) ≡ getD row j 0 * (step - t) + getD row (suc j) 0 * t
-weighted-between row step j t p h = go (decLe (suc t) step)
+pub weightedSum-between : (row : List ℕ) (step j t : ℕ) → 0 < step → t ≤ step
+    → weightedSum row step (j * step + t) ≡ getD row j 0 * (step - t) + getD row (suc j) 0 * t
+weightedSum-between row step j t p h = go (decLe (suc t) step)
   where
-    go : Dec (suc t ≤ step) → weighted row step (j * step + t) ≡ getD row j 0 * (step - t) + getD row (suc j) 0 * t
+    go : Dec (suc t ≤ step) → weightedSum row step (j * step + t) ≡ getD row j 0 * (step - t) + getD row (suc j) 0 * t
     go (yes k) = within row step j t k
     go (no k) =
         let e : t ≡ step = omega arith in

@@ -8,23 +8,24 @@ use native.Mathlib.Omega.{arith}
 use Rattle.road.specs.FreeFlowSpeed.{estimatedBy}
 use Rattle.road.specs.Laws.{StraightBetweenEntries, ClearancesAreWhole, RightClearanceByTenths, RampTermIsGreatest}
 use Rattle.road.specs.Laws.{EstimateNeverBelowZero, FreeFlowSpeedNeverFallsWithLanes}
-use Rattle.road.proofs.InterpolationLaws.{weighted-between}
-use Rattle.road.proofs.AdjustmentLaws.{rightClearance-whole, totalClearance-whole, rightClearance-tenths}
+use Rattle.road.proofs.InterpolationLaws.{weightedSum-between}
+use Rattle.road.proofs.AdjustmentLaws.{rightClearanceAdjustment-whole, rightClearanceAdjustment-tenths}
+use Rattle.road.proofs.AdjustmentLaws.{totalClearanceAdjustment-whole}
 use Rattle.road.proofs.RampLaws.{rampTerm-rule}
 use Rattle.road.proofs.RefusalLaws.{road-ends}
 use Rattle.road.proofs.FreeFlowSpeedLaws.{freewayTerms-le, multilaneTerms-le, freeFlowSpeed-mono}
 
 pub straight-between-entries : StraightBetweenEntries
-straight-between-entries = weighted-between
+straight-between-entries = weightedSum-between
 
 pub clearances-are-whole : ClearancesAreWhole
 clearances-are-whole = (
-  λ r n h. let e : min 60 r ≡ r = omega arith in rw e at (rightClearance-whole r n),
-  λ n s h. totalClearance-whole n s,
+  λ r n h. let e : min 60 r ≡ r = omega arith in rw e at (rightClearanceAdjustment-whole r n),
+  λ n s h. totalClearanceAdjustment-whole n s,
 )
 
 pub right-clearance-by-tenths : RightClearanceByTenths
-right-clearance-by-tenths = rightClearance-tenths
+right-clearance-by-tenths = rightClearanceAdjustment-tenths
 
 pub ramp-term-is-greatest : RampTermIsGreatest
 ramp-term-is-greatest = rampTerm-rule

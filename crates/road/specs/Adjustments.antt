@@ -27,7 +27,6 @@ laneWidthAdjustment w = cond (leb 120 w) 0 (cond (leb 110 w) 1900 6600)
 unfoldable pub perMissingFoot : ℕ → ℕ
 perMissingFoot n = cond (leb n 2) 600 (cond (leb n 3) 400 (cond (leb n 4) 200 100))
 
--- for 6, 5, 4, 3, 2, 1, 0 feet, with p for each missing foot
 unfoldable pub rightClearanceRow : ℕ → List ℕ
 rightClearanceRow p = 0 ∷ p ∷ 2 * p ∷ 3 * p ∷ 4 * p ∷ 5 * p ∷ 6 * p ∷ []
 

@@ -8,25 +8,25 @@ use Prim.Native.Nat.{ℕ, suc, _+_, _*_, _-_, _^_, _≤_, _<_, min}
 use lib.ListN.{getD}
 use Rattle.curve.specs.declared.kind.Kind.the-variants as Kind
 use Rattle.road.specs.declared.Road.{Road}
-use Rattle.road.specs.Interpolation.{weighted}
+use Rattle.road.specs.Interpolation.{weightedSum}
 use Rattle.road.specs.Adjustments.{laneWidthAdjustment, perMissingFoot, rightClearanceRow, rightClearanceAdjustment}
 use Rattle.road.specs.Adjustments.{totalClearance, totalClearanceRow, totalClearanceAdjustment, medianAdjustment, accessAdjustment}
 use Rattle.road.specs.RampTerm.{rampTerm}
 use Rattle.road.specs.FreeFlowSpeed.{estimatedSpeed, freeFlowSpeed}
 use Rattle.road.specs.Refusals.{RoadFits}
 
--- Interpolation over any row: from entry j to the next, both included, t tenths past it, step times the result is step − t times the one
--- entry and t times the other.
+-- Over any row, t tenths past entry j, up to the next entry, which is included: step times the line's height is step − t times the one
+-- entry and t times the other. Past the row's end an entry is 0.
 abbrev pub StraightBetweenEntries : Type 0
 StraightBetweenEntries =
     (row : List ℕ) (step j t : ℕ) → 0 < step → t ≤ step
-    → weighted row step (j * step + t) ≡ getD row j 0 * (step - t) + getD row (suc j) 0 * t
+    → weightedSum row step (j * step + t) ≡ getD row j 0 * (step - t) + getD row (suc j) 0 * t
 
 -- "All results are whole": nothing is rounded, at any right clearance to 6 feet and any total clearance to 12, with any lanes.
 abbrev pub ClearancesAreWhole : Type 0
 ClearancesAreWhole =
-    ((r n : ℕ) → r ≤ 60 → 10 * rightClearanceAdjustment r n ≡ weighted (rightClearanceRow (perMissingFoot n)) 10 (60 - r))
-    × ((n s : ℕ) → s ≤ 120 → 20 * totalClearanceAdjustment n s ≡ weighted (totalClearanceRow n) 20 (120 - s))
+    ((r n : ℕ) → r ≤ 60 → 10 * rightClearanceAdjustment r n ≡ weightedSum (rightClearanceRow (perMissingFoot n)) 10 (60 - r))
+    × ((n s : ℕ) → s ≤ 120 → 20 * totalClearanceAdjustment n s ≡ weightedSum (totalClearanceRow n) 20 (120 - s))
 
 -- A tenth that the right clearance is short of 6 feet takes off a tenth of what a foot takes: 60, 40, 20 or 10.
 abbrev pub RightClearanceByTenths : Type 0

@@ -66,29 +66,29 @@ fn total_clearance_row(lanes: u64) -> [u64; 7]
     if lanes <= 2 { TWO_LANES } else { THREE_LANES }
 }
 
-// On the straight line from one entry to the next, which is 20 tenths of a foot further.
-fn between(before: u64, after: u64, past: u64) -> u64
+// On the straight line from one entry to the next, which is 20 tenths of a foot further on.
+fn interpolate(before: u64, after: u64, past: u64) -> u64
     requires { ⌜ (before ≤ after) × (after ≤ 5400) × (past < 20) ⌝ }
     ensures { λ r. ⌜ r ≡ (before * (20 - past) + after * past) / 20 ⌝ }
 {
     before + (after - before) * past / 20
 }
 
-// For a total clearance so many tenths short of 12 feet.
-fn for_missing_tenths(lanes: u64, missing: u64) -> u64
+// For a total clearance that is so many tenths short of 12 feet.
+fn missing_clearance_adjustment(lanes: u64, missing: u64) -> u64
     requires { ⌜ missing ≤ 120 ⌝ }
     ensures { λ r. ⌜ r ≡ interpolated (totalClearanceRow lanes) 20 missing ⌝ }
 {
     let row = total_clearance_row(lanes);
     let before = (missing / 20) as usize;
     let after = div_up(missing, 20) as usize;
-    between(row[before], row[after], missing % 20)
+    interpolate(row[before], row[after], missing % 20)
 }
 
 pub(crate) fn total_clearance_adjustment(lanes: u64, median: Median, right: u64, left: u64) -> u64
     ensures { λ r. ⌜ r ≡ totalClearanceAdjustment lanes (totalClearance median right left) ⌝ }
 {
-    for_missing_tenths(lanes, 120 - total_clearance(median, right, left))
+    missing_clearance_adjustment(lanes, 120 - total_clearance(median, right, left))
 }
 
 pub(crate) fn median_adjustment(median: Median) -> u64

@@ -5,7 +5,7 @@ use Prim.Native.Nat.{ℕ, _*_, _-_, min}
 use native.Mathlib.Omega.{arith}
 use Rattle.numbers.proofs.ProductLaws.{product-fits}
 use Rattle.road.specs.Adjustments.{perMissingFoot, rightClearanceAdjustment}
-use Rattle.road.proofs.AdjustmentLaws.{perMissingFoot-le, rightClearance-tenths}
+use Rattle.road.proofs.AdjustmentLaws.{perMissingFoot-le, rightClearanceAdjustment-tenths}
 use borrow.Author.Needs.{needs}
 use Rattle.road.proofs.adjustment.right_clearance_adjustment.Statement.{statement}
 use Rattle.road.proofs.adjustment.right_clearance_adjustment.Tie as tie
@@ -13,7 +13,7 @@ use Rattle.road.proofs.adjustment.right_clearance_adjustment.Tie as tie
 by-tenths : (r n t : ℕ) → 10 * t ≡ perMissingFoot n → (60 - min 60 r) * t ≡ rightClearanceAdjustment r n
 by-tenths r n t e =
     let x : ℕ = 60 - min 60 r in
-    let tenfold : 10 * rightClearanceAdjustment r n ≡ x * (10 * t) = rw e (rightClearance-tenths r n) in
+    let tenfold : 10 * rightClearanceAdjustment r n ≡ x * (10 * t) = rw e (rightClearanceAdjustment-tenths r n) in
     omega arith
 
 pub right-clearance-adjustment-spec : {M : Type 1} → statement M

@@ -12,4 +12,5 @@ unfolding totalClearanceAdjustment
 total-clearance-adjustment-spec =
     tie.close
     (tie.spec (λ c κs. search needs)
-    (λ c. let a = c .before .args in omega (arith, totalClearance-le (a .median) (a .right) (a .left))) (λ c κs. search needs) (λ c. (cc)))
+    (λ c. let a = c .before .args in omega (arith, totalClearance-le (a .median) (a .right) (a .left))) (λ c κs. search needs)
+    (λ c. simp (c .missing-clearance-adjustment .ensures, c .before .total-clearance .ensures)))
