@@ -92,7 +92,7 @@ pub fn check(method: &Method, tally: &mut Tally) {
     }
 }
 
-// Writes the vectors anew, and says how many rows changed.
+// Writes the vectors anew, and says how many rows are no longer what stood in their place.
 pub fn write(method: &Method) {
     for (path, worked_out) in FILES {
         let (held, expected) = (read(path), worked_out(method));

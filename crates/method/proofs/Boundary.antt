@@ -23,7 +23,7 @@ use Rattle.method.specs.Refusals.{speedRefusals, refusals}
 use Rattle.method.specs.Checked.{curveOf}
 use Rattle.method.specs.Flow.{heavyFactor, flowRate}
 use Rattle.method.specs.Assess.{measures}
-use Rattle.method.specs.Boundary.{clearanceFigures, boundaryFigures}
+use Rattle.method.specs.Boundary.{speedFigures, clearanceFigures, boundaryFigures}
 
 pub ramp-6 : rampTerm 6 ≡ 3220
 unfolding endsAt rampAtMost
@@ -45,12 +45,16 @@ power-1000 : power 1000 ≡ 1000000
 unfolding startsAt reachesPower
 power-1000 = power-eq 1000 1000000 (omega arith) tt
 
-clearances-shown : Shown clearanceFigures
+speeds-shown : Shown speedFigures
 unfolding divUp entryBefore entryAfter weightedSum interpolated laneWidthAdjustment perMissingFoot rightClearanceRow
     rightClearanceAdjustment totalClearance twoLaneRow threeLaneRow totalClearanceRow totalClearanceAdjustment accessAdjustment estimatedBy
-    uncappedBy freeFlowSpeed clearanceFigures
-clearances-shown =
-    (refl, (refl, (refl, (refl, (refl, (refl, (refl, (refl, (refl, (refl, (refl, (refl, (refl, (refl, tt))))))))))))))
+    uncappedBy freeFlowSpeed speedFigures
+speeds-shown = (refl, (refl, (simp ramp-0, (refl, (refl, (refl, tt))))))
+
+clearances-shown : Shown clearanceFigures
+unfolding divUp entryBefore entryAfter weightedSum interpolated perMissingFoot rightClearanceRow rightClearanceAdjustment totalClearance
+    twoLaneRow threeLaneRow totalClearanceRow totalClearanceAdjustment clearanceFigures
+clearances-shown = (refl, (refl, (refl, (refl, (refl, (refl, (refl, (refl, (refl, (refl, (refl, (refl, speeds-shown))))))))))))
 
 pub boundary-shown : Shown boundaryFigures
 unfolding divUp entryBefore entryAfter weightedSum interpolated laneWidthAdjustment perMissingFoot rightClearanceRow

@@ -3,9 +3,9 @@
 --   given kind f w   a road of given speed f and lane width w
 --   twoLanes road v  its case with two lanes and demand v, no heavy vehicles, level
 --   example          the printed line's case
---   boundaryFigures, clearanceFigures   the list, and its last part
+--   boundaryFigures, clearanceFigures, speedFigures   the list, its last part, and the last of that
 -- Assumes nothing.
-use mathlib.Core.List.{List, [], _∷_}
+use mathlib.Core.List.{List, [], _∷_, map}
 use Prim.Native.Nat.{ℕ}
 use Rattle.checks.specs.Figures.{Figure, figure}
 use Rattle.powers.specs.Power.{power}
@@ -45,15 +45,13 @@ example = loaded (road Kind.Freeway Way.Estimated 75400 110 20 0 Median.Divided 
 abbrev multilane : Median → Road
 multilane m = road Kind.Multilane Way.Estimated 60000 110 40 20 m 10
 
--- what right clearance r takes off with 2, 3, 4, 5 and 8 lanes
+-- what right clearance r takes off with 2 to 8 lanes
 abbrev rightOff : ℕ → List ℕ
-rightOff r =
-    rightClearanceAdjustment r 2 ∷ rightClearanceAdjustment r 3 ∷ rightClearanceAdjustment r 4 ∷ rightClearanceAdjustment r 5
-    ∷ rightClearanceAdjustment r 8 ∷ []
+rightOff r = map (rightClearanceAdjustment r) (2 ∷ 3 ∷ 4 ∷ 5 ∷ 6 ∷ 7 ∷ 8 ∷ [])
 
 -- what right clearance r and left clearance l take off with 2 and with 3 lanes
 abbrev totalOff : Median → ℕ → ℕ → List ℕ
-totalOff m r l = totalClearanceAdjustment 2 (totalClearance m r l) ∷ totalClearanceAdjustment 3 (totalClearance m r l) ∷ []
+totalOff m r l = map (λ n. totalClearanceAdjustment n (totalClearance m r l)) (2 ∷ 3 ∷ [])
 
 -- the number of an assessment's refusal, 0 for none, and its values
 abbrev assessed : Case → List ℕ
@@ -63,24 +61,34 @@ assessed case = refusalNumber (assessment case) ∷ values (assessment case)
 abbrev checkedAs : Case → List ℕ
 checkedAs case = checked.refusalNumber (checked.checked case) ∷ checked.values (checked.checked case)
 
--- Clearances between the table's entries, at its ends and past them (document 02, T-02); with a given speed they take off nothing.
+-- F with such clearances and by the lanes; the worst road fields, which take off nothing from a given speed.
+unfoldable pub speedFigures : List Figure
+speedFigures =
+    figure (freeFlowSpeed (road Kind.Multilane Way.Estimated 60000 120 30 7 Median.Undivided 0) 2 ∷ []) (57750 ∷ [])
+    ∷ figure (freeFlowSpeed (road Kind.Multilane Way.Estimated 60000 120 30 7 Median.TwoWayLeftTurnLane 0) 2 ∷ []) (59350 ∷ [])
+    ∷ figure (map (freeFlowSpeed (road Kind.Freeway Way.Estimated 75000 120 0 0 Median.Divided 0)) (2 ∷ 3 ∷ 4 ∷ 5 ∷ []))
+    (71400 ∷ 72600 ∷ 73800 ∷ 74400 ∷ [])
+    ∷ figure (map (freeFlowSpeed (road Kind.Multilane Way.Estimated 70000 100 0 0 Median.Divided 200)) (2 ∷ 3 ∷ [])) (48000 ∷ 49500 ∷ [])
+    ∷ figure (freeFlowSpeed (road Kind.Freeway Way.Given 60000 100 0 0 Median.Divided 48) 2 ∷ []) (60000 ∷ [])
+    ∷ figure (freeFlowSpeed (road Kind.Multilane Way.Given 60000 100 0 0 Median.Undivided 200) 2 ∷ []) (60000 ∷ [])
+    ∷ []
+
+-- Clearances between the table's entries, at its ends and past them (document 02, T-02).
 unfoldable pub clearanceFigures : List Figure
 clearanceFigures =
-    figure (rightOff 0) (3600 ∷ 2400 ∷ 1200 ∷ 600 ∷ 600 ∷ [])
-    ∷ figure (rightOff 61) (0 ∷ 0 ∷ 0 ∷ 0 ∷ 0 ∷ [])
-    ∷ figure (rightOff 400) (0 ∷ 0 ∷ 0 ∷ 0 ∷ 0 ∷ [])
+    figure (rightOff 0) (3600 ∷ 2400 ∷ 1200 ∷ 600 ∷ 600 ∷ 600 ∷ 600 ∷ [])
+    ∷ figure (rightOff 61) (0 ∷ 0 ∷ 0 ∷ 0 ∷ 0 ∷ 0 ∷ 0 ∷ [])
+    ∷ figure (rightOff 400) (0 ∷ 0 ∷ 0 ∷ 0 ∷ 0 ∷ 0 ∷ 0 ∷ [])
     ∷ figure (totalOff Median.Divided 38 45) (825 ∷ 825 ∷ [])
     ∷ figure (totalOff Median.Divided 25 25) (1550 ∷ 1500 ∷ [])
     ∷ figure (totalOff Median.Divided 0 0) (5400 ∷ 3900 ∷ [])
     ∷ figure (totalOff Median.Divided 1 0) (5310 ∷ 3845 ∷ [])
     ∷ figure (totalOff Median.Undivided 30 7) (650 ∷ 650 ∷ [])
     ∷ figure (totalOff Median.TwoWayLeftTurnLane 400 0) (0 ∷ 0 ∷ [])
+    ∷ figure (totalOff Median.Undivided 400 0) (0 ∷ 0 ∷ [])
     ∷ figure (totalOff Median.Divided 400 0) (1300 ∷ 1300 ∷ [])
     ∷ figure (totalOff Median.Divided 0 400) (1300 ∷ 1300 ∷ [])
-    ∷ figure (freeFlowSpeed (road Kind.Multilane Way.Estimated 60000 120 30 7 Median.Undivided 0) 2 ∷ []) (57750 ∷ [])
-    ∷ figure (freeFlowSpeed (road Kind.Freeway Way.Given 60000 100 0 0 Median.Divided 48) 2 ∷ []) (60000 ∷ [])
-    ∷ figure (freeFlowSpeed (road Kind.Multilane Way.Given 60000 100 0 0 Median.Undivided 200) 2 ∷ []) (60000 ∷ [])
-    ∷ []
+    ∷ speedFigures
 
 -- Of a case that is accepted 0, and then letter, F, c, v, speed and density, of one that is refused its number. A is 1 and F is 6.
 -- Starred in document 01: all down to the right clearance of 59, which takes off 60 by document 02. Not starred: no demand; two letters
@@ -98,7 +106,7 @@ boundaryFigures =
     ∷ figure (assessed (twoLanes (given Kind.Multilane 60000 120) 3600)) (0 ∷ 4 ∷ 60000 ∷ 220000 ∷ 1800 ∷ 55518 ∷ 325 ∷ [])
     ∷ figure (power 500 ∷ []) (403321 ∷ [])
     ∷ figure (freeFlowSpeed (multilane Median.Divided) 2 ∷ freeFlowSpeed (multilane Median.Undivided) 2 ∷ []) (54300 ∷ 53600 ∷ [])
-    ∷ figure (rightOff 59) (60 ∷ 40 ∷ 20 ∷ 10 ∷ 10 ∷ [])
+    ∷ figure (rightOff 59) (60 ∷ 40 ∷ 20 ∷ 10 ∷ 10 ∷ 10 ∷ 10 ∷ [])
     ∷ figure (assessed (twoLanes (given Kind.Freeway 55000 120) 0)) (0 ∷ 1 ∷ 55000 ∷ 225000 ∷ 0 ∷ 55000 ∷ 0 ∷ [])
     ∷ figure (assessed (twoLanes (given Kind.Freeway 55052 120) 3830)) (0 ∷ 4 ∷ 55052 ∷ 225052 ∷ 1915 ∷ 54714 ∷ 350 ∷ [])
     ∷ figure (assessed (twoLanes (given Kind.Multilane 45000 120) 3800)) (0 ∷ 5 ∷ 45000 ∷ 190000 ∷ 1900 ∷ 42222 ∷ 450 ∷ [])

@@ -1,4 +1,4 @@
--- What is taken off a base speed (specs/Adjustments): how much at most, and never more with more lanes. What is said of clearances is a
+-- What is taken off a base speed (specs/Adjustments): how much at most, and never more with more lanes. What is said of a row's line is a
 -- test, computed at every tenth.
 --   laneWidthAdjustment-le, perMissingFoot-le, rightClearanceAdjustment-le, countedLeftClearance-le, totalClearance-le,
 --   totalClearanceAdjustment-le, medianAdjustment-le, accessAdjustment-le   the most that it is

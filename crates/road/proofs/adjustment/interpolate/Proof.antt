@@ -1,4 +1,5 @@
--- `road::adjustment::interpolate` meets its contract: from the first entry the line rises by the part that is past of the second's rise.
+-- `road::adjustment::interpolate` meets its contract: from the first entry the line rises by so many twentieths of the difference to the
+-- second.
 -- Assumes nothing.
 use mathlib.Core.Path.{_≡_}
 use Prim.Native.Nat.{ℕ, _+_, _*_, _-_, _/_, _≤_, _<_}
