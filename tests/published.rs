@@ -124,7 +124,11 @@ impl Decimal {
 fn rows_of(file: &str) -> Vec<Vec<String>> {
     let path = format!("{FOLDER}/{file}");
     let text = std::fs::read_to_string(&path).unwrap_or_else(|error| fail(&format!("{path}: {error}")));
-    text.lines().filter(|line| !line.starts_with('#')).map(|line| line.split('\t').map(str::to_string).collect()).collect()
+    text.lines().filter(|line| !line.starts_with('#')).map(fields).collect()
+}
+
+fn fields(line: &str) -> Vec<String> {
+    line.split('\t').map(str::to_string).collect()
 }
 
 fn letter(text: &str) -> Option<i64> {
@@ -189,7 +193,6 @@ fn br101_rows(row: &[String; 45]) -> [Row; 2] {
     published[3] = Some(number(11).whole(1));
     published[4] = Some(number(12).whole(1000));
     published[5] = Some(number(13).up(10, 1));
-    let fields = |line: &str| line.split('\t').map(str::to_string).collect::<Vec<_>>();
     let (given, estimated) = (line("G", base - 1900 - clearance), line("E", base));
     let expected = [texts(&published[2..6]), fields(&given), fields(&estimated)].concat();
     [(given, faults_of(&row[15..], &expected)), (estimated, Vec::new())].map(|(line, faults)| Row {
@@ -226,7 +229,7 @@ fn service_flows_row(row: &[String; 25]) -> Row {
     for (at, flow) in row[2..7].iter().enumerate() {
         published[6 + at] = Some(Decimal::read(flow).whole(2));
     }
-    let expected = [texts(&published[6..]), line.split('\t').map(str::to_string).collect()].concat();
+    let expected = [texts(&published[6..]), fields(&line)].concat();
     Row { name: row[0].clone(), line, published, marks: Marks::new(), section: None, faults: faults_of(&row[7..], &expected) }
 }
 
@@ -477,7 +480,7 @@ fn sections_row(row: &[String; 37]) -> Row {
         outputs: std::array::from_fn(|at| row[12 + at].clone()),
         letter: row[17].clone(),
     };
-    let expected = [texts(&section.figures()[1..6]), section.line().split('\t').map(str::to_string).collect()].concat();
+    let expected = [texts(&section.figures()[1..6]), fields(&section.line())].concat();
     section.row(&row[0], &row[18], faults_of(&row[19..], &expected))
 }
 

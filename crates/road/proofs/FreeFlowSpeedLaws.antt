@@ -26,6 +26,7 @@ use Rattle.road.proofs.RampLaws.{rampTerm-le}
 pub freewayTerms-le : (w r n k : ℕ) → laneWidthAdjustment w + rightClearanceAdjustment r n + rampTerm k ≤ 30000
 freewayTerms-le w r n k = omega (arith, laneWidthAdjustment-le w, rightClearanceAdjustment-le r n, rampTerm-le k)
 
+-- a road's total clearance
 abbrev total : Road → ℕ
 total road = totalClearance (road .median) (road .«right_clearance») (road .«left_clearance»)
 

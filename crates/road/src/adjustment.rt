@@ -6,7 +6,7 @@ use crate::Median;
 use numbers::div_up;
 use numbers::lesser;
 ghost use mathlib.Core.Path.{_≡_};
-ghost use Prim.Native.Nat.{_+_, _*_, _-_, _/_, _≤_, _<_};
+ghost use Prim.Native.Nat.{_*_, _≤_};
 ghost use Rattle.road.specs.Interpolation.{interpolated};
 ghost use Rattle.road.specs.Adjustments.{laneWidthAdjustment, perMissingFoot, rightClearanceAdjustment, countedLeftClearance};
 ghost use Rattle.road.specs.Adjustments.{totalClearance, totalClearanceRow, totalClearanceAdjustment};
@@ -66,23 +66,15 @@ fn total_clearance_row(lanes: u64) -> [u64; 7]
     if lanes <= 2 { TWO_LANES } else { THREE_LANES }
 }
 
-// On the straight line from one entry to the next, which is 20 tenths of a foot further on.
-fn interpolate(before: u64, after: u64, past: u64) -> u64
-    requires { ⌜ (before ≤ after) × (after ≤ 5400) × (past < 20) ⌝ }
-    ensures { λ r. ⌜ r ≡ (before * (20 - past) + after * past) / 20 ⌝ }
-{
-    before + (after - before) * past / 20
-}
-
-// For a total clearance that is so many tenths short of 12 feet.
+// For a total clearance that is so many tenths short of 12 feet: an entry of the row, and its part of the rise to the next.
 fn missing_clearance_adjustment(lanes: u64, missing: u64) -> u64
     requires { ⌜ missing ≤ 120 ⌝ }
     ensures { λ r. ⌜ r ≡ interpolated (totalClearanceRow lanes) 20 missing ⌝ }
 {
     let row = total_clearance_row(lanes);
-    let before = (missing / 20) as usize;
-    let after = div_up(missing, 20) as usize;
-    interpolate(row[before], row[after], missing % 20)
+    let before = row[(missing / 20) as usize];
+    let after = row[div_up(missing, 20) as usize];
+    before + (after - before) * (missing % 20) / 20
 }
 
 pub(crate) fn total_clearance_adjustment(lanes: u64, median: Median, right: u64, left: u64) -> u64
