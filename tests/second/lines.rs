@@ -1,6 +1,6 @@
 // Cases and answers as text: what the two calls over a line hand back and write, and what the program los prints.
 
-use super::method::{Case, Kind, Median, Method, Refusal, Terrain, Way, LETTER_E};
+use super::method::{Case, Kind, Median, Method, Refusal, Terrain, Way, Weather, LETTER_E};
 
 const LONGEST_LINE: usize = 80;
 const LEAST_BUFFER: usize = 64;
@@ -25,12 +25,23 @@ fn choice<T: Copy>(field: &[u8], meanings: &[(u8, T)]) -> Option<T> {
     meanings.iter().find(|(known, _)| known == letter).map(|(_, meaning)| *meaning)
 }
 
+// The fields after the terrain. "Lines of 13 fields mean 1,000 for both."
+fn weather(fields: &[&[u8]]) -> Option<Weather> {
+    match fields {
+        [] => Some(Weather::CLEAR),
+        [speed_factor, capacity_factor] => Some(Weather { speed_factor: number(speed_factor)?, capacity_factor: number(capacity_factor)? }),
+        _ => None,
+    }
+}
+
 pub fn parse(line: &[u8]) -> Option<Case> {
     if line.len() > LONGEST_LINE {
         return None;
     }
     let fields: Vec<&[u8]> = line.split(|&byte| byte == b'\t').collect();
-    let [kind, way, speed, width, right, left, median, access, lanes, demand, factor, share, terrain] = fields[..] else { return None };
+    let [kind, way, speed, width, right, left, median, access, lanes, demand, factor, share, terrain, ref others @ ..] = fields[..] else {
+        return None;
+    };
     Some(Case {
         kind: choice(kind, &[(b'F', Kind::Freeway), (b'M', Kind::Multilane)])?,
         way: choice(way, &[(b'E', Way::Estimated), (b'G', Way::Given)])?,
@@ -45,6 +56,7 @@ pub fn parse(line: &[u8]) -> Option<Case> {
         factor: number(factor)?,
         share: number(share)?,
         terrain: choice(terrain, &[(b'L', Terrain::Level), (b'R', Terrain::Rolling)])?,
+        weather: weather(others)?,
     })
 }
 

@@ -1,8 +1,8 @@
 // The answer to a case, and the lanes question.
 //
 // Units: speeds in thousandths of mi/h, capacity and breakpoint in hundredths of passenger cars per hour per lane, flow rates in whole
-// passenger cars per hour per lane, densities in tenths of a passenger car per mile per lane, lengths in tenths of a foot, peak-hour factor
-// and heavy share in thousandths.
+// passenger cars per hour per lane, densities in tenths of a passenger car per mile per lane, lengths in tenths of a foot, peak-hour
+// factor, heavy share and weather factors in thousandths.
 
 use super::big::Big;
 use std::ops::RangeInclusive;
@@ -63,6 +63,12 @@ pub enum Terrain {
 }
 
 #[derive(Clone, Copy, PartialEq, Eq, Debug)]
+pub struct Weather {
+    pub speed_factor: u64,
+    pub capacity_factor: u64,
+}
+
+#[derive(Clone, Copy, PartialEq, Eq, Debug)]
 pub struct Case {
     pub kind: Kind,
     pub way: Way,
@@ -77,6 +83,7 @@ pub struct Case {
     pub factor: u64,
     pub share: u64,
     pub terrain: Terrain,
+    pub weather: Weather,
 }
 
 #[derive(Clone, Copy, PartialEq, Eq, Debug)]
@@ -90,7 +97,16 @@ pub struct Answer {
     pub service_volumes: [u64; 5],
 }
 
-// What a flow rate gets at a free-flow speed.
+// F, c and b after the factors.
+#[derive(Clone, Copy, PartialEq, Eq, Debug)]
+pub struct Curve {
+    pub kind: Kind,
+    pub free_flow_speed: u64,
+    pub capacity: u64,
+    pub breakpoint: u64,
+}
+
+// What a flow rate gets on a curve.
 #[derive(Clone, Copy, PartialEq, Eq, Debug)]
 pub struct Service {
     pub letter: u32,
@@ -141,11 +157,32 @@ impl Fraction {
     }
 }
 
+impl Weather {
+    pub const CLEAR: Weather = Weather { speed_factor: 1_000, capacity_factor: 1_000 };
+}
+
 impl Kind {
+    // The ends of F before the factors.
     pub fn free_flow_speeds(self) -> RangeInclusive<u64> {
         match self {
             Kind::Freeway => 55_000..=75_000,
             Kind::Multilane => 45_000..=70_000,
+        }
+    }
+
+    // "On kind F, free-flow speed after the factors must be at least 50,000 [...]. Kind M keeps its lower end."
+    pub fn least_speed_after_factors(self) -> u64 {
+        match self {
+            Kind::Freeway => 50_000,
+            Kind::Multilane => *self.free_flow_speeds().start(),
+        }
+    }
+
+    // "in thousandths from 500 to 1,000"; "Kind M takes 1,000 only."
+    pub fn weather_factors(self) -> RangeInclusive<u64> {
+        match self {
+            Kind::Freeway => 500..=1_000,
+            Kind::Multilane => 1_000..=1_000,
         }
     }
 
@@ -178,6 +215,23 @@ impl Kind {
     }
 }
 
+impl Curve {
+    // From F after its factor: "c, worked from that F, is multiplied by the second; b is multiplied by the second factor squared. Each
+    // product is rounded down once, at its end."
+    pub fn new(kind: Kind, free_flow_speed: u64, capacity_factor: u64) -> Curve {
+        Curve {
+            kind,
+            free_flow_speed,
+            capacity: kind.capacity(free_flow_speed) * capacity_factor / 1_000,
+            breakpoint: kind.breakpoint(free_flow_speed) * capacity_factor * capacity_factor / 1_000_000,
+        }
+    }
+
+    pub fn clear(kind: Kind, free_flow_speed: u64) -> Curve {
+        Curve::new(kind, free_flow_speed, Weather::CLEAR.capacity_factor)
+    }
+}
+
 // The passenger cars of a thousand vehicles. The truck equivalent E is 2 on level terrain, 3 on rolling.
 pub fn passenger_cars(case: &Case) -> u64 {
     let equivalent = match case.terrain {
@@ -191,9 +245,10 @@ pub fn flow_rate(case: &Case) -> u64 {
     (case.demand * passenger_cars(case)).div_ceil(case.factor * case.lanes)
 }
 
-// The first of the refusals 1 to 9, in the order of the numbers.
+// The first of the refusals 1 to 9, in the order of the numbers, then 19.
 pub fn planner_refusal(case: &Case) -> Option<Refusal> {
-    let kind = case.kind;
+    let Case { kind, weather, .. } = *case;
+    let weather_fits = [weather.speed_factor, weather.capacity_factor].iter().all(|factor| kind.weather_factors().contains(factor));
     let refusals = [
         (1, !(30_000..=90_000).contains(&case.speed)),
         (2, !(100..=200).contains(&case.width)),
@@ -204,6 +259,7 @@ pub fn planner_refusal(case: &Case) -> Option<Refusal> {
         (7, case.demand > GREATEST_DEMAND),
         (8, !(250..=1_000).contains(&case.factor)),
         (9, case.share > 1_000),
+        (19, !weather_fits),
     ];
     refusals.iter().find(|(_, holds)| *holds).map(|(number, _)| *number)
 }
@@ -286,10 +342,23 @@ struct Run {
     letter: u32,
 }
 
+// The greatest demand that gets a letter or a better one. From the last run of such letters down: the greatest demand whose flow rate is
+// at most the run's last is the answer, unless its flow rate lies before the run, and then no demand's flow rate lies in it. This rests on
+// flow rates rising with demand, not on letters worsening with flow rates.
+fn service_volume(runs: &[Run], case: &Case, letter: u32) -> u64 {
+    for run in runs.iter().rev().filter(|run| run.letter <= letter) {
+        let demand = (run.last * case.factor * case.lanes / passenger_cars(case)).min(GREATEST_DEMAND);
+        if flow_rate(&Case { demand, ..*case }) >= run.first {
+            return demand;
+        }
+    }
+    unreachable!("demand 0 gets A")
+}
+
 pub struct Method {
     ramp_terms: Vec<u64>,
     powers: Vec<u64>,
-    runs: [Vec<OnceLock<Vec<Run>>>; 2],
+    kept_runs: [Vec<OnceLock<Vec<Run>>>; 2],
 }
 
 impl Method {
@@ -298,7 +367,7 @@ impl Method {
         Method {
             ramp_terms: (0..=48).map(ramp_term).collect(),
             powers: (0..=1_000).map(power_131).collect(),
-            runs: [speeds(Kind::Freeway), speeds(Kind::Multilane)],
+            kept_runs: [speeds(Kind::Freeway), speeds(Kind::Multilane)],
         }
     }
 
@@ -315,7 +384,8 @@ impl Method {
         }
     }
 
-    // F of a case that 1 to 9 do not refuse, or refusal 10.
+    // F, after its factor, of a case that 1 to 9 and 19 do not refuse, or refusal 10. "F after its upper end becomes F times the first
+    // factor", rounded down.
     pub fn free_flow_speed(&self, case: &Case) -> Result<u64, Refusal> {
         let speed = match case.way {
             Way::Given => case.speed,
@@ -325,104 +395,106 @@ impl Method {
         if speed < *ends.start() {
             return Err(10);
         }
-        Ok(speed.min(*ends.end()))
+        let after_factor = speed.min(*ends.end()) * case.weather.speed_factor / 1_000;
+        if after_factor < case.kind.least_speed_after_factors() {
+            return Err(10);
+        }
+        Ok(after_factor)
+    }
+
+    // The curve of a case that 1 to 9 and 19 do not refuse, or refusal 10.
+    pub fn curve(&self, case: &Case) -> Result<Curve, Refusal> {
+        Ok(Curve::new(case.kind, self.free_flow_speed(case)?, case.weather.capacity_factor))
     }
 
     // S of a flow rate up to capacity, exactly.
-    fn speed(&self, kind: Kind, free_flow_speed: u64, flow_rate: u64) -> Fraction {
-        let (b, c) = (kind.breakpoint(free_flow_speed), kind.capacity(free_flow_speed));
+    fn speed(&self, curve: &Curve, flow_rate: u64) -> Fraction {
+        let (b, c) = (curve.breakpoint, curve.capacity);
         if 100 * flow_rate <= b {
-            return Fraction::whole(free_flow_speed);
+            return Fraction::whole(curve.free_flow_speed);
         }
         let part = Fraction::new(100 * flow_rate - b, c - b);
-        let weight = match kind {
+        let weight = match curve.kind {
             Kind::Freeway => part.times(part),
             Kind::Multilane => millionths(self.power(Fraction::whole(1_000).times(part).rounded_up())),
         };
-        speed_at_weight(kind, free_flow_speed, weight)
+        speed_at_weight(curve, weight)
     }
 
     // The letter of a flow rate, from its exact density.
-    pub fn letter(&self, kind: Kind, free_flow_speed: u64, flow_rate: u64) -> u32 {
-        if 100 * flow_rate > kind.capacity(free_flow_speed) {
+    pub fn letter(&self, curve: &Curve, flow_rate: u64) -> u32 {
+        if 100 * flow_rate > curve.capacity {
             return LETTER_F;
         }
-        letter_of_density(density(self.speed(kind, free_flow_speed, flow_rate), flow_rate))
+        letter_of_density(density(self.speed(curve, flow_rate), flow_rate))
     }
 
-    pub fn service(&self, kind: Kind, free_flow_speed: u64, flow_rate: u64) -> Service {
-        if 100 * flow_rate > kind.capacity(free_flow_speed) {
+    pub fn service(&self, curve: &Curve, flow_rate: u64) -> Service {
+        if 100 * flow_rate > curve.capacity {
             return Service { letter: LETTER_F, speed: 0, density: 0 };
         }
-        let speed = self.speed(kind, free_flow_speed, flow_rate);
+        let speed = self.speed(curve, flow_rate);
         let density = density(speed, flow_rate);
         Service { letter: letter_of_density(density), speed: speed.rounded_down(), density: density.rounded_up() }
     }
 
     // The letters of all flow rates up to capacity, each tried, as runs.
-    fn runs(&self, kind: Kind, free_flow_speed: u64) -> &[Run] {
-        let slot = (free_flow_speed - kind.free_flow_speeds().start()) as usize;
-        self.runs[kind as usize][slot].get_or_init(|| {
-            let mut runs: Vec<Run> = Vec::new();
-            for flow_rate in 0..=kind.capacity(free_flow_speed) / 100 {
-                let letter = self.letter(kind, free_flow_speed, flow_rate);
-                match runs.last_mut() {
-                    Some(run) if run.letter == letter => run.last = flow_rate,
-                    _ => runs.push(Run { first: flow_rate, last: flow_rate, letter }),
-                }
-            }
-            runs
-        })
-    }
-
-    // The greatest demand that gets a letter or a better one. From the last run of such letters down: the greatest demand whose flow rate
-    // is at most the run's last is the answer, unless its flow rate lies before the run, and then no demand's flow rate lies in it. This
-    // rests on flow rates rising with demand, not on letters worsening with flow rates.
-    fn service_volume(&self, case: &Case, free_flow_speed: u64, letter: u32) -> u64 {
-        for run in self.runs(case.kind, free_flow_speed).iter().rev().filter(|run| run.letter <= letter) {
-            let demand = (run.last * case.factor * case.lanes / passenger_cars(case)).min(GREATEST_DEMAND);
-            if flow_rate(&Case { demand, ..*case }) >= run.first {
-                return demand;
+    fn runs(&self, curve: &Curve) -> Vec<Run> {
+        let mut runs: Vec<Run> = Vec::new();
+        for flow_rate in 0..=curve.capacity / 100 {
+            let letter = self.letter(curve, flow_rate);
+            match runs.last_mut() {
+                Some(run) if run.letter == letter => run.last = flow_rate,
+                _ => runs.push(Run { first: flow_rate, last: flow_rate, letter }),
             }
         }
-        unreachable!("demand 0 gets A")
+        runs
     }
 
-    // The same by trying every demand.
-    pub fn service_volume_by_every_demand(&self, case: &Case, free_flow_speed: u64, letter: u32) -> u64 {
-        let meets = |demand: &u64| {
-            let flow_rate = flow_rate(&Case { demand: *demand, ..*case });
-            self.letter(case.kind, free_flow_speed, flow_rate) <= letter
-        };
+    // The place that keeps the runs of a curve, if it is one of clear weather: there are too many others.
+    fn kept_runs(&self, curve: &Curve) -> Option<&OnceLock<Vec<Run>>> {
+        let Curve { kind, free_flow_speed, .. } = *curve;
+        if *curve != Curve::clear(kind, free_flow_speed) {
+            return None;
+        }
+        let slot = free_flow_speed.checked_sub(*kind.free_flow_speeds().start())?;
+        self.kept_runs[kind as usize].get(slot as usize)
+    }
+
+    // The service volume of one letter, by trying every demand.
+    pub fn service_volume_by_every_demand(&self, case: &Case, curve: &Curve, letter: u32) -> u64 {
+        let meets = |demand: &u64| self.letter(curve, flow_rate(&Case { demand: *demand, ..*case })) <= letter;
         (0..=GREATEST_DEMAND).rev().find(meets).expect("demand 0 gets A")
     }
 
-    pub fn service_volumes(&self, case: &Case, free_flow_speed: u64) -> [u64; 5] {
-        [1, 2, 3, 4, 5].map(|letter| self.service_volume(case, free_flow_speed, letter))
+    pub fn service_volumes(&self, case: &Case, curve: &Curve) -> [u64; 5] {
+        let afresh = OnceLock::new();
+        let runs = self.kept_runs(curve).unwrap_or(&afresh).get_or_init(|| self.runs(curve));
+        [1, 2, 3, 4, 5].map(|letter| service_volume(runs, case, letter))
     }
 
     pub fn answer(&self, case: &Case) -> Result<Answer, Refusal> {
         if let Some(number) = planner_refusal(case) {
             return Err(number);
         }
-        let free_flow_speed = self.free_flow_speed(case)?;
+        let curve = self.curve(case)?;
         let flow_rate = flow_rate(case);
-        let service = self.service(case.kind, free_flow_speed, flow_rate);
+        let service = self.service(&curve, flow_rate);
         Ok(Answer {
             letter: service.letter,
-            free_flow_speed,
-            capacity: case.kind.capacity(free_flow_speed),
+            free_flow_speed: curve.free_flow_speed,
+            capacity: curve.capacity,
             flow_rate,
             speed: service.speed,
             density: service.density,
-            service_volumes: self.service_volumes(case, free_flow_speed),
+            service_volumes: self.service_volumes(case, &curve),
         })
     }
 
     // Whether a case with some lane count, its F estimated anew, gets a letter or a better one.
     fn meets(&self, case: &Case, letter: u32) -> bool {
-        match self.free_flow_speed(case) {
-            Ok(free_flow_speed) => self.letter(case.kind, free_flow_speed, flow_rate(case)) <= letter,
+        match self.curve(case) {
+            Ok(curve) => self.letter(&curve, flow_rate(case)) <= letter,
             Err(_) => false,
         }
     }
@@ -441,9 +513,9 @@ pub fn millionths(count: u64) -> Fraction {
 }
 
 // F − (F − 10c/45) × w.
-pub fn speed_at_weight(kind: Kind, free_flow_speed: u64, weight: Fraction) -> Fraction {
-    let free = Fraction::whole(free_flow_speed);
-    let at_capacity = Fraction::new(10 * kind.capacity(free_flow_speed), 45);
+pub fn speed_at_weight(curve: &Curve, weight: Fraction) -> Fraction {
+    let free = Fraction::whole(curve.free_flow_speed);
+    let at_capacity = Fraction::new(10 * curve.capacity, 45);
     free.minus(free.minus(at_capacity).times(weight))
 }
 

@@ -1,30 +1,37 @@
 -- The boundary sections (specs/Boundary), shown, with those of the layer below.
 --   example-speeds, estimated-speeds   F of the printed case and of the one that 10 refuses, by the lanes
 --   example-accepted   the printed case is accepted
---   volumes            its service volumes
+--   snow-accepted      so are the two cases in snow
+--   volumes, given-volumes, snow-volumes   the service volumes of the three
 --   example-answer, example-figures   the printed line's answer: its number and its eleven figures; the figures
+--   snow-answer, example-in-snow   the answers to the two cases in snow
 --   none-at-99999      with V = 99,999 no count of the printed case meets C
 --   boundary-shown     each figure of the list is what is to be shown
 -- Assumes nothing.
 use mathlib.Core.Path.{_≡_, refl, ap, _∙_}
-use mathlib.Core.List.{[], _∷_}
+use mathlib.Core.Bool.{Bool, _&&_}
+use mathlib.Core.List.{List, [], _∷_}
 use Prim.Native.Nat.{ℕ, _≤_}
 use native.Mathlib.Omega.{arith}
-use lib.Dec.{T}
+use lib.Dec.{T, leb, leb→le}
 use lib.ListN.{drop}
 use Rattle.numbers.specs.Division.{divUp}
 use Rattle.numbers.specs.Search.{leastFrom, least, endsAt}
 use Rattle.numbers.proofs.SearchLaws.{greatest-last}
+use Rattle.numbers.proofs.BoolLaws.{and-left, and-right}
 use Rattle.checks.specs.Figures.{Shown}
 use Rattle.checks.proofs.FigureLaws.{Shown-append}
 use Rattle.curve.specs.declared.kind.Kind.the-variants as Kind
-use Rattle.curve.specs.Curves.{capacity, breakpoint, curveAt}
+use Rattle.curve.specs.declared.Curve.{Curve}
+use Rattle.curve.specs.Curves.{capacity, breakpoint}
+use Rattle.curve.specs.Weather.{adjustedSpeed, adjustedCapacity, adjustedBreakpoint, curveUnder}
 use Rattle.curve.specs.Speed.{fallShareBy, speed, shownSpeed}
 use Rattle.curve.specs.Service.{density, shownDensity, densityLetter, letterAt, meetsLimit, densityLimit, performance}
 use Rattle.road.specs.Interpolation.{entryBefore, entryAfter, weightedSum, interpolated}
 use Rattle.road.specs.Adjustments.{laneWidthAdjustment, perMissingFoot, rightClearanceRow, rightClearanceAdjustment}
+use Rattle.road.specs.declared.Case.{Case}
 use Rattle.road.specs.FreeFlowSpeed.{estimatedBy, uncappedBy, freeFlowSpeed}
-use Rattle.road.specs.Refusals.{greatestDemand, roadRefusals, loadRefusals, fieldRefusals}
+use Rattle.road.specs.Refusals.{greatestDemand, weatherUnfit, roadRefusals, loadRefusals, fieldRefusals}
 use Rattle.method.specs.Refusals.{speedRefusals, refusals, Accepted}
 use Rattle.method.specs.Checked.{curveOf, caseCurve}
 use Rattle.method.specs.Flow.{heavyFactor, loadOf, flowRate}
@@ -41,7 +48,7 @@ use Rattle.answer.specs.Answers as answers
 use Rattle.answer.specs.Answers.{graded, answerTo}
 use Rattle.answer.specs.Lanes.{lanesFound, lanesRefusals, lanesAnswer, refusalNumber, values}
 use Rattle.answer.specs.Search.{demandMeets}
-use Rattle.answer.specs.Boundary.{exampleWith, estimated, addedFigures, boundaryFigures}
+use Rattle.answer.specs.Boundary.{exampleWith, exampleInSnow, estimated, givenInSnow, refusedBy19, addedFigures, boundaryFigures}
 use Rattle.answer.proofs.VolumeLaws.{demandMeets-down, serviceVolume-eq}
 
 -- F by the lanes, of the printed case and of the one that 10 refuses
@@ -59,62 +66,110 @@ unfolding divUp entryBefore entryAfter weightedSum interpolated laneWidthAdjustm
 estimated-speeds = (simp ramp-6, simp ramp-6, simp ramp-6)
 
 pub example-accepted : Accepted example
-unfolding roadRefusals loadRefusals fieldRefusals speedRefusals refusals
+unfolding weatherUnfit roadRefusals loadRefusals fieldRefusals adjustedSpeed speedRefusals refusals
 example-accepted = simp (example-speeds .0)
 
-example-curve : caseCurve example ≡ curveAt Kind.Freeway 60783
-unfolding curveOf
-example-curve = simp (example-speeds .0)
+pub snow-accepted : Accepted (givenInSnow 2 3000) × Accepted (exampleInSnow 2000)
+unfolding uncappedBy freeFlowSpeed weatherUnfit roadRefusals loadRefusals fieldRefusals adjustedSpeed speedRefusals refusals
+snow-accepted = (refl, simp (example-speeds .0))
 
--- a service volume of the printed case, by where the search's test ends
-volume : (l s : ℕ) → 1 ≤ l → l ≤ 5 → s ≤ greatestDemand
-    → T (endsAt (demandMeets (curveAt Kind.Freeway 60783) (loadOf example 2) (densityLimit l)) s) → serviceVolume example l ≡ s
-volume l s h k d t =
-    serviceVolume-eq example l example-accepted h k
-    ∙ greatest-last (demandMeets (caseCurve example) (loadOf example 2) (densityLimit l)) greatestDemand s
-    (demandMeets-down (caseCurve example) (loadOf example 2) (densityLimit l) (caseCurve-wellFormed example example-accepted)
-    (caseLoad-fits example (accepted-fields example example-accepted) .divisor-pos))
-    d (rw example-curve t)
+-- their curves, by F, c and b
+abbrev freeway : (f c b : ℕ) → Curve
+freeway f c b = record { kind = Kind.Freeway; «free_flow_speed» = f; capacity = c; breakpoint = b }
 
-pub volumes : (serviceVolume example 1 ≡ 1117) × (serviceVolume example 2 ≡ 1829) × (serviceVolume example 3 ≡ 2642)
-    × (serviceVolume example 4 ≡ 3360) × (serviceVolume example 5 ≡ 3858)
-unfolding divUp endsAt heavyFactor flowRate capacity breakpoint curveAt fallShareBy speed density meetsLimit densityLimit demandMeets
-volumes = (
-  volume 1 1117 (omega arith) (omega arith) (omega arith) tt,
-  volume 2 1829 (omega arith) (omega arith) (omega arith) tt,
-  volume 3 2642 (omega arith) (omega arith) (omega arith) tt,
-  volume 4 3360 (omega arith) (omega arith) (omega arith) tt,
-  volume 5 3858 (omega arith) (omega arith) (omega arith) tt,
-)
+curves : (caseCurve example ≡ freeway 60783 230783 156868) × (caseCurve (givenInSnow 2 3000) ≡ freeway 71250 216000 93150)
+    × (caseCurve (exampleInSnow 2000) ≡ freeway 52273 173372 116148)
+unfolding uncappedBy freeFlowSpeed capacity breakpoint adjustedSpeed adjustedCapacity adjustedBreakpoint curveUnder curveOf
+curves = (simp (example-speeds .0), refl, simp (example-speeds .0))
+
+abbrev VolumesOf : Case → (s₁ s₂ s₃ s₄ s₅ : ℕ) → Type 0
+VolumesOf case s₁ s₂ s₃ s₄ s₅ =
+    (serviceVolume case 1 ≡ s₁) × (serviceVolume case 2 ≡ s₂) × (serviceVolume case 3 ≡ s₃) × (serviceVolume case 4 ≡ s₄)
+    × (serviceVolume case 5 ≡ s₅)
+
+-- the service volumes of an accepted case with this curve, by where the search's tests end
+module _ (case : Case) (curve : Curve) (a : Accepted case) (own : caseCurve case ≡ curve) where
+  ends : ℕ → ℕ → Bool
+  ends l s = leb s greatestDemand && endsAt (demandMeets curve (loadOf case (case .lanes)) (densityLimit l)) s
+
+  volume : (l s : ℕ) → 1 ≤ l → l ≤ 5 → T (ends l s) → serviceVolume case l ≡ s
+  unfolding ends
+  volume l s h k t =
+      serviceVolume-eq case l a h k
+      ∙ greatest-last (demandMeets (caseCurve case) (loadOf case (case .lanes)) (densityLimit l)) greatestDemand s
+      (demandMeets-down (caseCurve case) (loadOf case (case .lanes)) (densityLimit l) (caseCurve-wellFormed case a)
+      (caseLoad-fits case (accepted-fields case a) .divisor-pos))
+      (leb→le s greatestDemand (and-left (leb s greatestDemand) _ t)) (rw own (and-right (leb s greatestDemand) _ t))
+
+  five : (s₁ s₂ s₃ s₄ s₅ : ℕ) → T (ends 1 s₁) → T (ends 2 s₂) → T (ends 3 s₃) → T (ends 4 s₄) → T (ends 5 s₅)
+      → VolumesOf case s₁ s₂ s₃ s₄ s₅
+  five s₁ s₂ s₃ s₄ s₅ t₁ t₂ t₃ t₄ t₅ = (
+    volume 1 s₁ (omega arith) (omega arith) t₁,
+    volume 2 s₂ (omega arith) (omega arith) t₂,
+    volume 3 s₃ (omega arith) (omega arith) t₃,
+    volume 4 s₄ (omega arith) (omega arith) t₄,
+    volume 5 s₅ (omega arith) (omega arith) t₅,
+  )
+
+pub volumes : VolumesOf example 1117 1829 2642 3360 3858
+unfolding divUp endsAt heavyFactor flowRate fallShareBy speed density meetsLimit densityLimit demandMeets ends
+volumes = five example (freeway 60783 230783 156868) example-accepted (curves .0) 1117 1829 2642 3360 3858 tt tt tt tt tt
+
+pub given-volumes : VolumesOf (givenInSnow 2 3000) 1566 2506 3294 3884 4320
+unfolding divUp endsAt heavyFactor flowRate fallShareBy speed density meetsLimit densityLimit demandMeets ends
+given-volumes = five (givenInSnow 2 3000) (freeway 71250 216000 93150) (snow-accepted .0) (curves .1) 1566 2506 3294 3884 4320 tt tt tt tt tt
+
+pub snow-volumes : VolumesOf (exampleInSnow 2000) 961 1572 2221 2636 2898
+unfolding divUp endsAt heavyFactor flowRate fallShareBy speed density meetsLimit densityLimit demandMeets ends
+snow-volumes = five (exampleInSnow 2000) (freeway 52273 173372 116148) (snow-accepted .1) (curves .2) 961 1572 2221 2636 2898 tt tt tt tt tt
 
 -- ---- the figures
--- the printed line's eleven, and a case that 10 refuses
-answers-shown : (answers.refusalNumber (answerTo example) ∷ answers.values (answerTo example)
-    ≡ 0 ∷ 3 ∷ 60783 ∷ 230783 ∷ 1196 ∷ 60783 ∷ 197 ∷ 1117 ∷ 1829 ∷ 2642 ∷ 3360 ∷ 3858 ∷ [])
-    × (answers.refusalNumber (answerTo estimated) ∷ answers.values (answerTo estimated) ≡ 10 ∷ [])
-unfolding divUp roadRefusals loadRefusals fieldRefusals speedRefusals refusals capacity breakpoint curveAt curveOf heavyFactor flowRate
-    fallShareBy speed shownSpeed density shownDensity densityLimit densityLetter letterAt performance measures graded
-answers-shown = (
-  simp (example-speeds .0, volumes .0, volumes .1, volumes .2, volumes .3, volumes .4),
-  simp (estimated-speeds .0),
-)
+-- the number of an answer's refusal and its values
+abbrev answered : Case → List ℕ
+answered case = answers.refusalNumber (answerTo case) ∷ answers.values (answerTo case)
 
-pub example-answer : answers.refusalNumber (answerTo example) ∷ answers.values (answerTo example)
-    ≡ 0 ∷ 3 ∷ 60783 ∷ 230783 ∷ 1196 ∷ 60783 ∷ 197 ∷ 1117 ∷ 1829 ∷ 2642 ∷ 3360 ∷ 3858 ∷ []
+-- the printed line's eleven, a case that 10 refuses, and those of the two in snow
+answers-shown : (answered example ≡ 0 ∷ 3 ∷ 60783 ∷ 230783 ∷ 1196 ∷ 60783 ∷ 197 ∷ 1117 ∷ 1829 ∷ 2642 ∷ 3360 ∷ 3858 ∷ [])
+    × (answered estimated ≡ 10 ∷ [])
+    × (answered (givenInSnow 2 3000) ≡ 0 ∷ 3 ∷ 71250 ∷ 216000 ∷ 1500 ∷ 66271 ∷ 227 ∷ 1566 ∷ 2506 ∷ 3294 ∷ 3884 ∷ 4320 ∷ [])
+    × (answered (exampleInSnow 2000) ≡ 0 ∷ 3 ∷ 52273 ∷ 173372 ∷ 1196 ∷ 52222 ∷ 230 ∷ 961 ∷ 1572 ∷ 2221 ∷ 2636 ∷ 2898 ∷ [])
+unfolding divUp uncappedBy freeFlowSpeed weatherUnfit roadRefusals loadRefusals fieldRefusals adjustedSpeed speedRefusals refusals capacity
+    breakpoint adjustedCapacity adjustedBreakpoint curveUnder curveOf heavyFactor flowRate fallShareBy speed shownSpeed density shownDensity
+    densityLimit densityLetter letterAt performance measures graded
+answers-shown =
+    let given = given-volumes in
+    let snow = snow-volumes in (
+      simp (example-speeds .0, volumes .0, volumes .1, volumes .2, volumes .3, volumes .4),
+      simp (estimated-speeds .0),
+      simp (given .0, given .1, given .2, given .3, given .4),
+      simp (example-speeds .0, snow .0, snow .1, snow .2, snow .3, snow .4),
+    )
+
+pub example-answer : answered example ≡ 0 ∷ 3 ∷ 60783 ∷ 230783 ∷ 1196 ∷ 60783 ∷ 197 ∷ 1117 ∷ 1829 ∷ 2642 ∷ 3360 ∷ 3858 ∷ []
 example-answer = answers-shown .0
+
+pub snow-answer : answered (givenInSnow 2 3000)
+    ≡ 0 ∷ 3 ∷ 71250 ∷ 216000 ∷ 1500 ∷ 66271 ∷ 227 ∷ 1566 ∷ 2506 ∷ 3294 ∷ 3884 ∷ 4320 ∷ []
+snow-answer = answers-shown .2
+
+pub example-in-snow : answered (exampleInSnow 2000)
+    ≡ 0 ∷ 3 ∷ 52273 ∷ 173372 ∷ 1196 ∷ 52222 ∷ 230 ∷ 961 ∷ 1572 ∷ 2221 ∷ 2636 ∷ 2898 ∷ []
+example-in-snow = answers-shown .3
 
 pub example-figures : answers.values (answerTo example) ≡ 3 ∷ 60783 ∷ 230783 ∷ 1196 ∷ 60783 ∷ 197 ∷ 1117 ∷ 1829 ∷ 2642 ∷ 3360 ∷ 3858 ∷ []
 example-figures = ap (drop 1) example-answer
 
--- the lanes of the printed case, with more demand, with a letter number past E, and of the case that 10 refuses
-lanes-shown : (refusalNumber (lanesAnswer example 3) ∷ values (lanesAnswer example 3) ≡ 0 ∷ 2 ∷ [])
-    × (refusalNumber (lanesAnswer (exampleWith 2643) 3) ∷ values (lanesAnswer (exampleWith 2643) 3) ≡ 0 ∷ 3 ∷ [])
-    × (refusalNumber (lanesAnswer (exampleWith 99999) 3) ∷ values (lanesAnswer (exampleWith 99999) 3) ≡ 14 ∷ [])
-    × (refusalNumber (lanesAnswer example 6) ∷ values (lanesAnswer example 6) ≡ 16 ∷ [])
-    × (refusalNumber (lanesAnswer estimated 1) ∷ values (lanesAnswer estimated 1) ≡ 0 ∷ 4 ∷ [])
-unfolding divUp leastFrom least roadRefusals loadRefusals fieldRefusals speedRefusals refusals capacity breakpoint curveAt curveOf
-    heavyFactor flowRate fallShareBy speed shownSpeed density shownDensity densityLimit densityLetter letterAt performance measures meets
-    lanesFound lanesRefusals
+-- the same of the lanes question
+abbrev counted : Case → ℕ → List ℕ
+counted case n = refusalNumber (lanesAnswer case n) ∷ values (lanesAnswer case n)
+
+-- the lanes of the printed case, with more demand, with a letter number past E; of the case that 10 refuses; in snow; and 19
+lanes-shown : (counted example 3 ≡ 0 ∷ 2 ∷ []) × (counted (exampleWith 2643) 3 ≡ 0 ∷ 3 ∷ []) × (counted (exampleWith 99999) 3 ≡ 14 ∷ [])
+    × (counted example 6 ≡ 16 ∷ []) × (counted estimated 1 ≡ 0 ∷ 4 ∷ []) × (counted (exampleInSnow 2222) 3 ≡ 0 ∷ 3 ∷ [])
+    × (counted refusedBy19 1 ≡ 19 ∷ [])
+unfolding divUp leastFrom least weatherUnfit roadRefusals loadRefusals fieldRefusals adjustedSpeed speedRefusals refusals capacity breakpoint
+    adjustedCapacity adjustedBreakpoint curveUnder curveOf heavyFactor flowRate fallShareBy speed shownSpeed density shownDensity densityLimit
+    densityLetter letterAt performance measures meets lanesFound lanesRefusals
 lanes-shown =
     let speed = example-speeds in (
       simp (speed .0, speed .1),
@@ -122,16 +177,18 @@ lanes-shown =
       simp (speed .0, speed .1, speed .2, speed .3, speed .4, speed .5, speed .6),
       refl,
       simp (estimated-speeds .0, estimated-speeds .1, estimated-speeds .2),
+      simp (speed .0, speed .1),
+      refl,
     )
 
-pub none-at-99999 : refusalNumber (lanesAnswer (exampleWith 99999) 3) ∷ values (lanesAnswer (exampleWith 99999) 3) ≡ 14 ∷ []
+pub none-at-99999 : counted (exampleWith 99999) 3 ≡ 14 ∷ []
 none-at-99999 = lanes-shown .2
 
 added-shown : Shown addedFigures
 unfolding addedFigures
 added-shown =
     let a = answers-shown in
-    let l = lanes-shown in (a .0, (l .0, (l .1, (l .2, (l .3, (a .1, (l .4, tt)))))))
+    let l = lanes-shown in (a .0, (l .0, (l .1, (l .2, (l .3, (a .1, (l .4, (a .2, (a .3, (l .5, (l .6, tt)))))))))))
 
 pub boundary-shown : Shown boundaryFigures
 boundary-shown = Shown-append specs-method.boundaryFigures addedFigures method.boundary-shown added-shown

@@ -1,21 +1,25 @@
 -- Instances of each part of demand 3 (specs/Instances), proved by the part.
 --   no-better-letter-under-more-load, no-better-letter-under-more-demand, no-better-letter-on-a-multilane
---   service-volume-of-the-example, first-and-last-service-volume
+--   no-better-letter-in-snow-with-fewer-lanes, no-better-letter-in-snow-on-an-estimate
+--   service-volume-of-the-example, service-volume-in-snow, first-and-last-service-volume
 --   four-lanes-for-every-letter, no-lanes-for-the-greatest-demand, three-lanes-on-a-multilane
 -- Assumes nothing.
 use mathlib.Core.Path.{_≡_, refl, ap, _∙_}
+use mathlib.Core.Logic.{inl, inr}
 use mathlib.Core.List.{[], _∷_}
 use Prim.Native.Nat.{ℕ, zero, suc, _≤_, _<_}
 use native.Mathlib.Omega.{arith}
 use lib.Dec.{T, leb, le→leb}
 use lib.ListN.{getD}
 use Rattle.numbers.specs.Division.{divUp}
-use Rattle.curve.specs.Curves.{capacity, breakpoint, curveAt}
+use Rattle.curve.specs.Curves.{capacity, breakpoint}
+use Rattle.curve.specs.Weather.{adjustedSpeed, adjustedCapacity, adjustedBreakpoint, curveUnder}
 use Rattle.curve.specs.Speed.{fallShareBy, speed, shownSpeed}
 use Rattle.curve.specs.Service.{density, shownDensity, densityLimit, densityLetter, letterAt, performance}
-use Rattle.road.specs.Cases.{withLanes}
+use Rattle.road.specs.declared.Case.{Case}
+use Rattle.road.specs.Cases.{withDemand, withLanes}
 use Rattle.road.specs.FreeFlowSpeed.{uncappedBy, freeFlowSpeed}
-use Rattle.road.specs.Refusals.{roadRefusals, loadRefusals, fieldRefusals, FieldsFit}
+use Rattle.road.specs.Refusals.{weatherUnfit, roadRefusals, loadRefusals, fieldRefusals, FieldsFit}
 use Rattle.method.specs.Refusals.{speedRefusals, refusals, refusal, Accepted}
 use Rattle.method.specs.Checked.{curveOf}
 use Rattle.method.specs.Flow.{heavyFactor, flowRate}
@@ -27,22 +31,24 @@ use Rattle.answer.specs.Volumes.{meets, serviceVolume}
 use Rattle.answer.specs.Answers.{graded, answerTo, refusalNumber}
 use Rattle.answer.specs.Lanes.{lanesAnswer, values}
 use Rattle.answer.specs.Promises.{letterIn, Meets, AcceptedCount, volumeIn}
-use Rattle.answer.specs.Boundary.{exampleWith, estimated}
+use Rattle.answer.specs.Boundary.{exampleWith, exampleInSnow, estimated, givenInSnow}
 use Rattle.answer.specs.Instances.{lighter, multilaneWith, NoBetterLetterUnderMoreLoad, NoBetterLetterUnderMoreDemand}
-use Rattle.answer.specs.Instances.{NoBetterLetterOnAMultilane, ServiceVolumeOfTheExample, FirstAndLastServiceVolume}
+use Rattle.answer.specs.Instances.{NoBetterLetterOnAMultilane, NoBetterLetterInSnowWithFewerLanes, NoBetterLetterInSnowOnAnEstimate}
+use Rattle.answer.specs.Instances.{ServiceVolumeOfTheExample, ServiceVolumeInSnow, FirstAndLastServiceVolume}
 use Rattle.answer.specs.Instances.{FourLanesForEveryLetter, NoLanesForTheGreatestDemand, ThreeLanesOnAMultilane}
 use Rattle.answer.proofs.VolumeLaws.{meets-only-accepted}
 use Rattle.answer.proofs.AnswerLaws.{Meets-iff}
 use Rattle.answer.proofs.Promises.{volumeIn-accepted, no-better-under-more-load, meets-up-to-the-service-volume}
 use Rattle.answer.proofs.Promises.{least-accepted-count}
-use Rattle.answer.proofs.Boundary.{example-speeds, estimated-speeds, example-accepted, volumes, example-figures, none-at-99999}
+use Rattle.answer.proofs.Boundary.{example-speeds, estimated-speeds, example-accepted, snow-accepted, volumes, snow-volumes}
+use Rattle.answer.proofs.Boundary.{example-figures, none-at-99999}
 
 lighter-accepted : Accepted lighter
-unfolding roadRefusals loadRefusals fieldRefusals speedRefusals refusals
+unfolding weatherUnfit roadRefusals loadRefusals fieldRefusals adjustedSpeed speedRefusals refusals
 lighter-accepted = simp (example-speeds .1)
 
 letters : (letterIn (answerTo lighter) ≡ 1) × (letterIn (answerTo (exampleWith 2643)) ≡ 4)
-unfolding divUp roadRefusals loadRefusals fieldRefusals speedRefusals refusals capacity breakpoint curveAt curveOf heavyFactor flowRate
+unfolding divUp weatherUnfit roadRefusals loadRefusals fieldRefusals adjustedSpeed speedRefusals refusals capacity breakpoint adjustedCapacity adjustedBreakpoint curveUnder curveOf heavyFactor flowRate
     fallShareBy speed shownSpeed density shownDensity densityLimit densityLetter letterAt performance measures graded
 letters = (simp (example-speeds .1), simp (example-speeds .0))
 
@@ -53,7 +59,7 @@ pub no-better-letter-under-more-load : NoBetterLetterUnderMoreLoad
 no-better-letter-under-more-load = (
   letters .0,
   letters .1,
-  no-better-under-more-load lighter (exampleWith 2643) lighter-accepted heavier-accepted refl
+  no-better-under-more-load lighter (exampleWith 2643) lighter-accepted heavier-accepted refl refl (inl refl)
       (omega arith) (omega arith) (omega arith) (omega arith) (omega arith),
 )
 
@@ -61,60 +67,95 @@ pub no-better-letter-under-more-demand : NoBetterLetterUnderMoreDemand
 no-better-letter-under-more-demand = (
   ap (λ ns. getD ns 0 0) example-figures,
   letters .1,
-  no-better-under-more-load example (exampleWith 2643) example-accepted heavier-accepted refl
+  no-better-under-more-load example (exampleWith 2643) example-accepted heavier-accepted refl refl (inl refl)
       (omega arith) (omega arith) (omega arith) (omega arith) (omega arith),
 )
 
 multilane-letters : (letterIn (answerTo (multilaneWith 2800)) ≡ 3) × (letterIn (answerTo (multilaneWith 3600)) ≡ 4)
-unfolding divUp uncappedBy freeFlowSpeed roadRefusals loadRefusals fieldRefusals speedRefusals refusals capacity breakpoint curveAt curveOf
+unfolding divUp uncappedBy freeFlowSpeed weatherUnfit roadRefusals loadRefusals fieldRefusals adjustedSpeed speedRefusals refusals capacity breakpoint adjustedCapacity adjustedBreakpoint curveUnder curveOf
     heavyFactor flowRate fallShareBy speed shownSpeed density shownDensity densityLimit densityLetter letterAt performance measures graded
 multilane-letters = (refl, simp power-500)
 
 multilane-accepted : Accepted (multilaneWith 2800) × Accepted (multilaneWith 3600)
-unfolding uncappedBy freeFlowSpeed roadRefusals loadRefusals fieldRefusals speedRefusals refusals
+unfolding uncappedBy freeFlowSpeed weatherUnfit roadRefusals loadRefusals fieldRefusals adjustedSpeed speedRefusals refusals
 multilane-accepted = (refl, refl)
 
 pub no-better-letter-on-a-multilane : NoBetterLetterOnAMultilane
 no-better-letter-on-a-multilane = (
   multilane-letters .0,
   multilane-letters .1,
-  no-better-under-more-load (multilaneWith 2800) (multilaneWith 3600) (multilane-accepted .0) (multilane-accepted .1) refl
+  no-better-under-more-load (multilaneWith 2800) (multilaneWith 3600) (multilane-accepted .0) (multilane-accepted .1) refl refl (inl refl)
       (omega arith) (omega arith) (omega arith) (omega arith) (omega arith),
 )
 
--- what part 2 says of the printed case, by the service volume s of letter number n
-by-volume : (n s : ℕ) → 1 ≤ n → n ≤ 5 → s < 99999 → serviceVolume example n ≡ s
-    → ((demand : ℕ) → demand ≤ s → Meets (exampleWith demand) n) × (Meets (exampleWith (suc s)) n → ⊥)
-by-volume n s h k l e =
-    let volume : volumeIn (answerTo example) n ≡ s = volumeIn-accepted example n example-accepted h k ∙ e in (
-      λ demand d. meets-up-to-the-service-volume example example-accepted n h k demand (omega arith) .1 (omega arith),
-      λ m. omega (arith, meets-up-to-the-service-volume example example-accepted n h k (suc s) (omega arith) .0 m),
+-- in snow
+snow-letters : (letterIn (answerTo (givenInSnow 3 3000)) ≡ 2) × (letterIn (answerTo (givenInSnow 2 3000)) ≡ 3)
+    × (letterIn (answerTo (exampleInSnow 2000)) ≡ 3) × (letterIn (answerTo (exampleInSnow 2222)) ≡ 4)
+unfolding divUp uncappedBy freeFlowSpeed weatherUnfit roadRefusals loadRefusals fieldRefusals adjustedSpeed speedRefusals refusals capacity
+    breakpoint adjustedCapacity adjustedBreakpoint curveUnder curveOf heavyFactor flowRate fallShareBy speed shownSpeed density shownDensity
+    densityLimit densityLetter letterAt performance measures graded
+snow-letters = (refl, refl, simp (example-speeds .0), simp (example-speeds .0))
+
+three-lanes-accepted : Accepted (givenInSnow 3 3000)
+unfolding uncappedBy freeFlowSpeed weatherUnfit roadRefusals loadRefusals fieldRefusals adjustedSpeed speedRefusals refusals
+three-lanes-accepted = refl
+
+pub no-better-letter-in-snow-with-fewer-lanes : NoBetterLetterInSnowWithFewerLanes
+no-better-letter-in-snow-with-fewer-lanes = (
+  snow-letters .0,
+  snow-letters .1,
+  no-better-under-more-load (givenInSnow 3 3000) (givenInSnow 2 3000) three-lanes-accepted (snow-accepted .0) refl refl (inr (inl refl))
+      (omega arith) (omega arith) (omega arith) (omega arith) (omega arith),
+)
+
+pub no-better-letter-in-snow-on-an-estimate : NoBetterLetterInSnowOnAnEstimate
+no-better-letter-in-snow-on-an-estimate = (
+  snow-letters .2,
+  snow-letters .3,
+  no-better-under-more-load (exampleInSnow 2000) (exampleInSnow 2222) (snow-accepted .1)
+      (accepted-withDemand (exampleInSnow 2000) 2222 (snow-accepted .1) (omega arith)) refl refl (inr (inr refl))
+      (omega arith) (omega arith) (omega arith) (omega arith) (omega arith),
+)
+
+-- what part 2 says of an accepted case, by the service volume s of letter number n
+by-volume : (case : Case) → Accepted case → (n s : ℕ) → 1 ≤ n → n ≤ 5 → s < 99999 → serviceVolume case n ≡ s
+    → ((demand : ℕ) → demand ≤ s → Meets (withDemand case demand) n) × (Meets (withDemand case (suc s)) n → ⊥)
+by-volume case ok n s h k l e =
+    let volume : volumeIn (answerTo case) n ≡ s = volumeIn-accepted case n ok h k ∙ e in (
+      λ demand d. meets-up-to-the-service-volume case ok n h k demand (omega arith) .1 (omega arith),
+      λ m. omega (arith, meets-up-to-the-service-volume case ok n h k (suc s) (omega arith) .0 m),
     )
 
 pub service-volume-of-the-example : ServiceVolumeOfTheExample
-service-volume-of-the-example = let c = by-volume 3 2642 (omega arith) (omega arith) (omega arith) (volumes .2) in
+service-volume-of-the-example =
+    let c = by-volume example example-accepted 3 2642 (omega arith) (omega arith) (omega arith) (volumes .2) in
     (c .0 2642 (omega arith), c .1)
+
+pub service-volume-in-snow : ServiceVolumeInSnow
+service-volume-in-snow =
+    let c = by-volume (exampleInSnow 2000) (snow-accepted .1) 3 2221 (omega arith) (omega arith) (omega arith) (snow-volumes .2) in
+    (c .0 2221 (omega arith), c .1)
 
 pub first-and-last-service-volume : FirstAndLastServiceVolume
 first-and-last-service-volume =
-    let a = by-volume 1 1117 (omega arith) (omega arith) (omega arith) (volumes .0) in
-    let e = by-volume 5 3858 (omega arith) (omega arith) (omega arith) (volumes .4) in (
+    let a = by-volume example example-accepted 1 1117 (omega arith) (omega arith) (omega arith) (volumes .0) in
+    let e = by-volume example example-accepted 5 3858 (omega arith) (omega arith) (omega arith) (volumes .4) in (
       (a .0 0 (omega arith), a .0 1117 (omega arith), a .1),
       (e .0 0 (omega arith), e .0 3858 (omega arith), e .1),
     )
 
 fields-fit : FieldsFit estimated
-unfolding roadRefusals loadRefusals fieldRefusals
+unfolding weatherUnfit roadRefusals loadRefusals fieldRefusals
 fields-fit = refl
 
--- 10 refuses 2 lanes and 3, and none of 1 to 10 refuses 4
+-- 10 refuses 2 lanes and 3, and nothing refuses 4
 counts : (refusal (withLanes estimated 2) ≡ 10) × (refusal (withLanes estimated 3) ≡ 10) × (refusal (withLanes estimated 4) ≡ 0)
-unfolding roadRefusals loadRefusals fieldRefusals speedRefusals refusals
+unfolding weatherUnfit roadRefusals loadRefusals fieldRefusals adjustedSpeed speedRefusals refusals
 counts = (simp (estimated-speeds .0), simp (estimated-speeds .1), simp (estimated-speeds .2))
 
 -- with 4 lanes the letter is A
 four-meet : (n : ℕ) → meets (withLanes estimated 4) n ≡ leb 1 n
-unfolding divUp roadRefusals loadRefusals fieldRefusals speedRefusals refusals capacity breakpoint curveAt curveOf heavyFactor flowRate
+unfolding divUp weatherUnfit roadRefusals loadRefusals fieldRefusals adjustedSpeed speedRefusals refusals capacity breakpoint adjustedCapacity adjustedBreakpoint curveUnder curveOf heavyFactor flowRate
     fallShareBy speed shownSpeed density shownDensity densityLimit densityLetter letterAt performance measures meets
 four-meet n = simp (estimated-speeds .2)
 
@@ -140,7 +181,7 @@ four-lanes-for-every-letter = (refused, needed)
         )
 
 example-fits : FieldsFit (exampleWith 99999)
-unfolding roadRefusals loadRefusals fieldRefusals
+unfolding weatherUnfit roadRefusals loadRefusals fieldRefusals
 example-fits = refl
 
 pub no-lanes-for-the-greatest-demand : NoLanesForTheGreatestDemand
@@ -149,12 +190,12 @@ no-lanes-for-the-greatest-demand =
 
 -- with 3 lanes the letter is C
 three-meet : T (meets (withLanes (multilaneWith 3600) 3) 3)
-unfolding divUp uncappedBy freeFlowSpeed roadRefusals loadRefusals fieldRefusals speedRefusals refusals capacity breakpoint curveAt curveOf
+unfolding divUp uncappedBy freeFlowSpeed weatherUnfit roadRefusals loadRefusals fieldRefusals adjustedSpeed speedRefusals refusals capacity breakpoint adjustedCapacity adjustedBreakpoint curveUnder curveOf
     heavyFactor flowRate fallShareBy speed shownSpeed density shownDensity densityLimit densityLetter letterAt performance measures meets
 three-meet = tt
 
 multilane-fits : FieldsFit (multilaneWith 3600)
-unfolding roadRefusals loadRefusals fieldRefusals
+unfolding weatherUnfit roadRefusals loadRefusals fieldRefusals
 multilane-fits = refl
 
 two-fail : (fewer : ℕ) → AcceptedCount (multilaneWith 3600) fewer → fewer < 3 → Meets (withLanes (multilaneWith 3600) fewer) 3 → ⊥

@@ -4,7 +4,7 @@
 --   lanesFound-none      it is one more than the most where no count meets the letter
 --   meets-of-kind        a case that meets a letter has a lane count of the kind
 --   lanesAnswer-letter   a letter number that is not 1 to 5: 16
---   lanesAnswer-fields   a case that 1 to 9 refuse: that number
+--   lanesAnswer-fields   a case that 1 to 9 or 19 refuse: that number
 --   lanesAnswer-none     no count: 14
 --   lanesAnswer-found    a count: that count
 -- Assumes nothing.

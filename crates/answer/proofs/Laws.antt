@@ -19,23 +19,19 @@ use Rattle.checks.specs.Refusals.{firstRefusal}
 use Rattle.checks.proofs.RefusalLaws.{firstRefusal-le, unlessRefused-by, unlessRefused-number}
 use Rattle.curve.specs.declared.Curve.{Curve}
 use Rattle.curve.specs.Kinds.{mostLanes}
-use Rattle.curve.specs.Curves.{curveAt}
 use Rattle.curve.specs.Service.{density, meetsLimit, densityLimit, performance}
 use Rattle.curve.proofs.KindLaws.{kind-ends}
-use Rattle.curve.proofs.CurveLaws.{capacity-le}
 use Rattle.curve.proofs.ServiceLaws.{letterNumber-le, shownSpeed-le, shownDensity-le}
 use Rattle.road.specs.declared.Case.{Case}
-use Rattle.road.specs.FreeFlowSpeed.{freeFlowSpeed}
-use Rattle.road.specs.Refusals.{greatestDemand, roadRefusals, loadRefusals, fieldRefusals}
+use Rattle.road.specs.Refusals.{greatestDemand, weatherUnfit, roadRefusals, loadRefusals, fieldRefusals}
 use Rattle.road.proofs.RefusalLaws.{load-ends}
-use Rattle.road.proofs.FreeFlowSpeedLaws.{freeFlowSpeed-le}
 use Rattle.method.specs.declared.flow.Load.{Load}
-use Rattle.method.specs.Refusals.{Accepted}
-use Rattle.method.specs.Checked.{curveOf, caseCurve}
+use Rattle.method.specs.Refusals.{refusals, Accepted}
+use Rattle.method.specs.Checked.{caseCurve}
 use Rattle.method.specs.Flow.{loadOf, flowRate, caseFlowRate, LoadFits}
 use Rattle.method.specs.Assess.{measures}
 use Rattle.method.proofs.RefusalLaws.{accepted-fields, refusal-le}
-use Rattle.method.proofs.CheckedLaws.{caseCurve-wellFormed}
+use Rattle.method.proofs.CheckedLaws.{caseCurve-wellFormed, caseCurve-sized}
 use Rattle.method.proofs.FlowLaws.{caseLoad-fits}
 use Rattle.answer.specs.declared.lanes.LanesAnswer.the-variants as LanesAnswer
 use Rattle.answer.specs.Volumes.{serviceVolume}
@@ -45,7 +41,6 @@ use Rattle.answer.specs.Search.{demandMeets}
 use Rattle.answer.specs.Laws.{FiguresWithinEnds, RefusalsWithinEnds, RefusalsReachEnds, CountsAreDigits}
 use Rattle.answer.proofs.VolumeLaws.{demandMeets-zero, serviceVolume-eq}
 use Rattle.answer.proofs.AnswerLaws.{answerTo-accepted, answerTo-number}
-use Rattle.answer.proofs.Instances.{four-lanes-for-every-letter}
 
 -- ---- figures
 -- what keeps to a capacity of at most 240,000 is at most 19,200 vehicles, each at least a passenger car, on at most 8 lanes
@@ -63,13 +58,12 @@ demandMeets-le curve load limit demand c fits t =
     omega arith
 
 pub serviceVolume-le : (case : Case) (n : ℕ) → Accepted case → 1 ≤ n → n ≤ 5 → serviceVolume case n ≤ 19200
-unfolding curveOf curveAt
 serviceVolume-le case n a h k =
     let fits : LoadFits (loadOf case (case .lanes)) = caseLoad-fits case (accepted-fields case a) in
     let load : Load = loadOf case (case .lanes) in
     rw (serviceVolume-eq case n a h k)
     (demandMeets-le (caseCurve case) load (densityLimit n) (greatest (demandMeets (caseCurve case) load (densityLimit n)) greatestDemand)
-    (capacity-le (case .road .kind) (freeFlowSpeed (case .road) (case .lanes))) fits
+    (caseCurve-sized case a .capacity-le) fits
     (greatest-passes (demandMeets (caseCurve case) load (densityLimit n)) greatestDemand
     (demandMeets-zero (caseCurve case) load (densityLimit n) (caseCurve-wellFormed case a) (fits .divisor-pos))))
 
@@ -84,25 +78,23 @@ flowRate-le case a =
     let cars = mul-le-mul {n₂ = greatestDemand} {m₂ = 3000} (ends .demand-high) (fits .heavy-le) in
     divUp-le-iff _ _ (6 * greatestDemand) (fits .divisor-pos) .1 (le-trans cars (omega (arith, mul-le-mul-left (6 * greatestDemand) least)))
 
-speed-le : (case : Case) → freeFlowSpeed (case .road) (case .lanes) ≤ 75000
-speed-le case = le-trans (freeFlowSpeed-le (case .road) (case .lanes)) (kind-ends (case .road .kind) .speed-le)
-
 pub figures-within-ends : FiguresWithinEnds
-unfolding graded measures performance curveOf curveAt
+unfolding graded measures performance
 figures-within-ends case a =
     let v : ℕ = caseFlowRate case in
     let ok = caseCurve-wellFormed case a in
+    let sized = caseCurve-sized case a in
     let volume : (n : ℕ) → 1 ≤ n → n ≤ 5 → serviceVolume case n ≤ 19200 = λ n h k. serviceVolume-le case n a h k in
     rw (answerTo-accepted case a) (
       letterNumber-le (graded case .letter),
       (
-        speed-le case,
+        sized .speed-le,
         (
-          capacity-le (case .road .kind) (freeFlowSpeed (case .road) (case .lanes)),
+          sized .capacity-le,
           (
             flowRate-le case a,
             (
-              le-trans (shownSpeed-le (caseCurve case) v ok) (speed-le case),
+              le-trans (shownSpeed-le (caseCurve case) v ok) (sized .speed-le),
               (
                 shownDensity-le (caseCurve case) v ok,
                 (
@@ -132,12 +124,12 @@ pub refusals-within-ends : RefusalsWithinEnds
 unfolding roadRefusals loadRefusals fieldRefusals lanesRefusals
 refusals-within-ends case n = (
   omega (arith, answerTo-number case, refusal-le case),
-  omega (arith, lanesAnswer-number case n, firstRefusal-le 16 (lanesRefusals case n) tt),
+  omega (arith, lanesAnswer-number case n, firstRefusal-le 19 (lanesRefusals case n) tt),
 )
 
 pub refusals-reach-ends : RefusalsReachEnds
-unfolding lanesRefusals
-refusals-reach-ends = (four-lanes-for-every-letter .0, refl)
+unfolding weatherUnfit roadRefusals loadRefusals fieldRefusals refusals lanesRefusals
+refusals-reach-ends = (refl, refl)
 
 pub counts-are-digits : CountsAreDigits
 unfolding lanesFound

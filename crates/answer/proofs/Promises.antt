@@ -1,12 +1,13 @@
 -- Demand 3, proved.
 --   no-better-under-more-load        part 1
+--   no-better-in-clear-weather       what it says of clear weather
 --   meets-up-to-the-service-volume   part 2
 --   least-accepted-count             part 3
 --   demand-three                     the three together
 --   volumeIn-accepted                the volume in an accepted case's answer is its service volume
 -- Assumes nothing.
 use mathlib.Core.Path.{_≡_, refl, sym, ap, _∙_}
-use mathlib.Core.Logic.{_↔_}
+use mathlib.Core.Logic.{_↔_, ⊎-elim, inl}
 use mathlib.Core.List.{[], _∷_}
 use Prim.Native.Nat.{ℕ, zero, suc, _≤_, _<_}
 use native.Mathlib.Omega.{arith}
@@ -14,20 +15,24 @@ use native.Mathlib.Decide.{decLe}
 use lib.Dec.{T}
 use lib.ListN.{length, getD}
 use Rattle.curve.specs.Kinds.{mostLanes}
+use Rattle.curve.specs.Curves.{curveAt}
+use Rattle.curve.specs.Weather.{clear}
 use Rattle.curve.specs.Service.{letterAt, letterNumber, performance}
-use Rattle.curve.proofs.ServiceLaws.{letterAt-mono}
+use Rattle.curve.proofs.WeatherLaws.{curveUnder-clear}
+use Rattle.curve.proofs.ServiceLaws.{letterAt-flow, letterAt-mono}
 use Rattle.road.specs.declared.Terrain.{Terrain}
 use Rattle.road.specs.declared.Terrain.the-variants as Terrain
 use Rattle.road.specs.declared.Case.{Case}
-use Rattle.road.specs.Cases.{withDemand, withLanes}
+use Rattle.road.specs.Cases.{withDemand, withLanes, SameRoad}
 use Rattle.road.specs.FreeFlowSpeed.{freeFlowSpeed}
 use Rattle.road.specs.Refusals.{FieldsFit}
-use Rattle.road.proofs.FreeFlowSpeedLaws.{freeFlowSpeed-mono, freeFlowSpeed-le}
+use Rattle.road.proofs.FreeFlowSpeedLaws.{freeFlowSpeed-mono, freeFlowSpeed-le, freeFlowSpeed-given}
 use Rattle.method.specs.Refusals.{Accepted}
 use Rattle.method.specs.Checked.{curveOf, caseCurve}
 use Rattle.method.specs.Flow.{truckEquivalent, caseFlowRate}
 use Rattle.method.specs.Assess.{measures}
 use Rattle.method.proofs.RefusalLaws.{accepted-fields, accepted-speed}
+use Rattle.method.proofs.CheckedLaws.{caseCurve-wellFormed}
 use Rattle.method.proofs.FlowLaws.{caseFlowRate-mono}
 use Rattle.answer.specs.declared.evaluate.Answer.the-variants as Answer
 use Rattle.answer.specs.declared.lanes.LanesAnswer.the-variants as LanesAnswer
@@ -35,7 +40,7 @@ use Rattle.answer.specs.Volumes.{meets, serviceVolume}
 use Rattle.answer.specs.Answers.{graded, answerTo}
 use Rattle.answer.specs.Lanes.{lanesFound, lanesAnswer, refusalNumber, values}
 use Rattle.answer.specs.Promises.{letterIn, volumeIn, Meets, AcceptedCount, hardness, NoBetterUnderMoreLoad}
-use Rattle.answer.specs.Promises.{MeetsUpToTheServiceVolume, LeastAcceptedCount, DemandThree}
+use Rattle.answer.specs.Promises.{NoBetterInClearWeather, MeetsUpToTheServiceVolume, LeastAcceptedCount, DemandThree}
 use Rattle.answer.proofs.VolumeLaws.{meets-only-accepted, serviceVolume-iff}
 use Rattle.answer.proofs.AnswerLaws.{answerTo-accepted, Meets-iff}
 use Rattle.answer.proofs.LanesLaws.{meets-of-kind, lanesFound-eq, lanesFound-meets, lanesFound-le, lanesFound-none, lanesAnswer-none}
@@ -53,17 +58,47 @@ harder-equivalent Terrain.Level Terrain.Rolling h = omega arith
 harder-equivalent Terrain.Rolling Terrain.Level h = absurd (omega arith)
 harder-equivalent Terrain.Rolling Terrain.Rolling h = omega arith
 
+-- two cases of one road under one weather, the second with the greater flow rate
+module _ (c d : Case) (ac : Accepted c) (ad : Accepted d) (same : SameRoad c d) (weather : c .weather ≡ d .weather)
+    (flow : caseFlowRate c ≤ caseFlowRate d) where
+  abbrev NoBetter : Type 0
+  NoBetter = letterIn (answerTo c) ≤ letterIn (answerTo d)
+
+  -- on one curve
+  on-one-curve : caseCurve c ≡ caseCurve d → NoBetter
+  on-one-curve one =
+      rw (letterIn-accepted c ac, letterIn-accepted d ad, one)
+      (letterAt-flow (caseCurve d) (caseFlowRate c) (caseFlowRate d) (caseCurve-wellFormed d ad) flow)
+
+  -- with an F of one value
+  at-one-speed : freeFlowSpeed (d .road) (c .lanes) ≡ freeFlowSpeed (d .road) (d .lanes) → NoBetter
+  unfolding curveOf
+  at-one-speed e = on-one-curve (rw (same, weather, e))
+
+  -- in clear weather, at two free-flow speeds
+  in-clear-weather : c .weather ≡ clear → d .lanes ≤ c .lanes → NoBetter
+  unfolding curveOf
+  in-clear-weather z hn =
+      let mine : caseCurve c ≡ curveAt (d .road .kind) (freeFlowSpeed (d .road) (c .lanes)) = rw (z, same) (curveUnder-clear _ _) in
+      let other : caseCurve d ≡ curveAt (d .road .kind) (freeFlowSpeed (d .road) (d .lanes)) =
+      rw (sym weather ∙ z) (curveUnder-clear _ _) in
+      rw (letterIn-accepted c ac, letterIn-accepted d ad, mine, other)
+      (letterAt-mono (d .road .kind) (freeFlowSpeed (d .road) (d .lanes)) (freeFlowSpeed (d .road) (c .lanes)) (caseFlowRate c)
+      (caseFlowRate d)
+      (accepted-speed d ad) (freeFlowSpeed-mono (d .road) (d .lanes) (c .lanes) hn) (freeFlowSpeed-le (d .road) (c .lanes)) flow)
+
 pub no-better-under-more-load : NoBetterUnderMoreLoad
-unfolding curveOf
-no-better-under-more-load c d ac ad same hd hs ht hf hn =
+no-better-under-more-load c d ac ad same weather comparable hd hs ht hf hn =
     let flow : caseFlowRate c ≤ caseFlowRate d =
     caseFlowRate-mono c d (accepted-fields d ad) hd hs (harder-equivalent (c .terrain) (d .terrain) ht) hf hn in
-    let mine : letterIn (answerTo c) ≡ letterNumber (letterAt (curveOf (d .road) (c .lanes)) (caseFlowRate c)) =
-    letterIn-accepted c ac ∙ ap (λ road. letterNumber (letterAt (curveOf road (c .lanes)) (caseFlowRate c))) same in
-    rw (mine, letterIn-accepted d ad)
-    (letterAt-mono (d .road .kind) (freeFlowSpeed (d .road) (d .lanes)) (freeFlowSpeed (d .road) (c .lanes)) (caseFlowRate c)
-    (caseFlowRate d)
-    (accepted-speed d ad) (freeFlowSpeed-mono (d .road) (d .lanes) (c .lanes) hn) (freeFlowSpeed-le (d .road) (c .lanes)) flow)
+    ⊎-elim (λ z. in-clear-weather c d ac ad same weather flow z hn)
+    (⊎-elim (λ given. at-one-speed c d ac ad same weather flow
+    (freeFlowSpeed-given (d .road) (c .lanes) (d .lanes) (sym (ap (λ road. road .way) same) ∙ given)))
+    (λ equal. at-one-speed c d ac ad same weather flow (ap (freeFlowSpeed (d .road)) equal)))
+    comparable
+
+pub no-better-in-clear-weather : NoBetterInClearWeather
+no-better-in-clear-weather c d ac ad same zc zd = no-better-under-more-load c d ac ad same (zc ∙ sym zd) (inl zc)
 
 -- ---- part 2
 -- the service volumes in the answer to an accepted case, by the letter's number

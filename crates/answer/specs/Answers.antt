@@ -1,7 +1,7 @@
 -- The answer to a case (document 01, "Lines": letter, F, c, v, speed, density, service volumes A to E).
 --   gradeOf m volumes  the grade of what a case gets and its service volumes
 --   graded case        the grade of a case
---   answerTo case      its grade, or the number of the first of 1 to 10 that refuses it
+--   answerTo case      its grade, or the number of the first of 1 to 9, 19 and 10 that refuses it
 --   refusalNumber a    the number of the refusal, 0 where there is none
 --   values a           the eleven figures as a list, the letter by its number; of a refusal no value
 -- Assumes nothing.

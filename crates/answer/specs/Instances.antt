@@ -5,6 +5,9 @@
 --   NoBetterLetterUnderMoreDemand    part 1, all but the demand equal: the printed case gets C with V = 2,000 and D with 2,643
 --   multilaneWith demand             M G 60000 120 60 60 D 0 2 V 1000 0 L
 --   NoBetterLetterOnAMultilane       part 1 on kind M with F given: C with V = 2,800, D with 3,600
+--   NoBetterLetterInSnowWithFewerLanes   part 1 in snow, F given: B with 3 lanes, C with 2
+--   NoBetterLetterInSnowOnAnEstimate   part 1 in snow, F estimated, with equal lanes: C with V = 2,000, D with 2,222
+--   ServiceVolumeInSnow              part 2 in snow: with V = 2,221 that case meets C, with 2,222 it does not
 --   ServiceVolumeOfTheExample        part 2: with V = 2,642 the printed case meets C, with 2,643 it does not
 --   FirstAndLastServiceVolume        part 2: A up to 1,117 and E up to 3,858, each with V = 0 too
 --   FourLanesForEveryLetter          part 3: a case that 10 refuses needs 4 lanes, for every letter
@@ -15,6 +18,7 @@ use mathlib.Core.Path.{_≡_}
 use mathlib.Core.List.{[], _∷_}
 use Prim.Native.Nat.{ℕ, _≤_}
 use Rattle.curve.specs.declared.kind.Kind.the-variants as Kind
+use Rattle.curve.specs.Weather.{clear}
 use Rattle.road.specs.declared.Terrain.the-variants as Terrain
 use Rattle.road.specs.declared.Case.{Case}
 use Rattle.method.specs.Boundary.{example, given, twoLanes}
@@ -22,10 +26,10 @@ use Rattle.road.specs.Cases.{loaded, withLanes}
 use Rattle.answer.specs.Answers.{answerTo, refusalNumber}
 use Rattle.answer.specs.Lanes.{lanesAnswer, values}
 use Rattle.answer.specs.Promises.{letterIn, Meets, AcceptedCount}
-use Rattle.answer.specs.Boundary.{exampleWith, estimated}
+use Rattle.answer.specs.Boundary.{exampleWith, exampleInSnow, estimated, givenInSnow}
 
 abbrev pub lighter : Case
-lighter = loaded (example .road) 3 2000 1000 0 Terrain.Level
+lighter = loaded (example .road) 3 2000 1000 0 Terrain.Level clear
 
 abbrev pub NoBetterLetterUnderMoreLoad : Type 0
 NoBetterLetterUnderMoreLoad =
@@ -44,6 +48,19 @@ abbrev pub NoBetterLetterOnAMultilane : Type 0
 NoBetterLetterOnAMultilane =
     (letterIn (answerTo (multilaneWith 2800)) ≡ 3) × (letterIn (answerTo (multilaneWith 3600)) ≡ 4)
     × (letterIn (answerTo (multilaneWith 2800)) ≤ letterIn (answerTo (multilaneWith 3600)))
+
+abbrev pub NoBetterLetterInSnowWithFewerLanes : Type 0
+NoBetterLetterInSnowWithFewerLanes =
+    (letterIn (answerTo (givenInSnow 3 3000)) ≡ 2) × (letterIn (answerTo (givenInSnow 2 3000)) ≡ 3)
+    × (letterIn (answerTo (givenInSnow 3 3000)) ≤ letterIn (answerTo (givenInSnow 2 3000)))
+
+abbrev pub NoBetterLetterInSnowOnAnEstimate : Type 0
+NoBetterLetterInSnowOnAnEstimate =
+    (letterIn (answerTo (exampleInSnow 2000)) ≡ 3) × (letterIn (answerTo (exampleInSnow 2222)) ≡ 4)
+    × (letterIn (answerTo (exampleInSnow 2000)) ≤ letterIn (answerTo (exampleInSnow 2222)))
+
+abbrev pub ServiceVolumeInSnow : Type 0
+ServiceVolumeInSnow = Meets (exampleInSnow 2221) 3 × (Meets (exampleInSnow 2222) 3 → ⊥)
 
 abbrev pub ServiceVolumeOfTheExample : Type 0
 ServiceVolumeOfTheExample = Meets (exampleWith 2642) 3 × (Meets (exampleWith 2643) 3 → ⊥)

@@ -1,7 +1,7 @@
 -- The lanes question (document 01, "Flow, letter, service volume, lanes").
 --   lanesMeet case n lanes  the case with this lane count meets letter number n
 --   lanesFound case n       the least lane count with which the case meets letter number n; one more than the kind's most where none does
---   lanesRefusals case n    what refuses the question, in its order: 16, 1 to 9, 14
+--   lanesRefusals case n    what refuses the question, in its order: 16, 1 to 9, 19, 14
 --   lanesAnswer case n      the count, or the refusal's number
 --   refusalNumber a         the number of the refusal, 0 where there is none
 --   values a                the count; of a refusal no value
@@ -28,7 +28,8 @@ lanesMeet case n lanes = meets (withLanes case lanes) n
 unfoldable pub lanesFound : Case → ℕ → ℕ
 lanesFound case n = least (lanesMeet case n) (suc (mostLanes (case .road .kind)))
 
--- "16 letter number not 1 to 5 (A is 1), after 15 and before 1", "It checks 1 to 9, not 10", "14 no lane count meets the letter"
+-- "16 letter number not 1 to 5 (A is 1), after 15 and before 1", "It checks 1 to 9, not 10", "19 .. after 9, in the lanes question too",
+-- "14 no lane count meets the letter"
 unfoldable pub lanesRefusals : Case → ℕ → List Refusal
 lanesRefusals case n =
     refuses 16 (outside 1 5 n)

@@ -4,20 +4,24 @@
 --   Meets case n                   the answer to the case is graded, with letter number n or a better one; a refused case meets nothing
 --   AcceptedCount case n           n is an accepted lane count
 --   hardness t                     how hard a terrain is: level is easier than rolling
+--   LanesComparable c d            c and d may have different lanes: clear weather, or a given speed; or they have equal lanes
 --   NoBetterUnderMoreLoad          part 1
+--   NoBetterInClearWeather         what part 1 says of clear weather, whatever the lanes
 --   MeetsUpToTheServiceVolume      part 2
 --   LeastAcceptedCount             part 3
 --   DemandThree                    the three together
 -- Assumes nothing.
 use mathlib.Core.Path.{_≡_}
-use mathlib.Core.Logic.{_↔_}
+use mathlib.Core.Logic.{_↔_, _⊎_}
 use mathlib.Core.List.{[], _∷_}
 use Prim.Native.Nat.{ℕ, _+_, _≤_, _<_}
 use lib.ListN.{getD}
+use Rattle.road.specs.declared.Way.the-variants as Way
 use Rattle.road.specs.declared.Terrain.{Terrain}
 use Rattle.road.specs.declared.Terrain.the-variants as Terrain
 use Rattle.road.specs.declared.Case.{Case}
 use Rattle.curve.specs.Kinds.{fewestLanes, mostLanes}
+use Rattle.curve.specs.Weather.{clear}
 use Rattle.road.specs.Refusals.{greatestDemand, FieldsFit}
 use Rattle.method.specs.Refusals.{Accepted}
 use Rattle.answer.specs.declared.evaluate.Answer.{Answer}
@@ -48,11 +52,26 @@ abbrev pub hardness : Terrain → ℕ
 hardness Terrain.Level = 0
 hardness Terrain.Rolling = 1
 
--- Part 1. Of two accepted cases of the same road, the one with no less demand, no smaller share, no easier terrain, no higher peak-hour
--- factor and no more lanes never gets the better letter.
+-- "With a factor below 1,000 the comparison of lane counts is wanted for given speeds only"
+abbrev pub LanesComparable : Case → Case → Type 0
+LanesComparable c d = (c .weather ≡ clear) ⊎ (c .road .way ≡ Way.Given) ⊎ (c .lanes ≡ d .lanes)
+
+-- Part 1. Of two accepted cases of the same road under one weather, the one with no less demand, no smaller share, no easier terrain, no
+-- higher peak-hour factor and no more lanes, where lanes are comparable, never gets the better letter.
 abbrev pub NoBetterUnderMoreLoad : Type 0
 NoBetterUnderMoreLoad =
-    (c d : Case) → Accepted c → Accepted d → SameRoad c d
+    (c d : Case) → Accepted c → Accepted d → SameRoad c d → c .weather ≡ d .weather → LanesComparable c d
+    → c .demand ≤ d .demand
+    → c .«heavy_share» ≤ d .«heavy_share»
+    → hardness (c .terrain) ≤ hardness (d .terrain)
+    → d .«peak_hour_factor» ≤ c .«peak_hour_factor»
+    → d .lanes ≤ c .lanes
+    → letterIn (answerTo c) ≤ letterIn (answerTo d)
+
+-- In clear weather it is part 1 of document 01: lanes are comparable.
+abbrev pub NoBetterInClearWeather : Type 0
+NoBetterInClearWeather =
+    (c d : Case) → Accepted c → Accepted d → SameRoad c d → c .weather ≡ clear → d .weather ≡ clear
     → c .demand ≤ d .demand
     → c .«heavy_share» ≤ d .«heavy_share»
     → hardness (c .terrain) ≤ hardness (d .terrain)
@@ -66,8 +85,8 @@ MeetsUpToTheServiceVolume =
     (c : Case) → Accepted c → (n : ℕ) → 1 ≤ n → n ≤ 5 → (demand : ℕ) → demand ≤ greatestDemand
     → Meets (withDemand c demand) n ↔ (demand ≤ volumeIn (answerTo c) n)
 
--- Part 3. For a letter number from 1 to 5 and a case that none of 1 to 9 refuses: the lanes question answers a count exactly when the count
--- is accepted, meets the letter, and no smaller accepted count does; and it answers 14 exactly when no accepted count does.
+-- Part 3. For a letter number from 1 to 5 and a case that none of 1 to 9 nor 19 refuses: the lanes question answers a count exactly when the
+-- count is accepted, meets the letter, and no smaller accepted count does; and it answers 14 exactly when no accepted count does.
 abbrev pub LeastAcceptedCount : Type 0
 LeastAcceptedCount =
     (case : Case) (n : ℕ) → 1 ≤ n → n ≤ 5 → FieldsFit case

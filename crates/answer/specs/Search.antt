@@ -3,7 +3,7 @@
 --   demandMeets curve load limit demand   the flow rate of the demand keeps to capacity and to the density
 --   searchedVolumes terms                 the greatest demands that pass, with the density of each letter A to E
 --   Trying terms table load limit demand  a demand, or an end of demands, that 64 bits hold with these terms and this load
---   Asking case n                         none of 16 and 1 to 9 refuses the lanes question
+--   Asking case n                         none of 16, 1 to 9 and 19 refuses the lanes question
 -- Assumes nothing.
 use Prim.Native.Nat.{ℕ, _≤_}
 use mathlib.Core.Bool.{Bool}

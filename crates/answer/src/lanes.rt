@@ -30,7 +30,8 @@ fn lanes_meet(case: Case, letter: u64, lanes: u64) -> bool
     ensures { λ r. ⌜ r ≡ lanesMeet case letter lanes ⌝ }
 {
     let road = case.road;
-    let checked = checked::checked_curve(road, lanes);
+    let weather = case.weather;
+    let checked = checked::checked_curve(road, weather, lanes);
     match checked {
         Checked::Accepted(curve) => {
             let v = flow::flow_rate(flow::load_of(case, lanes), case.demand);

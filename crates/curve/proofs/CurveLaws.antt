@@ -1,6 +1,7 @@
 -- Capacity, breakpoint and the curve (specs/Curves).
 --   capacity-mono        capacity never falls with a higher free-flow speed
 --   capacity-le          it is at most 240,000
+--   breakpoint-le        the breakpoint is at most 400,000
 --   capacity-within      it lies between the kind's ends, for F between its ends
 --   curveAt-wellFormed   the curve at an F between the kind's ends is well formed
 --   curveAt-sized        and within the ends that 64 bits want
@@ -21,6 +22,11 @@ pub capacity-le : (kind : Kind) (f : ℕ) → capacity kind f ≤ 240000
 unfolding capacity
 capacity-le Kind.Freeway f = omega arith
 capacity-le Kind.Multilane f = omega arith
+
+pub breakpoint-le : (kind : Kind) (f : ℕ) → breakpoint kind f ≤ 400000
+unfolding breakpoint
+breakpoint-le Kind.Freeway f = omega arith
+breakpoint-le Kind.Multilane f = omega arith
 
 pub capacity-within : (kind : Kind) (f : ℕ) → lowestSpeed kind ≤ f → f ≤ highestSpeed kind
     → (lowestCapacity kind ≤ capacity kind f) × (capacity kind f ≤ highestCapacity kind)

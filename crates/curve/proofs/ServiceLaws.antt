@@ -12,6 +12,8 @@
 --   letterAt-le-iff    it is letter l or better exactly when the flow keeps to capacity and to the letter's density
 --   meetsLimit-beyond   beyond capacity no limit is met
 --   meetsLimit-zero, meetsLimit-down   no flow meets every limit; less flow meets what more meets
+--   letterAt-worse     more flow at no less density: no better letter
+--   letterAt-flow      more flow on one curve: no better letter
 --   letterAt-mono      more flow, or a lower free-flow speed: no better letter
 --   letterAt-zero      without flow the letter is A
 --   speed-mono         with a higher free-flow speed the speed never falls, of either kind
@@ -220,6 +222,24 @@ meetsLimit-down curve v w limit ok l t =
     let dv : density curve v ≤ density curve w = density-mono curve curve v w ok ok (omega arith) cw l (speed-antitone curve v w ok l cw) in
     simp (le-leb (100 * v) (curve .capacity) (omega arith)) (le→leb (density curve v) limit (omega arith))
 
+-- where the second flow keeps to capacity, the first does and is no denser
+pub letterAt-worse : (curve₁ curve₂ : Curve) (v w : ℕ)
+    → (100 * w ≤ curve₂ .capacity → (100 * v ≤ curve₁ .capacity) × (density curve₁ v ≤ density curve₂ w))
+    → letterNumber (letterAt curve₁ v) ≤ letterNumber (letterAt curve₂ w)
+unfolding letterAt
+letterAt-worse curve₁ curve₂ v w h = go (decLe (100 * w) (curve₂ .capacity))
+  where
+    go : Dec (100 * w ≤ curve₂ .capacity) → letterNumber (letterAt curve₁ v) ≤ letterNumber (letterAt curve₂ w)
+    go (yes c) =
+        simp (le-leb (100 * w) (curve₂ .capacity) c, le-leb (100 * v) (curve₁ .capacity) (h c .0)) (densityLetter-mono _ _ (h c .1))
+    go (no c) = simp (lt-leb (100 * w) (curve₂ .capacity) (omega arith)) (letterNumber-le (letterAt curve₁ v))
+
+pub letterAt-flow : (curve : Curve) (v w : ℕ) → WellFormed curve → v ≤ w
+    → letterNumber (letterAt curve v) ≤ letterNumber (letterAt curve w)
+letterAt-flow curve v w ok l =
+    letterAt-worse curve curve v w
+    (λ c. let d : 100 * v ≤ curve .capacity = omega arith in (d, density-mono curve curve v w ok ok d c l (speed-antitone curve v w ok l c)))
+
 -- ---- either kind, at two free-flow speeds
 pub speed-mono : (kind : Kind) (f g v : ℕ) → lowestSpeed kind ≤ f → f ≤ g → g ≤ highestSpeed kind → 100 * v ≤ capacity kind f
     → AtMost (speed (curveAt kind f) v) (speed (curveAt kind g) v)
@@ -240,12 +260,7 @@ densityAt-mono kind f g v w h l k s c =
 
 pub letterAt-mono : (kind : Kind) (f g v w : ℕ) → lowestSpeed kind ≤ f → f ≤ g → g ≤ highestSpeed kind → v ≤ w
     → letterNumber (letterAt (curveAt kind g) v) ≤ letterNumber (letterAt (curveAt kind f) w)
-unfolding letterAt curveAt
-letterAt-mono kind f g v w h l k s = go (decLe (100 * w) (capacity kind f))
-  where
-    go : Dec (100 * w ≤ capacity kind f) → letterNumber (letterAt (curveAt kind g) v) ≤ letterNumber (letterAt (curveAt kind f) w)
-    go (yes c) =
-        let cg : capacity kind f ≤ capacity kind g = capacity-mono kind f g l in
-        simp (le-leb (100 * w) (capacity kind f) c, le-leb (100 * v) (capacity kind g) (omega arith))
-        (densityLetter-mono _ _ (densityAt-mono kind f g v w h l k s c))
-    go (no c) = simp (lt-leb (100 * w) (capacity kind f) (omega arith)) (letterNumber-le (letterAt (curveAt kind g) v))
+unfolding curveAt
+letterAt-mono kind f g v w h l k s =
+    letterAt-worse (curveAt kind g) (curveAt kind f) v w
+    (λ c. (omega (arith, capacity-mono kind f g l), densityAt-mono kind f g v w h l k s c))

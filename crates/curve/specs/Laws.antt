@@ -1,6 +1,9 @@
 -- The laws of the curve, stated over the definitions that the contracts cite; proofs/Laws proves each.
---   CapacityWithinEnds, CapacityReachesEnds, SpeedIsAboveZero, SpeedNeverBelowCapacitySpeed, SpeedNeverRisesWithFlow,
---   DensityNeverFallsWithFlow, SpeedNeverFallsWithFreeFlowSpeed, DensityMeetsLimitByExactSpeed, DensityAtMost450, LetterNeverBetter
+--   CapacityWithinEnds, CapacityReachesEnds, ClearWeatherChangesNothing, CurveUnderIsWellFormed, SpeedIsAboveZero,
+--   SpeedNeverBelowCapacitySpeed, SpeedNeverRisesWithFlow, DensityNeverFallsWithFlow, SpeedNeverFallsWithFreeFlowSpeed,
+--   DensityMeetsLimitByExactSpeed, DensityAtMost450, LetterNeverBetterWithFlow, LetterNeverBetter
+-- Under weather the laws in v hold, on one curve. Those in F are for clear weather: with a capacity factor of 501 to 506 the speed may fall
+-- as F rises, by the rounding of b.
 -- Assumes nothing.
 use mathlib.Core.Path.{_≡_}
 use mathlib.Core.Logic.{_↔_}
@@ -8,8 +11,10 @@ use Prim.Native.Nat.{ℕ, _*_, _≤_, _<_}
 use Rattle.numbers.specs.Fraction.{over, whole, times, AtMost}
 use Rattle.curve.specs.declared.kind.Kind.{Kind}
 use Rattle.curve.specs.declared.Curve.{Curve}
-use Rattle.curve.specs.Kinds.{lowestSpeed, highestSpeed, lowestCapacity, highestCapacity}
-use Rattle.curve.specs.Curves.{capacity, curveAt, WellFormed}
+use Rattle.curve.specs.declared.Weather.{Weather}
+use Rattle.curve.specs.Kinds.{lowestSpeed, highestSpeed, lowestAdjustedSpeed, lowestCapacity, highestCapacity}
+use Rattle.curve.specs.Curves.{capacity, curveAt, WellFormed, Sized}
+use Rattle.curve.specs.Weather.{clear, FactorsFit, adjustedSpeed, curveUnder}
 use Rattle.curve.specs.Speed.{speed}
 use Rattle.curve.specs.Service.{density, shownDensity, letterAt, letterNumber}
 
@@ -24,6 +29,19 @@ CapacityWithinEnds =
 abbrev pub CapacityReachesEnds : Type 0
 CapacityReachesEnds =
     (kind : Kind) → (capacity kind (lowestSpeed kind) ≡ lowestCapacity kind) × (capacity kind (highestSpeed kind) ≡ highestCapacity kind)
+
+-- ---- weather
+-- With both factors 1,000 the curve is that of document 01.
+abbrev pub ClearWeatherChangesNothing : Type 0
+ClearWeatherChangesNothing = (kind : Kind) (f : ℕ) → curveUnder clear kind f ≡ curveAt kind f
+
+-- With factors within their ends, and F after its factor not below its lower end, the breakpoint is below capacity, the speed at capacity
+-- is at most F, and 64 bits hold the products.
+abbrev pub CurveUnderIsWellFormed : Type 0
+CurveUnderIsWellFormed =
+    (kind : Kind) (weather : Weather) (f : ℕ) → FactorsFit kind weather → lowestAdjustedSpeed kind ≤ adjustedSpeed weather f
+    → f ≤ highestSpeed kind
+    → WellFormed (curveUnder weather kind f) × Sized (curveUnder weather kind f)
 
 -- ---- speed
 -- Up to capacity the speed is a fraction above 0: what the laws below say by cross-multiplying has its meaning.
@@ -47,7 +65,7 @@ abbrev pub DensityNeverFallsWithFlow : Type 0
 DensityNeverFallsWithFlow =
     (curve : Curve) (v₁ v₂ : ℕ) → WellFormed curve → v₁ ≤ v₂ → 100 * v₂ ≤ curve .capacity → density curve v₁ ≤ density curve v₂
 
--- With a higher free-flow speed the speed never falls, of either kind.
+-- With a higher free-flow speed the speed never falls, of either kind, in clear weather.
 abbrev pub SpeedNeverFallsWithFreeFlowSpeed : Type 0
 SpeedNeverFallsWithFreeFlowSpeed =
     (kind : Kind) (f g v : ℕ) → lowestSpeed kind ≤ f → f ≤ g → g ≤ highestSpeed kind → 100 * v ≤ capacity kind f
@@ -64,7 +82,12 @@ DensityMeetsLimitByExactSpeed =
 abbrev pub DensityAtMost450 : Type 0
 DensityAtMost450 = (curve : Curve) (v : ℕ) → WellFormed curve → 100 * v ≤ curve .capacity → density curve v ≤ 450
 
--- More flow at a free-flow speed that is no higher never gets a better letter.
+-- More flow never gets a better letter, on any curve.
+abbrev pub LetterNeverBetterWithFlow : Type 0
+LetterNeverBetterWithFlow =
+    (curve : Curve) (v₁ v₂ : ℕ) → WellFormed curve → v₁ ≤ v₂ → letterNumber (letterAt curve v₁) ≤ letterNumber (letterAt curve v₂)
+
+-- More flow at a free-flow speed that is no higher never gets a better letter, in clear weather.
 abbrev pub LetterNeverBetter : Type 0
 LetterNeverBetter =
     (kind : Kind) (f g v₁ v₂ : ℕ) → lowestSpeed kind ≤ f → f ≤ g → g ≤ highestSpeed kind → v₁ ≤ v₂

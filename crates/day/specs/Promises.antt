@@ -54,7 +54,7 @@ abbrev pub roadNumber : Case → ℕ
 roadNumber case = refusal (withDemand case 0)
 
 -- "one demand that breaks refusal 7 gets its own number in its position and the others go on. A refused road puts the single call's number
--- in each position", which is 7 for such a demand where 8, 9 or 10 refuses the road
+-- in each position", which is 7 for such a demand where 8, 9, 19 or 10 refuses the road
 abbrev pub PositionNumbers : Type 0
 PositionNumbers =
     (case : Case) (demands old : List ℕ) → LentFits (length demands) (length old) → (i : ℕ) → i < length demands

@@ -17,13 +17,13 @@ use Rattle.text.specs.Parts.{parts}
 use Rattle.road.specs.declared.Case.{Case}
 use Rattle.lines.specs.declared.read.LineRead.{LineRead}
 use Rattle.lines.specs.declared.read.LineRead.the-variants as LineRead
-use Rattle.lines.specs.Fields.{layout, valuesOf}
+use Rattle.lines.specs.Fields.{layout, completed, valuesOf}
 use Rattle.lines.specs.Reading.{readValues, longestLine, readLine}
 
 pub readLine-by : (P : LineRead → Type 0) → ((case : Case) → P (LineRead.Case case)) → P (LineRead.Refused 15) → (bs : List ℕ)
     → P (readLine bs)
 unfolding readValues readLine
-readLine-by P case malformed bs = go (ltb longestLine (length bs)) (valuesOf layout (parts tab bs))
+readLine-by P case malformed bs = go (ltb longestLine (length bs)) (valuesOf layout (completed (parts tab bs)))
   where
     go : (b : Bool) (vs : Option (List ℕ)) → P (cond b (LineRead.Refused 15) (readValues vs))
     go true vs = malformed

@@ -1,7 +1,9 @@
--- The fields of a line (document 01, "Lines").
+-- The fields of a line (document 01, "Lines", and document 02, T-03).
 --   Field             one of some letters, or a number with at most so many digits
---   layout            the 13 fields
+--   layout            the 15 fields
 --   fieldAt i         the field at place i of the layout
+--   clearFactors      the last two fields of a line that has 13
+--   completed ps      the parts ps of a line, with these where they are 13
 --   digit b           the byte b is a decimal digit
 --   spelled n bs      the number that the digits bs spell, read on from n
 --   leadingZero bs    bs begins with the digit 0 and has more than that
@@ -16,7 +18,7 @@
 use Prim.Native.Nat.{ℕ, _+_, _-_, _*_}
 use Prim.Native.Char.{code}
 use mathlib.Core.Bool.{Bool, false, cond, _&&_, _||_}
-use mathlib.Core.List.{List, [], _∷_}
+use mathlib.Core.List.{List, [], _∷_, _++_}
 use mathlib.Core.Option.{Option, none, some}
 use lib.Dec.{eqb, leb, ltb}
 use lib.ListN.{length, getD}
@@ -30,17 +32,25 @@ pub data Field : Type 0 where
   digits : ℕ → Field
 
 -- "kind F or M; E or G; speed; width; right clearance; left clearance; median U, D or T; ramps in six miles (F) or access points per
--- mile (M); lanes; V; H; P; terrain L or R"; "A number has one to five digits"
+-- mile (M); lanes; V; H; P; terrain L or R"; "two fields at its end, speed factor and capacity factor"; "A number has one to five digits"
 unfoldable pub layout : List Field
 layout =
     letters (bytesOf "FM") ∷ letters (bytesOf "EG")
     ∷ digits 5 ∷ digits 5 ∷ digits 5 ∷ digits 5
     ∷ letters (bytesOf "UDT")
     ∷ digits 5 ∷ digits 5 ∷ digits 5 ∷ digits 5 ∷ digits 5
-    ∷ letters (bytesOf "LR") ∷ []
+    ∷ letters (bytesOf "LR")
+    ∷ digits 5 ∷ digits 5 ∷ []
 
 abbrev pub fieldAt : ℕ → Field
 fieldAt i = getD layout i (digits 5)
+
+-- "Lines of 13 fields mean 1,000 for both"
+abbrev pub clearFactors : List (List ℕ)
+clearFactors = bytesOf "1000" ∷ bytesOf "1000" ∷ []
+
+unfoldable pub completed : List (List ℕ) → List (List ℕ)
+completed ps = cond (eqb (length ps) 13) (ps ++ clearFactors) ps
 
 abbrev pub digit : ℕ → Bool
 digit b = leb (code "0") b && leb b (code "9")

@@ -4,14 +4,14 @@
 //   FieldValues    the values of all fields, where each is well formed
 //   field_values   the values of a line's fields, each byte of a number looked at once
 ghost use mathlib.Core.Path.{_≡_};
-ghost use mathlib.Core.Bool.{true, false};
+ghost use mathlib.Core.Bool.{true, false, _||_};
 ghost use Prim.Native.Nat.{ℕ, _+_, _≤_, _<_};
 ghost use lib.Dec.{eqb};
 ghost use lib.ListN.{length, getD};
 ghost use Rattle.text.specs.Bytes.{tab};
 ghost use Rattle.text.specs.Parts.{parts};
 ghost use Rattle.lines.specs.Fields as fields;
-ghost use Rattle.lines.specs.Fields.{digits, digit, number, letter, layout, fieldAt, valuesOf};
+ghost use Rattle.lines.specs.Fields.{digits, digit, number, letter, layout, fieldAt, completed, valuesOf};
 ghost use Rattle.lines.specs.Places.{fieldEnd, fieldFrom, DigitsRead, ReadAs, valuesIn};
 
 pub enum FieldValue {
@@ -26,11 +26,14 @@ pub struct FieldRead {
 
 pub struct FieldValues {
     pub well_formed: bool,
-    pub values: [u64; 13],
+    pub values: [u64; 15],
 }
 
 // "A number has one to five digits"
 const MOST_DIGITS: usize = 5;
+
+// "Lines of 13 fields mean 1,000 for both"
+const CLEAR: u64 = 1_000;
 
 fn byte_value(b: u8) -> u64
     ensures { λ r. ⌜ r ≡ b ⌝ }
@@ -149,13 +152,20 @@ fn field_at(place: usize, line: &[u8], at: usize) -> FieldRead
     }
 }
 
-pub(crate) fn field_values(line: &[u8]) -> FieldValues
-    ensures { λ r. ⌜ valuesIn r ≡ valuesOf layout (parts tab (now (line .entry))) ⌝ }
+// Whether a line may end with the field at a place: the terrain, or the second factor.
+fn may_end(place: usize) -> bool
+    ensures { λ r. ⌜ r ≡ (eqb place 12 || eqb place 14) ⌝ }
 {
-    let mut values = [0u64; 13];
+    place == 12 || place == 14
+}
+
+pub(crate) fn field_values(line: &[u8]) -> FieldValues
+    ensures { λ r. ⌜ valuesIn r ≡ valuesOf layout (completed (parts tab (now (line .entry)))) ⌝ }
+{
+    let mut values = [CLEAR; 15];
     let mut at = 0;
     let mut place = 0;
-    while place < 13 {
+    while place < 15 {
         let field = field_at(place, line, at);
         let value = field.value;
         let end = field.end;
@@ -168,7 +178,7 @@ pub(crate) fn field_values(line: &[u8]) -> FieldValues
         values[place] = n;
         if end == line.len() {
             return FieldValues {
-                well_formed: place == 12,
+                well_formed: may_end(place),
                 values,
             };
         }

@@ -4,6 +4,7 @@
 //   LONGEST_LINE     the most bytes of a line
 //   read_line        for any bytes at all, a line without its newline
 use crate::field;
+use curve::Weather;
 use curve::kind::Kind;
 use road::Case;
 use road::Median;
@@ -76,7 +77,7 @@ fn terrain_of(b: u64) -> Terrain
     }
 }
 
-fn road_of(values: [u64; 13]) -> Road
+fn road_of(values: [u64; 15]) -> Road
     ensures { λ r. ⌜ r ≡ caseOf values .road ⌝ }
 {
     Road {
@@ -91,7 +92,7 @@ fn road_of(values: [u64; 13]) -> Road
     }
 }
 
-fn case_of(values: [u64; 13]) -> Case
+fn case_of(values: [u64; 15]) -> Case
     ensures { λ r. ⌜ r ≡ caseOf values ⌝ }
 {
     Case {
@@ -101,6 +102,10 @@ fn case_of(values: [u64; 13]) -> Case
         peak_hour_factor: values[10],
         heavy_share: values[11],
         terrain: terrain_of(values[12]),
+        weather: Weather {
+            speed_factor: values[13],
+            capacity_factor: values[14],
+        },
     }
 }
 

@@ -1,5 +1,6 @@
 -- The laws of specs/Laws, proved.
---   replies-within-ends, buffer-too-short, last-refusal-is-reached, day-hands-back, day-call-is-the-day, position-is-the-lines-answer
+--   replies-within-ends, buffer-too-short, no-demand-is-refused, last-refusal-is-reached, day-hands-back, day-call-is-the-day,
+--   position-is-the-lines-answer
 -- Assumes nothing.
 use mathlib.Core.List.{List}
 use mathlib.Core.Logic.{⊎-elim}
@@ -11,8 +12,10 @@ use lib.IntN.{pos}
 use lib.ListN.{length}
 use Rattle.checks.specs.Refusals.{Refusal, firstRefusal}
 use Rattle.checks.proofs.RefusalLaws.{unlessRefused-none, unlessRefused-some, unlessRefused-by, firstRefusal-le}
+use Rattle.text.specs.Parts.{onFirst, parts}
 use Rattle.road.specs.declared.Case.{Case}
-use Rattle.method.specs.Refusals.{refusal}
+use Rattle.road.specs.Refusals.{weatherUnfit, roadRefusals, loadRefusals, fieldRefusals}
+use Rattle.method.specs.Refusals.{refusals, refusal}
 use Rattle.method.proofs.RefusalLaws.{refusal-le}
 use Rattle.answer.specs.declared.evaluate.Answer.the-variants as Answer
 use Rattle.answer.specs.declared.lanes.LanesAnswer.the-variants as LanesAnswer
@@ -25,14 +28,15 @@ use Rattle.day.specs.Promises.{position}
 use Rattle.day.proofs.DayLaws.{dayFigures-length, dayFigures-count, lent-number, day-refused, day-answered}
 use Rattle.day.proofs.Promises.{position-holds-the-answer, lent-fits-exactly}
 use Rattle.lines.specs.declared.read.LineRead.the-variants as LineRead
-use Rattle.lines.specs.Reading.{readLine}
+use Rattle.lines.specs.Fields.{layout, completed, spelled, number, oneOf, letter, fieldAs, valuesOf}
+use Rattle.lines.specs.Reading.{caseOf, readValues, readLine}
 use Rattle.lines.proofs.ReadingLaws.{readLine-by, readLine-refused}
 use Rattle.replies.specs.Texts.{longestAnswer}
 use Rattle.replies.proofs.TextsLaws.{answerText-le, answerText-pos}
 use Rattle.marehour.specs.Calls.{Reply, refusal as refusalReply, answerReply, countReply, caseReply, lanesReply, dayReply, lineReply}
 use Rattle.marehour.specs.Calls.{lineCall, bufferRefusals, dayCall, dayResult, content, resultOf}
-use Rattle.marehour.specs.Laws.{lastRefusal, WithinEnds, RepliesWithinEnds, BufferTooShort, LastRefusalIsReached, DayHandsBack}
-use Rattle.marehour.specs.Laws.{DayCallIsTheDay, PositionIsTheLinesAnswer}
+use Rattle.marehour.specs.Laws.{lastRefusal, WithinEnds, RepliesWithinEnds, BufferTooShort, NoDemandIsRefused, LastRefusalIsReached}
+use Rattle.marehour.specs.Laws.{DayHandsBack, DayCallIsTheDay, PositionIsTheLinesAnswer}
 use Rattle.marehour.proofs.CallLaws.{count-length, buffer-fits}
 
 answer-ends : (case : Case) → WithinEnds 1 longestAnswer (caseReply case)
@@ -79,9 +83,14 @@ pub buffer-too-short : BufferTooShort
 unfolding bufferRefusals
 buffer-too-short line letter = (refl, refl)
 
-pub last-refusal-is-reached : LastRefusalIsReached
+pub no-demand-is-refused : NoDemandIsRefused
 unfolding lentUnfit lentRefusals
-last-refusal-is-reached line room = refl
+no-demand-is-refused line room = refl
+
+pub last-refusal-is-reached : LastRefusalIsReached
+unfolding onFirst parts layout completed spelled number oneOf letter fieldAs valuesOf caseOf readValues readLine weatherUnfit roadRefusals
+    loadRefusals fieldRefusals refusals lanesRefusals bufferRefusals
+last-refusal-is-reached = (refl, refl)
 
 -- ---- a day
 -- lent memory that fits: the line decides

@@ -1,7 +1,8 @@
--- The boundary sections of document 01: one list, those of the layers below with what this layer adds.
+-- The boundary sections of document 01, and of T-03 of document 02: one list, those of the layers below with what this layer adds.
 --   printedLine           the line of document 01
 --   printedLineWith v t   the same with another demand and another terrain
 --   printedAnswer         what `los` prints for it
+--   snowAnswer            what it prints for the same line with the factors 860 and 780
 --   addedFigures          what this layer adds
 --   boundaryFigures       the list
 -- Assumes nothing.
@@ -34,21 +35,30 @@ readAs line = refusalNumber (readLine (bytesOf line)) ∷ values (readLine (byte
 abbrev pub printedAnswer : String
 printedAnswer = "C\t60783\t230783\t1196\t60783\t197\t1117\t1829\t2642\t3360\t3858\n"
 
+abbrev pub snowAnswer : String
+snowAnswer = "C\t52273\t173372\t1196\t52222\t230\t961\t1572\t2221\t2636\t2898\n"
+
 -- Starred: the printed line. Not starred: what is printed for it between an empty line and a last line without newline; an empty input;
--- its day with 2,000, 1,000,000 and 2,643; its 13 values, letters by their bytes; the line with a leading zero, six digits and an empty
--- field as its demand, with a 14th field, and with an unknown terrain.
+-- its day with 2,000, 1,000,000 and 2,643; its 15 values, letters by their bytes; the line with a leading zero, six digits and an empty
+-- field as its demand, with an empty 14th field, and with an unknown terrain; in snow; with 14 fields, 16, and a leading zero in a factor;
+-- and with a factor of 99999, which is 19.
 unfoldable pub addedFigures : List Figure
 addedFigures =
     figure (lineText (bytesOf printedLine)) (bytesOf printedAnswer)
     ∷ figure (outputOf lineTexts (bytesOf ("\n" then (printedLine then "\nF")))) (bytesOf ("X\t15\n" then (printedAnswer then "X\t15\n")))
     ∷ figure (outputOf lineTexts (bytesOf "")) (bytesOf "")
     ∷ figure (content (dayCall (bytesOf printedLine) exampleDemands 38) (replicate 38 9)) exampleDay
-    ∷ figure (readAs printedLine) (0 ∷ 70 ∷ 69 ∷ 75400 ∷ 110 ∷ 20 ∷ 0 ∷ 68 ∷ 24 ∷ 2 ∷ 2000 ∷ 920 ∷ 50 ∷ 82 ∷ [])
+    ∷ figure (readAs printedLine) (0 ∷ 70 ∷ 69 ∷ 75400 ∷ 110 ∷ 20 ∷ 0 ∷ 68 ∷ 24 ∷ 2 ∷ 2000 ∷ 920 ∷ 50 ∷ 82 ∷ 1000 ∷ 1000 ∷ [])
     ∷ figure (readAs (printedLineWith "02000" "R")) (15 ∷ [])
     ∷ figure (readAs (printedLineWith "100000" "R")) (15 ∷ [])
     ∷ figure (readAs (printedLineWith "" "R")) (15 ∷ [])
     ∷ figure (readAs (printedLine then "\t")) (15 ∷ [])
     ∷ figure (readAs (printedLineWith "2000" "M")) (15 ∷ [])
+    ∷ figure (lineText (bytesOf (printedLine then "\t860\t780"))) (bytesOf snowAnswer)
+    ∷ figure (readAs (printedLine then "\t1000")) (15 ∷ [])
+    ∷ figure (readAs (printedLine then "\t1000\t1000\t1000")) (15 ∷ [])
+    ∷ figure (readAs (printedLine then "\t0950\t1000")) (15 ∷ [])
+    ∷ figure (lineText (bytesOf (printedLine then "\t99999\t1000"))) (bytesOf "X\t19\n")
     ∷ []
 
 abbrev pub boundaryFigures : List Figure

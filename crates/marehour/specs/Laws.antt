@@ -1,9 +1,10 @@
 -- Laws of the calls, stated; proofs/Laws proves them.
---   lastRefusal           18
+--   lastRefusal           19
 --   WithinEnds least most r   so many bytes or numbers at least and at most; or a refusal from 1 to the last
 --   RepliesWithinEnds     every call over a line replies so: 1 to 64 bytes, or 1 to 24 answers of twelve numbers; 0 is never handed back
 --   BufferTooShort        a buffer of 63 bytes gets 17, whatever the line
---   LastRefusalIsReached  no demand gets 18, whatever the line and the room
+--   NoDemandIsRefused     no demand gets 18, whatever the line and the room
+--   LastRefusalIsReached  a line with a speed factor of 499 gets 19, asked for its answer and for its lanes
 --   DayHandsBack          minus 18 where the lent memory does not fit; else minus 15 where the line is malformed; else the count of the
 --                         demands
 --   DayCallIsTheDay       a line that is read: the call's result and the lent numbers afterwards are those of `evaluate_day` for its case
@@ -14,6 +15,7 @@ use mathlib.Core.Path.{_≡_}
 use mathlib.Core.List.{List, []}
 use lib.IntN.{pos, negℤ}
 use lib.ListN.{length, getD}
+use Rattle.text.specs.Bytes.{bytesOf}
 use Rattle.road.specs.declared.Case.{Case}
 use Rattle.road.specs.Cases.{withDemand}
 use Rattle.answer.specs.Answers.{answerTo}
@@ -25,7 +27,7 @@ use Rattle.replies.specs.Texts.{longestAnswer}
 use Rattle.marehour.specs.Calls.{Reply, writes, refusal, answerReply, answerCall, lanesCall, dayCall, dayResult, content, resultOf}
 
 abbrev pub lastRefusal : ℕ
-lastRefusal = 18
+lastRefusal = 19
 
 abbrev pub WithinEnds : ℕ → ℕ → Reply → Type 0
 WithinEnds least most (writes ns) = (least ≤ length ns) × (length ns ≤ most)
@@ -40,8 +42,13 @@ RepliesWithinEnds =
 abbrev pub BufferTooShort : Type 0
 BufferTooShort = (line : List ℕ) (letter : ℕ) → (answerCall line 63 ≡ refusal 17) × (lanesCall line letter 63 ≡ refusal 17)
 
+abbrev pub NoDemandIsRefused : Type 0
+NoDemandIsRefused = (line : List ℕ) (room : ℕ) → dayCall line [] room ≡ refusal 18
+
 abbrev pub LastRefusalIsReached : Type 0
-LastRefusalIsReached = (line : List ℕ) (room : ℕ) → dayCall line [] room ≡ refusal lastRefusal
+LastRefusalIsReached =
+    let line = bytesOf "F\tG\t75000\t120\t60\t60\tD\t0\t2\t0\t1000\t0\tL\t499\t1000" in
+    (answerCall line 64 ≡ refusal lastRefusal) × (lanesCall line 1 64 ≡ refusal lastRefusal)
 
 abbrev pub DayHandsBack : Type 0
 DayHandsBack =

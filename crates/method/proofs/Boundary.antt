@@ -10,6 +10,7 @@ use Rattle.checks.specs.Figures.{Shown}
 use Rattle.powers.specs.Power.{reachesPower, power}
 use Rattle.powers.proofs.PowerLaws.{power-eq}
 use Rattle.curve.specs.Curves.{capacity, breakpoint, curveAt}
+use Rattle.curve.specs.Weather.{adjustedSpeed, adjustedCapacity, adjustedBreakpoint, curveUnder}
 use Rattle.curve.specs.Speed.{fallShareBy, speed, shownSpeed}
 use Rattle.curve.specs.Service.{density, shownDensity, densityLimit, densityLetter, letterAt, performance}
 use Rattle.road.specs.Interpolation.{entryBefore, entryAfter, weightedSum, interpolated}
@@ -17,13 +18,13 @@ use Rattle.road.specs.Adjustments.{laneWidthAdjustment, perMissingFoot, rightCl
 use Rattle.road.specs.Adjustments.{twoLaneRow, threeLaneRow, totalClearanceRow, totalClearanceAdjustment, accessAdjustment}
 use Rattle.road.specs.RampTerm.{rampAtMost, rampTerm}
 use Rattle.road.specs.FreeFlowSpeed.{estimatedBy, uncappedBy, freeFlowSpeed}
-use Rattle.road.specs.Refusals.{roadRefusals, loadRefusals, fieldRefusals}
+use Rattle.road.specs.Refusals.{weatherUnfit, roadRefusals, loadRefusals, fieldRefusals}
 use Rattle.road.proofs.RampLaws.{rampTerm-eq}
 use Rattle.method.specs.Refusals.{speedRefusals, refusals}
 use Rattle.method.specs.Checked.{curveOf}
 use Rattle.method.specs.Flow.{heavyFactor, flowRate}
 use Rattle.method.specs.Assess.{measures}
-use Rattle.method.specs.Boundary.{speedFigures, clearanceFigures, boundaryFigures}
+use Rattle.method.specs.Boundary.{weatherFigures, speedFigures, clearanceFigures, boundaryFigures}
 
 pub ramp-6 : rampTerm 6 ≡ 3220
 unfolding endsAt rampAtMost
@@ -45,11 +46,23 @@ power-1000 : power 1000 ≡ 1000000
 unfolding startsAt reachesPower
 power-1000 = power-eq 1000 1000000 (omega arith) tt
 
+weather-shown : Shown weatherFigures
+unfolding divUp uncappedBy freeFlowSpeed weatherUnfit roadRefusals loadRefusals fieldRefusals adjustedSpeed speedRefusals refusals capacity
+    breakpoint adjustedCapacity adjustedBreakpoint curveUnder curveOf heavyFactor flowRate fallShareBy speed shownSpeed density shownDensity
+    densityLimit densityLetter letterAt performance measures weatherFigures
+weather-shown = (
+  refl,
+  (
+    refl,
+    (refl, (refl, (refl, (refl, (refl, (refl, (refl, (refl, (refl, (refl, (refl, (refl, (refl, (refl, tt)))))))))))))),
+  ),
+)
+
 speeds-shown : Shown speedFigures
 unfolding divUp entryBefore entryAfter weightedSum interpolated laneWidthAdjustment perMissingFoot rightClearanceRow
     rightClearanceAdjustment totalClearance twoLaneRow threeLaneRow totalClearanceRow totalClearanceAdjustment accessAdjustment estimatedBy
     uncappedBy freeFlowSpeed speedFigures
-speeds-shown = (refl, (refl, (simp ramp-0, (refl, (refl, (refl, tt))))))
+speeds-shown = (refl, (refl, (simp ramp-0, (refl, (refl, (refl, weather-shown))))))
 
 clearances-shown : Shown clearanceFigures
 unfolding divUp entryBefore entryAfter weightedSum interpolated perMissingFoot rightClearanceRow rightClearanceAdjustment totalClearance
@@ -59,8 +72,8 @@ clearances-shown = (refl, (refl, (refl, (refl, (refl, (refl, (refl, (refl, (refl
 pub boundary-shown : Shown boundaryFigures
 unfolding divUp entryBefore entryAfter weightedSum interpolated laneWidthAdjustment perMissingFoot rightClearanceRow
     rightClearanceAdjustment totalClearance twoLaneRow totalClearanceRow totalClearanceAdjustment accessAdjustment estimatedBy
-    uncappedBy freeFlowSpeed roadRefusals loadRefusals fieldRefusals speedRefusals refusals capacity breakpoint curveAt curveOf heavyFactor
-    flowRate fallShareBy speed shownSpeed density shownDensity densityLimit densityLetter letterAt performance measures boundaryFigures
+    uncappedBy freeFlowSpeed weatherUnfit roadRefusals loadRefusals fieldRefusals adjustedSpeed speedRefusals refusals capacity breakpoint
+    curveAt adjustedCapacity adjustedBreakpoint curveUnder curveOf heavyFactor flowRate fallShareBy speed shownSpeed density shownDensity densityLimit densityLetter letterAt performance measures boundaryFigures
 boundary-shown = (
   simp ramp-24,
   (

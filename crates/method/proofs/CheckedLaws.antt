@@ -1,7 +1,7 @@
 -- The curve of a case, or its refusal (specs/Checked).
 --   caseCurve-wellFormed, caseCurve-sized   the curve of an accepted case
 --   caseCurve-kind       its kind is the road's
---   checkedCurve-eq      a case that 1 to 9 do not refuse: 10 alone is checked
+--   checkedCurve-eq      a case that 1 to 9 and 19 do not refuse: 10 alone is checked
 --   checked-accepted     a case that is checked and found with a curve is accepted, and the curve is its own
 --   checked-curve        which is well formed and within the sizes
 --   checked-refused      a case that is checked and refused is not
@@ -16,34 +16,36 @@ use Rattle.checks.specs.Refusals.{unlessRefused}
 use Rattle.checks.proofs.RefusalLaws.{unlessRefused-none, unlessRefused-some, unlessRefused-number, unlessRefused-found}
 use Rattle.checks.proofs.RefusalLaws.{unlessRefused-refused}
 use Rattle.curve.specs.declared.Curve.{Curve}
-use Rattle.curve.specs.Curves.{curveAt, WellFormed, Sized}
-use Rattle.curve.proofs.CurveLaws.{curveAt-wellFormed, curveAt-sized}
+use Rattle.curve.specs.Curves.{WellFormed, Sized}
+use Rattle.curve.specs.Weather.{curveUnder}
+use Rattle.curve.proofs.WeatherLaws.{curveUnder-wellFormed, curveUnder-sized}
 use Rattle.road.specs.declared.Case.{Case}
 use Rattle.road.specs.FreeFlowSpeed.{freeFlowSpeed}
 use Rattle.road.specs.Refusals.{FieldsFit}
+use Rattle.road.proofs.RefusalLaws.{fields-weather}
 use Rattle.road.proofs.FreeFlowSpeedLaws.{freeFlowSpeed-le}
 use Rattle.method.specs.declared.checked.Checked.the-variants as Checked
 use Rattle.method.specs.Refusals.{refusal, Accepted}
 use Rattle.method.specs.Checked.{curveOf, caseCurve, checkedCurve, checked, refusalNumber}
-use Rattle.method.proofs.RefusalLaws.{refusals-fields, accepted-speed}
+use Rattle.method.proofs.RefusalLaws.{refusals-fields, accepted-fields, accepted-adjusted}
 
 pub caseCurve-wellFormed : (case : Case) → Accepted case → WellFormed (caseCurve case)
 unfolding curveOf
 caseCurve-wellFormed case a =
-    curveAt-wellFormed (case .road .kind) (freeFlowSpeed (case .road) (case .lanes)) (accepted-speed case a)
-    (freeFlowSpeed-le (case .road) (case .lanes))
+    curveUnder-wellFormed (case .road .kind) (case .weather) (freeFlowSpeed (case .road) (case .lanes))
+    (fields-weather case (accepted-fields case a)) (accepted-adjusted case a) (freeFlowSpeed-le (case .road) (case .lanes))
 
 pub caseCurve-sized : (case : Case) → Accepted case → Sized (caseCurve case)
 unfolding curveOf
 caseCurve-sized case a =
-    curveAt-sized (case .road .kind) (freeFlowSpeed (case .road) (case .lanes)) (accepted-speed case a)
-    (freeFlowSpeed-le (case .road) (case .lanes))
+    curveUnder-sized (case .road .kind) (case .weather) (freeFlowSpeed (case .road) (case .lanes))
+    (fields-weather case (accepted-fields case a)) (accepted-adjusted case a) (freeFlowSpeed-le (case .road) (case .lanes))
 
 pub caseCurve-kind : (case : Case) → caseCurve case .kind ≡ case .road .kind
-unfolding curveOf curveAt
+unfolding curveOf curveUnder
 caseCurve-kind case = refl
 
-pub checkedCurve-eq : (case : Case) → FieldsFit case → checkedCurve (case .road) (case .lanes) ≡ checked case
+pub checkedCurve-eq : (case : Case) → FieldsFit case → checkedCurve (case .road) (case .weather) (case .lanes) ≡ checked case
 checkedCurve-eq case z =
     ap (λ n. unlessRefused n (Checked.Accepted (caseCurve case)) Checked.Refused) (sym (refusals-fields case z))
 
@@ -76,12 +78,12 @@ module _ {A : Type 0} (case : Case) (answer : A) (refused : ℕ → A) where
   by-refused n e =
       sym (unlessRefused-some (refusal case) answer refused (checked-refused case n e) ∙ ap refused (checked-number case n e))
 
--- the same where 10 alone is checked, of a case that 1 to 9 do not refuse
+-- the same where 10 alone is checked, of a case that 1 to 9 and 19 do not refuse
 pub checkedCurve-accepted : (case : Case) (curve : Curve) → FieldsFit case
-    → checkedCurve (case .road) (case .lanes) ≡ Checked.Accepted curve
+    → checkedCurve (case .road) (case .weather) (case .lanes) ≡ Checked.Accepted curve
     → Accepted case × (curve ≡ caseCurve case)
 checkedCurve-accepted case curve z e = checked-accepted case curve (sym (checkedCurve-eq case z) ∙ e)
 
-pub checkedCurve-refused : (case : Case) (n : ℕ) → FieldsFit case → checkedCurve (case .road) (case .lanes) ≡ Checked.Refused n
+pub checkedCurve-refused : (case : Case) (n : ℕ) → FieldsFit case → checkedCurve (case .road) (case .weather) (case .lanes) ≡ Checked.Refused n
     → 0 < refusal case
 checkedCurve-refused case n z e = checked-refused case n (sym (checkedCurve-eq case z) ∙ e)

@@ -1,6 +1,6 @@
 -- The flow rate (specs/Flow).
 --   truckEquivalent-ends   E is 2 or 3
---   loadOf-fits      64 bits hold the products with the load of a case that 1 to 9 do not refuse
+--   loadOf-fits      64 bits hold the products with the load of a case that 1 to 9 and 19 do not refuse
 --   caseLoad-fits    the same with its own lanes
 --   flowRate-mono    it rises with demand and heavy factor, and falls with the divisor
 --   caseFlowRate-mono   it rises with demand, share and equivalent, and falls with peak-hour factor and lanes

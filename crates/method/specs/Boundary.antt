@@ -1,9 +1,10 @@
--- The boundary sections of document 01, with clearances by document 02, as far as this layer can state them: one list, which the layers
--- above make longer.
+-- The boundary sections of document 01, with clearances and weather by document 02, as far as this layer can state them: one list, which
+-- the layers above make longer.
 --   given kind f w   a road of given speed f and lane width w
---   twoLanes road v  its case with two lanes and demand v, no heavy vehicles, level
+--   twoLanesUnder weather road v   its case with two lanes and demand v, no heavy vehicles, level, under weather
+--   twoLanes road v  the same in clear weather
 --   example          the printed line's case
---   boundaryFigures, clearanceFigures, speedFigures   the list, its last part, and the last of that
+--   boundaryFigures, clearanceFigures, speedFigures, weatherFigures   the list, and its last parts, each the end of the one before
 -- Assumes nothing.
 use mathlib.Core.List.{List, [], _∷_, map}
 use Prim.Native.Nat.{ℕ}
@@ -11,7 +12,9 @@ use Rattle.checks.specs.Figures.{Figure, figure}
 use Rattle.powers.specs.Power.{power}
 use Rattle.curve.specs.declared.kind.Kind.{Kind}
 use Rattle.curve.specs.declared.kind.Kind.the-variants as Kind
+use Rattle.curve.specs.declared.Weather.{Weather}
 use Rattle.curve.specs.Curves.{curveAt}
+use Rattle.curve.specs.Weather.{factors, clear}
 use Rattle.curve.specs.Service.{shownDensity, letterAt, letterNumber}
 use Rattle.road.specs.declared.Way.the-variants as Way
 use Rattle.road.specs.declared.Median.{Median}
@@ -23,6 +26,7 @@ use Rattle.road.specs.Cases.{road, loaded}
 use Rattle.road.specs.Adjustments.{rightClearanceAdjustment, totalClearance, totalClearanceAdjustment}
 use Rattle.road.specs.RampTerm.{rampTerm}
 use Rattle.road.specs.FreeFlowSpeed.{freeFlowSpeed}
+use Rattle.method.specs.Refusals.{refusal}
 use Rattle.method.specs.Checked as checked
 use Rattle.method.specs.Assess.{assessment, refusalNumber, values}
 
@@ -34,12 +38,15 @@ abbrev pub given : Kind → ℕ → ℕ → Road
 given kind f w = road kind Way.Given f w 60 60 Median.Divided 0
 
 -- N = 2, H = 1,000, P = 0, level
+abbrev pub twoLanesUnder : Weather → Road → ℕ → Case
+twoLanesUnder weather road demand = loaded road 2 demand 1000 0 Terrain.Level weather
+
 abbrev pub twoLanes : Road → ℕ → Case
-twoLanes road demand = loaded road 2 demand 1000 0 Terrain.Level
+twoLanes = twoLanesUnder clear
 
 -- the line F E 75400 110 20 0 D 24 2 2000 920 50 R
 abbrev pub example : Case
-example = loaded (road Kind.Freeway Way.Estimated 75400 110 20 0 Median.Divided 24) 2 2000 920 50 Terrain.Rolling
+example = loaded (road Kind.Freeway Way.Estimated 75400 110 20 0 Median.Divided 24) 2 2000 920 50 Terrain.Rolling clear
 
 -- M, E, 60,000, width 110, right 40, left 20, 10 access points
 abbrev multilane : Median → Road
@@ -61,6 +68,41 @@ assessed case = refusalNumber (assessment case) ∷ values (assessment case)
 abbrev checkedAs : Case → List ℕ
 checkedAs case = checked.refusalNumber (checked.checked case) ∷ checked.values (checked.checked case)
 
+-- Under snow or rain (document 02, T-03): b rounded down once; b and c from F after its factor, below the breakpoint and past it; the upper
+-- end before the factor; F, c and both factors at once; 50,000 after the factor, and 55,000 before it; the ends of the factors, on kind M
+-- too; 9 before 19, and 19 before 10.
+unfoldable pub weatherFigures : List Figure
+weatherFigures =
+    figure (checkedAs (snow 67855 1000 942 3534)) (0 ∷ 67855 ∷ 224059 ∷ 114097 ∷ [])
+    ∷ figure (assessed (snow 67855 1000 942 3534)) (0 ∷ 4 ∷ 67855 ∷ 224059 ∷ 1767 ∷ 62000 ∷ 285 ∷ [])
+    ∷ figure (assessed (snow 60000 950 1000 3000)) (0 ∷ 4 ∷ 57000 ∷ 227000 ∷ 1500 ∷ 57000 ∷ 264 ∷ [])
+    ∷ figure (assessed (snow 60000 950 1000 3800)) (0 ∷ 4 ∷ 57000 ∷ 227000 ∷ 1900 ∷ 56297 ∷ 338 ∷ [])
+    ∷ figure (checkedAs (snow 90000 900 1000 0)) (0 ∷ 67500 ∷ 237500 ∷ 130000 ∷ [])
+    ∷ figure (assessed (snow 75000 950 900 3000)) (0 ∷ 3 ∷ 71250 ∷ 216000 ∷ 1500 ∷ 66271 ∷ 227 ∷ [])
+    ∷ figure (assessed (snow 75000 667 1000 3000)) (0 ∷ 4 ∷ 50025 ∷ 220025 ∷ 1500 ∷ 50025 ∷ 300 ∷ [])
+    ∷ figure (assessed (snow 75000 666 1000 3000)) (10 ∷ [])
+    ∷ figure (assessed (snow 75000 1000 500 3000)) (0 ∷ 6 ∷ 75000 ∷ 120000 ∷ 1500 ∷ 0 ∷ 0 ∷ [])
+    ∷ figure (checkedAs (snow 55000 910 1000 0)) (0 ∷ 50050 ∷ 220050 ∷ 199800 ∷ [])
+    ∷ figure (checkedAs (snow 55000 909 1000 0)) (10 ∷ [])
+    ∷ figure (checkedAs (snow 54999 910 1000 0)) (10 ∷ [])
+    ∷ figure (map (λ s. refusal (snow 75000 s 1000 0)) (0 ∷ 499 ∷ 500 ∷ 1000 ∷ 1001 ∷ 99999 ∷ [])) (19 ∷ 19 ∷ 10 ∷ 0 ∷ 19 ∷ 19 ∷ [])
+    ∷ figure (map (λ k. refusal (snow 75000 1000 k 0)) (0 ∷ 499 ∷ 500 ∷ 1000 ∷ 1001 ∷ 99999 ∷ [])) (19 ∷ 19 ∷ 0 ∷ 0 ∷ 19 ∷ 19 ∷ [])
+    ∷ figure (refusal (onMultilane 60000 999 1000) ∷ refusal (onMultilane 60000 1000 999) ∷ refusal (onMultilane 60000 1000 1000) ∷ [])
+    (19 ∷ 19 ∷ 0 ∷ [])
+    ∷ figure (refusal (onMultilane 30000 1000 999) ∷ refusal (onMultilane 30000 1000 1000) ∷ refusal overShare ∷ []) (19 ∷ 10 ∷ 9 ∷ [])
+    ∷ []
+  where
+    -- F, given: speed, speed factor, capacity factor, demand
+    snow : ℕ → ℕ → ℕ → ℕ → Case
+    snow f s k demand = twoLanesUnder (factors s k) (given Kind.Freeway f 120) demand
+
+    onMultilane : ℕ → ℕ → ℕ → Case
+    onMultilane f s k = twoLanesUnder (factors s k) (given Kind.Multilane f 120) 0
+
+    -- P = 1,001
+    overShare : Case
+    overShare = loaded (given Kind.Freeway 75000 120) 2 0 1000 1001 Terrain.Level (factors 499 1000)
+
 -- F with such clearances and by the lanes; the worst road fields, which take off nothing from a given speed.
 unfoldable pub speedFigures : List Figure
 speedFigures =
@@ -71,7 +113,7 @@ speedFigures =
     ∷ figure (map (freeFlowSpeed (road Kind.Multilane Way.Estimated 70000 100 0 0 Median.Divided 200)) (2 ∷ 3 ∷ [])) (48000 ∷ 49500 ∷ [])
     ∷ figure (freeFlowSpeed (road Kind.Freeway Way.Given 60000 100 0 0 Median.Divided 48) 2 ∷ []) (60000 ∷ [])
     ∷ figure (freeFlowSpeed (road Kind.Multilane Way.Given 60000 100 0 0 Median.Undivided 200) 2 ∷ []) (60000 ∷ [])
-    ∷ []
+    ∷ weatherFigures
 
 -- Clearances between the table's entries, at its ends and past them (document 02, T-02).
 unfoldable pub clearanceFigures : List Figure

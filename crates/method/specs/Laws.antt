@@ -29,6 +29,6 @@ FlowRateNeverFallsWithLoad =
 abbrev pub NoDemandGetsA : Type 0
 NoDemandGetsA = (case : Case) → Accepted case → case .demand ≡ 0 → measures case .performance .letter ≡ Letter.A
 
--- A case is refused with the number of the first of 1 to 10 that it breaks, and is measured where it breaks none.
+-- A case is refused with the number of the first of 1 to 9, 19 and 10 that it breaks, and is measured where it breaks none.
 abbrev pub RefusedByTheList : Type 0
 RefusedByTheList = (case : Case) → refusalNumber (assessment case) ≡ refusal case

@@ -1,5 +1,5 @@
 -- The method of document 01 from a case to its letter, over the layers below, a file for each part.
---   Refusals   10 after 1 to 9, and what is accepted
+--   Refusals   10 after 1 to 9 and 19, and what is accepted
 --   Checked    the curve of a case, or its refusal
 --   Flow       the flow rate
 --   Assess     what a case gets, or its refusal

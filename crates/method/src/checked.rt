@@ -1,16 +1,18 @@
 // The curve of a case, or its refusal.
 //   SPEED_BELOW_LOWER_END   refusal 10
 //   Checked                 a curve or a refusal
-//   checked_curve           the curve of a road with a lane count, or 10
-//   check                   the curve of a case, or the first of 1 to 10 that refuses it
+//   checked_curve           the curve of a road with a lane count under weather, or 10
+//   check                   the curve of a case, or the first of 1 to 9, 19 and 10 that refuses it
 use curve::Curve;
-use curve::curve_at;
+use curve::Weather;
+use curve::curve_under;
 use curve::kind;
 use road::Case;
 use road::Road;
 use road::free_flow;
 use road::refusal;
 ghost use mathlib.Core.Path.{_≡_};
+ghost use Rattle.curve.specs.Weather.{FactorsFit};
 ghost use Rattle.road.specs.Refusals.{RoadFits};
 ghost use Rattle.method.specs.Checked.{checkedCurve, checked};
 
@@ -21,16 +23,20 @@ pub enum Checked {
     Refused(u64),
 }
 
-pub fn checked_curve(road: Road, lanes: u64) -> Checked
-    requires { ⌜ RoadFits road ⌝ }
-    ensures { λ r. ⌜ r ≡ checkedCurve road lanes ⌝ }
+pub fn checked_curve(road: Road, weather: Weather, lanes: u64) -> Checked
+    requires { ⌜ RoadFits road × FactorsFit (road .kind) weather ⌝ }
+    ensures { λ r. ⌜ r ≡ checkedCurve road weather lanes ⌝ }
 {
     let kind = road.kind;
     let speed = free_flow::free_flow_speed(road, lanes);
     if speed < kind::lowest_speed(kind) {
         return Checked::Refused(SPEED_BELOW_LOWER_END);
     }
-    Checked::Accepted(curve_at(kind, speed))
+    let curve = curve_under(weather, kind, speed);
+    if curve.free_flow_speed < kind::lowest_adjusted_speed(kind) {
+        return Checked::Refused(SPEED_BELOW_LOWER_END);
+    }
+    Checked::Accepted(curve)
 }
 
 pub fn check(case: Case) -> Checked
@@ -39,7 +45,8 @@ pub fn check(case: Case) -> Checked
     let number = refusal::field_refusal(case);
     if number == 0 {
         let road = case.road;
-        return checked_curve(road, case.lanes);
+        let weather = case.weather;
+        return checked_curve(road, weather, case.lanes);
     }
     Checked::Refused(number)
 }

@@ -4,7 +4,9 @@
 --   uncappedSpeed-mono   F before its upper end never falls with more lanes
 --   freeFlowSpeed-mono   F never falls with more lanes
 --   freeFlowSpeed-le     F is at most its upper end
+--   freeFlowSpeed-given  a given F is the same with any lanes
 -- Assumes nothing.
+use mathlib.Core.Path.{_≡_}
 use Prim.Native.Nat.{ℕ, _+_, _-_, _≤_}
 use native.Mathlib.Omega.{arith}
 use native.Mathlib.Nat.{le-refl}
@@ -69,3 +71,7 @@ freeFlowSpeed-mono road m n h = omega (arith, uncappedSpeed-mono road m n h)
 pub freeFlowSpeed-le : (road : Road) (n : ℕ) → freeFlowSpeed road n ≤ highestSpeed (road .kind)
 unfolding freeFlowSpeed
 freeFlowSpeed-le road n = omega arith
+
+pub freeFlowSpeed-given : (road : Road) (m n : ℕ) → road .way ≡ Way.Given → freeFlowSpeed road m ≡ freeFlowSpeed road n
+unfolding freeFlowSpeed uncappedBy
+freeFlowSpeed-given road m n e = simp e

@@ -1,23 +1,27 @@
--- Refusals 1 to 9 (specs/Refusals).
---   fieldRefusals-road, fieldRefusals-some   a road that 1 to 5 do not refuse: 6 to 9 decide; one that they refuse: its number
---   fields-road          a case that 1 to 9 do not refuse: 1 to 5 do not refuse its road
+-- Refusals 1 to 9 and 19 (specs/Refusals).
+--   fieldRefusals-road, fieldRefusals-some   a road that 1 to 5 do not refuse: 6 to 9 and 19 decide; one that they refuse: its number
+--   fields-road          a case that none of them refuses: 1 to 5 do not refuse its road
 --   fields-numbered      every number is above 0
 --   RoadEnds, road-ends  the ends that 1 and 5 leave to a road
 --   LoadEnds, load-ends  the ends that 6 to 9 leave to a case
---   fields-withLanes     a case that 1 to 9 do not refuse is so with every lane count of the kind
+--   fields-weather       the factors that 19 lets pass
+--   fields-withLanes     a case that none of them refuses is so with every lane count of the kind
 -- Assumes nothing.
 use mathlib.Core.Path.{_≡_, _∙_}
 use Prim.Native.Nat.{ℕ, _≤_, _<_}
 use borrow.Author.Tests.{ltb-false}
 use lib.Dec.{T}
-use Rattle.checks.specs.Refusals.{firstRefusal}
+use Rattle.numbers.proofs.BoolLaws.{or-false}
+use Rattle.checks.specs.Refusals.{firstRefusal, outside}
 use Rattle.checks.proofs.RefusalLaws.{numbered, firstRefusal-none, firstRefusal-some, firstRefusal-join, NoneMet, none-met, none-of, within}
 use Rattle.checks.proofs.RefusalLaws.{inside}
-use Rattle.curve.specs.Kinds.{fewestLanes, mostLanes}
+use Rattle.curve.specs.Kinds.{lowestFactor, fewestLanes, mostLanes}
+use Rattle.curve.specs.Weather.{FactorsFit}
 use Rattle.road.specs.declared.Road.{Road}
 use Rattle.road.specs.declared.Case.{Case}
 use Rattle.road.specs.Cases.{withLanes}
-use Rattle.road.specs.Refusals.{mostAccess, greatestDemand, roadRefusals, loadRefusals, fieldRefusals, RoadFits, FieldsFit}
+use Rattle.road.specs.Refusals.{mostAccess, greatestDemand, weatherUnfit, roadRefusals, loadRefusals, fieldRefusals, RoadFits}
+use Rattle.road.specs.Refusals.{FieldsFit}
 
 -- ---- the two lists
 road-numbered : (road : Road) → T (numbered (roadRefusals road))
@@ -84,6 +88,17 @@ load-ends case z =
       factor-high = factor .1;
       share-high = ltb-false 1000 (case .«heavy_share») (none .1 .1 .1 .0);
     }
+
+pub fields-weather : (case : Case) → FieldsFit case → FactorsFit (case .road .kind) (case .weather)
+unfolding loadRefusals weatherUnfit
+fields-weather case z =
+    let low = lowestFactor (case .road .kind) in
+    let w = case .weather in
+    let none = or-false (outside low 1000 (w .«speed_factor»)) (outside low 1000 (w .«capacity_factor»))
+    (load-none case z .1 .1 .1 .1 .0) in
+    let speed = within low 1000 (w .«speed_factor») (none .0) in
+    let capacity = within low 1000 (w .«capacity_factor») (none .1) in
+    record { speed-low = speed .0; speed-high = speed .1; capacity-low = capacity .0; capacity-high = capacity .1 }
 
 -- ---- a case with another lane count
 pub fields-withLanes : (case : Case) (n : ℕ) → FieldsFit case → fewestLanes (case .road .kind) ≤ n → n ≤ mostLanes (case .road .kind)

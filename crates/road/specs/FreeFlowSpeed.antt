@@ -1,4 +1,4 @@
--- Free-flow speed F, in thousandths of mi/h (document 01, "Free-flow speed F").
+-- Free-flow speed F, in thousandths of mi/h (document 01, "Free-flow speed F"), before the weather's factor.
 --   estimatedSpeed road n   the base speed less what is taken off, with n lanes
 --   uncappedSpeed road n    F before its upper end
 --   estimatedBy, uncappedBy the same, by the kind and by the way F is found

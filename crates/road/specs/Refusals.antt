@@ -1,12 +1,13 @@
--- Refusals 1 to 9 in their order (document 01, "Refused, by who can cause it").
+-- Refusals 1 to 9 and 19 in their order (document 01, "Refused, by who can cause it", and document 02, T-03).
 --   medianUnfit kind m   a median that 4 refuses
 --   mostAccess kind      the most ramps or access points that 5 lets pass
 --   greatestDemand       the greatest demand that 7 lets pass
+--   weatherUnfit kind w  factors that 19 refuses
 --   roadRefusals road    1 to 5, of the road's fields
---   loadRefusals case    6 to 9, of the other fields
---   fieldRefusals case   1 to 9
+--   loadRefusals case    6 to 9 and 19, of the other fields
+--   fieldRefusals case   1 to 9 and 19
 --   RoadFits road        none of 1 to 5 refuses the road
---   FieldsFit case       none of 1 to 9 refuses the case
+--   FieldsFit case       none of 1 to 9 nor 19 refuses the case
 -- Assumes nothing.
 use Prim.Native.Nat.{ℕ}
 use mathlib.Core.Path.{_≡_}
@@ -16,7 +17,8 @@ use lib.Dec.{ltb}
 use Rattle.checks.specs.Refusals.{Refusal, refuses, firstRefusal, outside}
 use Rattle.curve.specs.declared.kind.Kind.{Kind}
 use Rattle.curve.specs.declared.kind.Kind.the-variants as Kind
-use Rattle.curve.specs.Kinds.{fewestLanes, mostLanes}
+use Rattle.curve.specs.declared.Weather.{Weather}
+use Rattle.curve.specs.Kinds.{lowestFactor, fewestLanes, mostLanes}
 use Rattle.road.specs.declared.Median.{Median}
 use Rattle.road.specs.declared.Median.the-variants as Median
 use Rattle.road.specs.declared.Road.{Road}
@@ -38,6 +40,11 @@ mostAccess Kind.Multilane = 200
 abbrev pub greatestDemand : ℕ
 greatestDemand = 99999
 
+-- "a factor out of range or below 1,000 on kind M"
+unfoldable pub weatherUnfit : Kind → Weather → Bool
+weatherUnfit kind weather =
+    outside (lowestFactor kind) 1000 (weather .«speed_factor») || outside (lowestFactor kind) 1000 (weather .«capacity_factor»)
+
 -- "1 speed not 30,000 to 90,000; 2 width not 100 to 200; 3 a clearance above 400; 4 median other than D on kind F;
 -- 5 ramps above 48 or access above 200"
 unfoldable pub roadRefusals : Road → List Refusal
@@ -49,13 +56,14 @@ roadRefusals road =
     ∷ refuses 5 (ltb (mostAccess (road .kind)) (road .access))
     ∷ []
 
--- "6 lanes not of the kind; 7 V above 99,999", "8 H not 250 to 1,000; 9 P above 1,000"
+-- "6 lanes not of the kind; 7 V above 99,999", "8 H not 250 to 1,000; 9 P above 1,000", "19 .. after 9"
 unfoldable pub loadRefusals : Case → List Refusal
 loadRefusals case =
     refuses 6 (outside (fewestLanes (case .road .kind)) (mostLanes (case .road .kind)) (case .lanes))
     ∷ refuses 7 (ltb greatestDemand (case .demand))
     ∷ refuses 8 (outside 250 1000 (case .«peak_hour_factor»))
     ∷ refuses 9 (ltb 1000 (case .«heavy_share»))
+    ∷ refuses 19 (weatherUnfit (case .road .kind) (case .weather))
     ∷ []
 
 unfoldable pub fieldRefusals : Case → List Refusal

@@ -1,4 +1,4 @@
-// Free-flow speed, in thousandths of mi/h.
+// Free-flow speed, in thousandths of mi/h, before the weather's factor.
 //   free_flow_speed   F, given or estimated, at most the kind's upper end
 use crate::Road;
 use crate::Way;

@@ -1,16 +1,17 @@
-// Road: a road and its load, from their fields to the free-flow speed, and refusals 1 to 9.
-//   Road, Case   a road, and a road with its load; Way, Median, Terrain: the types of their fields
+// Road: a road and its load, from their fields to the free-flow speed, and refusals 1 to 9 and 19.
+//   Road, Case   a road, and a road with its load and weather; Way, Median, Terrain: the types of their fields
 //   with_demand  a case with another demand
 //   adjustment   what lane width, clearances, median and access take off a base speed
 //   ramp         what ramps take off
 //   free_flow    free-flow speed
-//   refusal      refusals 1 to 9 and their numbers
+//   refusal      refusals 1 to 9 and 19, and their numbers
 mod adjustment;
 pub mod free_flow;
 mod ramp;
 mod ramp_table;
 pub mod refusal;
 
+use curve::Weather;
 use curve::kind::Kind;
 ghost use mathlib.Core.Path.{_≡_};
 ghost use Rattle.road.specs.Cases.{withDemand};
@@ -59,6 +60,7 @@ pub struct Case {
     // thousandths
     pub heavy_share: u64,
     pub terrain: Terrain,
+    pub weather: Weather,
 }
 
 pub fn with_demand(case: Case, demand: u64) -> Case

@@ -1,20 +1,22 @@
-// Refusals 1 to 9 of a case, in document 01's order, and their numbers.
+// Refusals 1 to 9 and 19 of a case, in the documents' order, and their numbers.
 //   SPEED_OUT_OF_RANGE to SHARE_TOO_LARGE   the numbers 1 to 9
+//   WEATHER_UNFIT                           the number 19
 //   GREATEST_DEMAND                         the greatest demand that 7 lets pass
 //   road_refusal    the first of 1 to 5 that refuses a road, 0 where none does
-//   field_refusal   the first of 1 to 9 that refuses a case, 0 where none does
+//   field_refusal   the first of 1 to 9 and 19 that refuses a case, 0 where none does
 use crate::Case;
 use crate::Median;
 use crate::Road;
 use checks::outside;
 use checks::refused_if;
+use curve::Weather;
 use curve::kind;
 use curve::kind::Kind;
 ghost use mathlib.Core.Path.{_≡_};
 ghost use mathlib.Core.Bool.{_||_};
 ghost use lib.Dec.{ltb};
 ghost use Rattle.checks.specs.Refusals.{firstRefusal};
-ghost use Rattle.road.specs.Refusals.{medianUnfit, mostAccess, roadRefusals, loadRefusals, fieldRefusals};
+ghost use Rattle.road.specs.Refusals.{medianUnfit, mostAccess, weatherUnfit, roadRefusals, loadRefusals, fieldRefusals};
 
 pub const SPEED_OUT_OF_RANGE: u64 = 1;
 
@@ -33,6 +35,8 @@ pub const DEMAND_TOO_LARGE: u64 = 7;
 pub const FACTOR_OUT_OF_RANGE: u64 = 8;
 
 pub const SHARE_TOO_LARGE: u64 = 9;
+
+pub const WEATHER_UNFIT: u64 = 19;
 
 // The greatest demand that refusal 7 lets pass.
 pub const GREATEST_DEMAND: u64 = 99_999;
@@ -63,6 +67,13 @@ fn clearance_too_large(right: u64, left: u64) -> bool
     ensures { λ r. ⌜ r ≡ (ltb 400 right || ltb 400 left) ⌝ }
 {
     400 < right || 400 < left
+}
+
+fn weather_unfit(kind: Kind, weather: Weather) -> bool
+    ensures { λ r. ⌜ r ≡ weatherUnfit kind weather ⌝ }
+{
+    let lowest = kind::lowest_factor(kind);
+    outside(lowest, 1_000, weather.speed_factor) || outside(lowest, 1_000, weather.capacity_factor)
 }
 
 pub fn road_refusal(road: Road) -> u64
@@ -99,6 +110,8 @@ fn load_refusal(case: Case) -> u64
     let demand = GREATEST_DEMAND < case.demand;
     let factor = outside(250, 1_000, case.peak_hour_factor);
     let share = 1_000 < case.heavy_share;
+    let weather = case.weather;
+    let unfit = weather_unfit(kind, weather);
     refused_if(
         lanes,
         LANES_NOT_OF_THE_KIND,
@@ -108,7 +121,7 @@ fn load_refusal(case: Case) -> u64
             refused_if(
                 factor,
                 FACTOR_OUT_OF_RANGE,
-                refused_if(share, SHARE_TOO_LARGE, 0),
+                refused_if(share, SHARE_TOO_LARGE, refused_if(unfit, WEATHER_UNFIT, 0)),
             ),
         ),
     )

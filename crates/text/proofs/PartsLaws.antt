@@ -2,10 +2,12 @@
 --   countBefore-le            at most all bytes stand before the first t
 --   parts-one, parts-more     a list with no t is one part; with one it is the part before it and the parts after it
 --   countBefore-hit, countBefore-miss, countBefore-end   the count from place i on, one byte further
+--   parts-append              two lists with a t between them have the parts of both
+--   spread, parts-spread      the lengths of parts, each with one byte more, added up: one more than the list has bytes
 -- Assumes nothing.
-use mathlib.Core.Path.{_≡_, refl, ap}
+use mathlib.Core.Path.{_≡_, refl, ap, _∙_}
 use mathlib.Core.Bool.{Bool, true, false, cond}
-use mathlib.Core.List.{List, [], _∷_}
+use mathlib.Core.List.{List, [], _∷_, _++_}
 use Prim.Native.Nat.{ℕ, suc, _+_, _≤_, _<_}
 use native.Mathlib.Nat.{add-zero}
 use native.Mathlib.Numerals.{add-one}
@@ -62,3 +64,52 @@ countBefore-miss t bs i h n = rw (drop-cons bs i 0 h, ne-eqb (getD bs i 0) t n, 
 
 pub countBefore-end : (t : ℕ) (bs : List ℕ) (i : ℕ) → i ≡ length bs → i + countBefore t (drop i bs) ≡ i
 countBefore-end t bs i e = omega (arith, countBefore-le t (drop i bs), lib.ListN.length-drop i bs)
+
+-- ---- all parts
+onFirst-append : (b : ℕ) (ps qs : List (List ℕ)) → 0 < length ps → onFirst b (ps ++ qs) ≡ onFirst b ps ++ qs
+unfolding onFirst
+onFirst-append b [] qs h = absurd (omega arith)
+onFirst-append b (p ∷ ps) qs h = refl
+
+onFirst-length : (b : ℕ) (ps : List (List ℕ)) → 0 < length (onFirst b ps)
+unfolding onFirst
+onFirst-length b [] = omega arith
+onFirst-length b (p ∷ ps) = omega arith
+
+parts-pos : (t : ℕ) (bs : List ℕ) → 0 < length (parts t bs)
+unfolding parts
+parts-pos t [] = omega arith
+parts-pos t (b ∷ bs) = go (eqb b t)
+  where
+    go : (v : Bool) → 0 < length (cond v ([] ∷ parts t bs) (onFirst b (parts t bs)))
+    go true = omega arith
+    go false = onFirst-length b (parts t bs)
+
+pub parts-append : (t : ℕ) (xs ys : List ℕ) → parts t (xs ++ (t ∷ ys)) ≡ parts t xs ++ parts t ys
+unfolding parts
+parts-append t [] ys = rw (eq-eqb t t refl)
+parts-append t (b ∷ xs) ys = rw (parts-append t xs ys) (go (eqb b t))
+  where
+    go : (v : Bool) → cond v ([] ∷ (parts t xs ++ parts t ys)) (onFirst b (parts t xs ++ parts t ys))
+        ≡ cond v ([] ∷ parts t xs) (onFirst b (parts t xs)) ++ parts t ys
+    go true = refl
+    go false = onFirst-append b (parts t xs) (parts t ys) (parts-pos t xs)
+
+abbrev pub spread : List (List ℕ) → ℕ
+spread [] = 0
+spread (p ∷ ps) = suc (length p) + spread ps
+
+onFirst-spread : (b : ℕ) (ps : List (List ℕ)) → 0 < length ps → spread (onFirst b ps) ≡ suc (spread ps)
+unfolding onFirst
+onFirst-spread b [] h = absurd (omega arith)
+onFirst-spread b (p ∷ ps) h = omega arith
+
+pub parts-spread : (t : ℕ) (bs : List ℕ) → spread (parts t bs) ≡ suc (length bs)
+unfolding parts
+parts-spread t [] = refl
+parts-spread t (b ∷ bs) = go (eqb b t) (parts-spread t bs)
+  where
+    go : (v : Bool) → spread (parts t bs) ≡ suc (length bs)
+        → spread (cond v ([] ∷ parts t bs) (onFirst b (parts t bs))) ≡ suc (suc (length bs))
+    go true h = omega arith
+    go false h = onFirst-spread b (parts t bs) (parts-pos t bs) ∙ ap suc h

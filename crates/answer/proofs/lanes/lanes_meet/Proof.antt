@@ -6,7 +6,7 @@ use Rattle.curve.specs.Terms.{curveTerms}
 use Rattle.curve.proofs.TermsLaws.{curveTerms-prepared}
 use Rattle.curve.proofs.ServiceLaws.{densityLimit-le}
 use Rattle.road.specs.Cases.{withLanes}
-use Rattle.road.proofs.RefusalLaws.{fields-road, load-ends}
+use Rattle.road.proofs.RefusalLaws.{fields-road, fields-weather, load-ends}
 use Rattle.method.specs.Flow.{heavyFactor}
 use Rattle.method.proofs.CheckedLaws.{checkedCurve-accepted, checkedCurve-refused, caseCurve-wellFormed, caseCurve-sized}
 use Rattle.method.proofs.FlowLaws.{loadOf-fits}
@@ -17,14 +17,14 @@ use Rattle.answer.proofs.lanes.lanes_meet.Tie as tie
 
 flow-rate-requires : tie.Need-flow-rate-requires
 flow-rate-requires c κs =
-    let s = c .before .before .before .before .before .before in (
+    let s = c .before .before .before .before .before .before .before in (
       rw (c .load-of .ensures) (loadOf-fits (s .args .case) (s .args .lanes) (s .pre .fields)),
       load-ends (withLanes (s .args .case) (s .args .lanes)) (s .pre .fields) .demand-high,
     )
 
 curve-terms-requires : tie.Need-curve-terms-requires
 curve-terms-requires c κs =
-    let s = c .before .before .before .before .before .before .before in
+    let s = c .before .before .before .before .before .before .before .before in
     let case = withLanes (s .args .case) (s .args .lanes) in
     let found = checkedCurve-accepted case _ (s .pre .fields)
     (sym (c .before .before .before .before .before .checked-curve .ensures) ∙ c .before .before .before .checked .given .1) in
@@ -32,7 +32,7 @@ curve-terms-requires c κs =
 
 flow-meets-limit-requires : tie.Need-flow-meets-limit-requires
 flow-meets-limit-requires c κs =
-    let s = c .before .before .before .before .before .before .before .before .before in
+    let s = c .before .before .before .before .before .before .before .before .before .before in
     let case = withLanes (s .args .case) (s .args .lanes) in
     let found = checkedCurve-accepted case _ (s .pre .fields)
     (sym (c .before .before .before .before .before .before .before .checked-curve .ensures)
@@ -45,7 +45,7 @@ flow-meets-limit-requires c κs =
 returns : tie.Need-returns
 unfolding heavyFactor curveTerms
 returns c =
-    let s = c .before .before .before .before .before .before .before .before .before .before in
+    let s = c .before .before .before .before .before .before .before .before .before .before .before in
     let case = withLanes (s .args .case) (s .args .lanes) in
     let found = checkedCurve-accepted case _ (s .pre .fields)
     (sym (c .before .before .before .before .before .before .before .before .checked-curve .ensures)
@@ -62,7 +62,7 @@ returns c =
 
 returns-2 : tie.Need-returns-2
 returns-2 c =
-    let s = c .before .before .before .before in
+    let s = c .before .before .before .before .before in
     let case = withLanes (s .args .case) (s .args .lanes) in
     sym (meets-refused case (s .args .letter)
     (checkedCurve-refused case _ (s .pre .fields) (sym (c .before .before .checked-curve .ensures) ∙ c .enum-told .given .1)))
@@ -70,6 +70,9 @@ returns-2 c =
 pub lanes-meet-spec : {M : Type 1} → statement M
 lanes-meet-spec =
     tie.close
-    (tie.spec (λ c κs. let s = c .before in fields-road (withLanes (s .args .case) (s .args .lanes)) (s .pre .fields))
-    (λ c. search needs) (λ c κs. c .before .before .before .before .before .pre .fields) flow-rate-requires curve-terms-requires
+    (tie.spec
+    (λ c κs. let s = c .before .before in
+    let case = withLanes (s .args .case) (s .args .lanes) in
+    (fields-road case (s .pre .fields), fields-weather case (s .pre .fields)))
+    (λ c. search needs) (λ c κs. c .before .before .before .before .before .before .pre .fields) flow-rate-requires curve-terms-requires
     (λ c κs. search needs) flow-meets-limit-requires (λ c. search needs) returns returns-2)

@@ -1,4 +1,4 @@
--- `answer::lanes::lanes_needed` meets its contract: 16 first, then 1 to 9, then the count or 14.
+-- `answer::lanes::lanes_needed` meets its contract: 16 first, then 1 to 9 and 19, then the count or 14.
 -- Assumes nothing.
 use mathlib.Core.Path.{sym, ap, _∙_}
 use native.Mathlib.Omega.{arith}

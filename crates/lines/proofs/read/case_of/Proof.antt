@@ -10,4 +10,4 @@ unfolding caseOf
 case-of-spec =
     tie.close
     (tie.spec (λ c κs. search needs) (λ c. search needs) (λ c. search needs) (λ c. search needs) (λ c. search needs) (λ c. search needs)
-    (λ c κs. search needs) (λ c. cc))
+    (λ c κs. search needs) (λ c. search needs) (λ c. search needs) (λ c. cc))
