@@ -11,10 +11,11 @@ enum refusal {
     LINE_MALFORMED = 15,
     LETTER_UNKNOWN = 16,
     BUFFER_TOO_SHORT = 17,
-    DAY_UNFIT = 18
+    DAY_UNFIT = 18,
+    WEATHER_UNFIT = 19
 };
 
-enum number { SPEED, WIDTH, RIGHT, LEFT, ACCESS, LANES, DEMAND, FACTOR, SHARE, NUMBERS };
+enum number { SPEED, WIDTH, RIGHT, LEFT, ACCESS, LANES, DEMAND, FACTOR, SHARE, SPEED_FACTOR, CAPACITY_FACTOR, NUMBERS };
 
 struct section {
     bool freeway, estimated, rolling;
@@ -102,6 +103,14 @@ static bool read_numbers(struct cursor *line, uint64_t *numbers, int count)
     return true;
 }
 
+/* The two factors at a line's end, 1,000 for both where it ends before them. */
+static bool read_weather(struct cursor *line, uint64_t *factors)
+{
+    factors[0] = factors[1] = 1000;
+    return line->at == line->end
+        || (pass_tab(line) && read_numbers(line, factors, 1) && read_number(line, &factors[1]) && line->at == line->end);
+}
+
 static bool read_section(const uint8_t *bytes, size_t length, struct section *section)
 {
     struct cursor line = {bytes, bytes + length};
@@ -111,7 +120,8 @@ static bool read_section(const uint8_t *bytes, size_t length, struct section *se
     }
     if (!read_letter(&line, &kind) || !pass_tab(&line) || !read_letter(&line, &way) || !pass_tab(&line)
         || !read_numbers(&line, section->numbers, 4) || !read_letter(&line, &section->median) || !pass_tab(&line)
-        || !read_numbers(&line, section->numbers + 4, 5) || !read_letter(&line, &terrain) || line.at != line.end) {
+        || !read_numbers(&line, section->numbers + 4, 5) || !read_letter(&line, &terrain)
+        || !read_weather(&line, section->numbers + SPEED_FACTOR)) {
         return false;
     }
     section->freeway = kind == 'F';
@@ -121,7 +131,12 @@ static bool read_section(const uint8_t *bytes, size_t length, struct section *se
         && (section->median == 'U' || section->median == 'D' || section->median == 'T');
 }
 
-/* Refusals 1 to 9, 0 where none holds */
+/* Refusals 1 to 9 and 19, 0 where none holds */
+
+static bool weather_unfit(const struct section *s, uint64_t factor)
+{
+    return factor < (s->freeway ? 500u : 1000u) || factor > 1000;
+}
 
 static int32_t field_refusal(const struct section *s)
 {
@@ -147,7 +162,10 @@ static int32_t field_refusal(const struct section *s)
     if (n[FACTOR] < 250 || n[FACTOR] > 1000) {
         return 8;
     }
-    return n[SHARE] > 1000 ? 9 : 0;
+    if (n[SHARE] > 1000) {
+        return 9;
+    }
+    return weather_unfit(s, n[SPEED_FACTOR]) || weather_unfit(s, n[CAPACITY_FACTOR]) ? WEATHER_UNFIT : 0;
 }
 
 /* Free-flow speed */
@@ -194,17 +212,18 @@ static uint64_t free_flow_speed(const struct section *s, uint64_t lanes)
     return lesser(s->freeway ? 75000 : 70000, speed);
 }
 
-/* The curve, with what its speeds have in common; false where F is below its lower end. */
+/* The curve, with what its speeds have in common; false where F is below its lower end, before its factor or after it. */
 static bool make_curve(const struct section *s, uint64_t lanes, struct curve *curve)
 {
-    uint64_t speed = free_flow_speed(s, lanes);
-    if (speed < (s->freeway ? 55000u : 45000u)) {
+    uint64_t before = free_flow_speed(s, lanes), factor = s->numbers[CAPACITY_FACTOR];
+    uint64_t speed = before * s->numbers[SPEED_FACTOR] / 1000;
+    if (before < (s->freeway ? 55000u : 45000u) || speed < (s->freeway ? 50000u : 45000u)) {
         return false;
     }
     curve->freeway = s->freeway;
     curve->speed = speed;
-    curve->capacity = s->freeway ? lesser(240000, 170000 + speed) : lesser(230000, 100000 + 2 * speed);
-    curve->breakpoint = s->freeway ? 400000 - 4 * speed : 140000;
+    curve->capacity = (s->freeway ? lesser(240000, 170000 + speed) : lesser(230000, 100000 + 2 * speed)) * factor / 1000;
+    curve->breakpoint = (s->freeway ? 400000 - 4 * speed : 140000) * (factor * factor) / 1000000;
     curve->most_flow = curve->capacity / 100;
     curve->span = curve->capacity - curve->breakpoint;
     curve->whole = s->freeway ? curve->span * curve->span : 1000000;

@@ -1,4 +1,4 @@
-// Compares the engine, linked as an archive, with the second implementation of document 01 and of requests T-01 and T-02 (tests/second).
+// Compares the engine, linked as an archive, with the second implementation of document 01 and of requests T-01 to T-03 (tests/second).
 //
 //   compare quick         the documents' figures, the traps, the manual's examples, curves by a stride, random cases, floats, the laws,
 //                         whole days, the vectors
@@ -99,6 +99,7 @@ fn quick(total: &mut Tally) {
     group(total, "traps", || filled(|tally| traps::traps(method, tally)));
     group(total, "examples of chapter 26", || examples(method));
     group(total, "curves by a stride", || filled(|tally| curves::by_stride(method, tally)));
+    group(total, "curves under weather", || filled(|tally| curves::under_weather(method, tally)));
     group(total, "table entries", || filled(|tally| curves::table_entries(method, tally)));
     group(total, "random cases", || random_cases(method));
     group(total, "service volumes by every demand", || every_demand(method));

@@ -1,10 +1,12 @@
-// Whole curves: a given free-flow speed with each flow rate. On two lanes with H = 1,000 and P = 0 the demand 2v has the flow rate v.
+// Whole curves: a given free-flow speed with each flow rate, in clear weather and under snow or rain. On two lanes with H = 1,000 and P = 0 the demand 2v has the flow rate v.
 
 use super::draw::append_line;
 use super::engine;
 use super::tally::Tally;
 use crate::second::lines;
-use crate::second::method::{density, millionths, speed_at_weight, Case, Kind, Median, Method, Service, Terrain, Way};
+use crate::second::method::{
+    density, millionths, speed_at_weight, Case, Curve, Kind, Median, Method, Service, Terrain, Way, Weather,
+};
 use std::fmt::Write;
 use std::thread;
 
@@ -13,7 +15,7 @@ const SPEED_STRIDE: usize = 97;
 const FLOW_STRIDE: usize = 7;
 const THREADS: u64 = 2;
 
-fn case(kind: Kind, free_flow_speed: u64) -> Case {
+fn road(kind: Kind, free_flow_speed: u64, weather: Weather) -> Case {
     Case {
         kind,
         way: Way::Given,
@@ -28,19 +30,24 @@ fn case(kind: Kind, free_flow_speed: u64) -> Case {
         factor: 1_000,
         share: 0,
         terrain: Terrain::Level,
+        weather,
     }
 }
 
+fn clear_road(kind: Kind, free_flow_speed: u64) -> Case {
+    road(kind, free_flow_speed, Weather::CLEAR)
+}
+
 // One curve. The service volumes do not change with the demand and are searched for once.
-fn curve(method: &Method, tally: &mut Tally, kind: Kind, free_flow_speed: u64, flow_rates: impl Iterator<Item = u64>) {
-    let road = case(kind, free_flow_speed);
-    let capacity = kind.capacity(free_flow_speed);
-    let volumes = method.service_volumes(&road, free_flow_speed).map(|volume| volume.to_string()).join("\t");
+fn curve(method: &Method, tally: &mut Tally, road: &Case, flow_rates: impl Iterator<Item = u64>) {
+    let curve = method.curve(road).expect("the road is accepted");
+    let Curve { free_flow_speed, capacity, .. } = curve;
+    let volumes = method.service_volumes(road, &curve).map(|volume| volume.to_string()).join("\t");
     let (mut line, mut expected, mut buffer) = (String::new(), String::new(), [0u8; 64]);
     for flow_rate in flow_rates {
         line.clear();
-        append_line(&mut line, &Case { demand: 2 * flow_rate, ..road });
-        let Service { letter, speed, density } = method.service(kind, free_flow_speed, flow_rate);
+        append_line(&mut line, &Case { demand: 2 * flow_rate, ..*road });
+        let Service { letter, speed, density } = method.service(&curve, flow_rate);
         let letter = lines::letter_name(letter);
         expected.clear();
         let written = writeln!(expected, "{letter}\t{free_flow_speed}\t{capacity}\t{flow_rate}\t{speed}\t{density}\t{volumes}");
@@ -52,10 +59,18 @@ fn curve(method: &Method, tally: &mut Tally, kind: Kind, free_flow_speed: u64, f
 }
 
 // The flow rates around the breakpoint, each change of letter and capacity.
-fn telling_flow_rates(method: &Method, kind: Kind, free_flow_speed: u64) -> Vec<u64> {
-    let mut centres = method.service_volumes(&case(kind, free_flow_speed), free_flow_speed).map(|volume| volume / 2).to_vec();
-    centres.extend([kind.breakpoint(free_flow_speed) / 100, kind.capacity(free_flow_speed) / 100]);
+fn telling_flow_rates(method: &Method, road: &Case) -> Vec<u64> {
+    let curve = method.curve(road).expect("the road is accepted");
+    let mut centres = method.service_volumes(road, &curve).map(|volume| volume / 2).to_vec();
+    centres.extend([curve.breakpoint / 100, curve.capacity / 100]);
     centres.iter().flat_map(|&centre| centre - 1..=centre + 2).collect()
+}
+
+// Some flow rates of a road, of each residue in turn, and the telling ones.
+fn some_flow_rates(method: &Method, tally: &mut Tally, place: usize, road: &Case) {
+    let most = method.curve(road).expect("the road is accepted").capacity / 100 + 1;
+    curve(method, tally, road, (place as u64 % FLOW_STRIDE as u64..=most).step_by(FLOW_STRIDE));
+    curve(method, tally, road, telling_flow_rates(method, road).into_iter());
 }
 
 // Some speeds of each kind, the ends and what is beside them included, with some flow rates of each.
@@ -63,16 +78,27 @@ pub fn by_stride(method: &Method, tally: &mut Tally) {
     for kind in [Kind::Freeway, Kind::Multilane] {
         let (low, high) = (*kind.free_flow_speeds().start(), *kind.free_flow_speeds().end());
         for (place, speed) in (low..=high).step_by(SPEED_STRIDE).chain([low + 1, high - 1, high, 60_000, 65_000]).enumerate() {
-            let most = kind.capacity(speed) / 100 + 1;
-            curve(method, tally, kind, speed, (place as u64 % FLOW_STRIDE as u64..=most).step_by(FLOW_STRIDE));
-            curve(method, tally, kind, speed, telling_flow_rates(method, kind, speed).into_iter());
+            some_flow_rates(method, tally, place, &clear_road(kind, speed));
+        }
+    }
+}
+
+// Every capacity factor, and speed factors and speeds by a stride, the ends of both included.
+pub fn under_weather(method: &Method, tally: &mut Tally) {
+    let speeds = [55_000, 59_999, 60_000, 67_855, 70_000, 75_000, 90_000];
+    for capacity_factor in Kind::Freeway.weather_factors() {
+        let place = capacity_factor as usize;
+        let speed = speeds[place % speeds.len()];
+        let least = 50_000_000_u64.div_ceil(speed.min(75_000));
+        for speed_factor in [least, least + 1 + (37 * capacity_factor) % (1_000 - least), 1_000] {
+            some_flow_rates(method, tally, place, &road(Kind::Freeway, speed, Weather { speed_factor, capacity_factor }));
         }
     }
 }
 
 // What is shown of a flow rate on kind M with a table entry t.
 fn shown(free_flow_speed: u64, flow_rate: u64, t: u64) -> (u64, u64) {
-    let speed = speed_at_weight(Kind::Multilane, free_flow_speed, millionths(t));
+    let speed = speed_at_weight(&Curve::clear(Kind::Multilane, free_flow_speed), millionths(t));
     (speed.rounded_down(), density(speed, flow_rate).rounded_up())
 }
 
@@ -88,7 +114,7 @@ pub fn table_entries(method: &Method, tally: &mut Tally) {
             for (seen, other) in seen[i as usize].iter_mut().zip([t + 1, t - 1]) {
                 if !*seen && shown(speed, flow_rate, other) != shown(speed, flow_rate, t) {
                     *seen = true;
-                    curve(method, tally, Kind::Multilane, speed, [flow_rate].into_iter());
+                    curve(method, tally, &clear_road(Kind::Multilane, speed), [flow_rate].into_iter());
                 }
             }
         }
@@ -102,7 +128,7 @@ pub fn full(method: &Method, kind: Kind) -> Tally {
     let part = |remainder: u64| {
         let mut tally = Tally::default();
         for speed in kind.free_flow_speeds().filter(|speed| speed % THREADS == remainder) {
-            curve(method, &mut tally, kind, speed, 0..=kind.capacity(speed) / 100 + 1);
+            curve(method, &mut tally, &clear_road(kind, speed), 0..=kind.capacity(speed) / 100 + 1);
         }
         tally
     };

@@ -6,7 +6,7 @@ use super::engine;
 use super::tally::{Outcomes, Tally};
 use crate::second::day::{self, POSITION};
 use crate::second::lines;
-use crate::second::method::{Case, Method, GREATEST_DEMAND};
+use crate::second::method::{planner_refusal, Case, Curve, Method, GREATEST_DEMAND};
 
 const fn refused(number: u64) -> [u64; POSITION] {
     [number, 0, 0, 0, 0, 0, 0, 0, 0, 0, 0, 0]
@@ -21,6 +21,9 @@ const AT_2000: [u64; POSITION] = [0, 3, 60_783, 230_783, 1_196, 60_783, 197, 1_1
 const AT_2643: [u64; POSITION] = [0, 4, 60_783, 230_783, 1_581, 60_780, 261, 1_117, 1_829, 2_642, 3_360, 3_858];
 const AT_99999: [u64; POSITION] = [0, 6, 60_783, 230_783, 59_783, 0, 0, 1_117, 1_829, 2_642, 3_360, 3_858];
 
+// A given speed of 75,000 with the factors 950 and 900, as T-03 has it.
+const SNOW_AT_3000: [u64; POSITION] = [0, 3, 71_250, 216_000, 1_500, 66_271, 227, 1_566, 2_506, 3_294, 3_884, 4_320];
+
 // Lines, demands and what each position gets. Blanks stand for tabs.
 const DAYS: &[(&str, &[u64], &[[u64; POSITION]])] = &[
     (LINE, &[2_000, 100_000, 2_643], &[AT_2000, refused(7), AT_2643]),
@@ -31,10 +34,15 @@ const DAYS: &[(&str, &[u64], &[[u64; POSITION]])] = &[
     (LINE, &[0; 24], &[AT_0; 24]),
     // The line's own demand is not used.
     ("F E 75400 110 20 0 D 24 2 99999 920 50 R", &[0, 99_999, 2_000], &[AT_0, AT_99999, AT_2000]),
-    // 7 is before 8, 9 and 10 and after 1 to 6.
+    // A line of 15 fields; clear weather written out.
+    ("F G 75000 120 60 60 D 0 2 0 1000 0 L 950 900", &[3_000, 100_000], &[SNOW_AT_3000, refused(7)]),
+    ("F E 75400 110 20 0 D 24 2 2000 920 50 R 1000 1000", &[2_000], &[AT_2000]),
+    // 7 is before 8, 9, 19 and 10 and after 1 to 6.
     ("F G 75000 120 60 60 D 0 2 0 249 0 L", &[100_000, 5], &[refused(7), refused(8)]),
     ("F G 75000 120 60 60 D 0 2 0 1000 1001 L", &[5, u64::MAX, 99_999], &[refused(9), refused(7), refused(9)]),
     ("F G 54999 120 60 60 D 0 2 0 1000 0 L", &[100_000, 5, 100_000], &[refused(7), refused(10), refused(7)]),
+    ("F G 75000 120 60 60 D 0 2 0 1000 0 L 499 1000", &[100_000, 5], &[refused(7), refused(19)]),
+    ("M G 60000 120 60 60 D 0 2 0 1000 0 L 1000 999", &[100_000, 5], &[refused(7), refused(19)]),
     ("F G 75000 120 60 60 D 0 1 0 249 0 L", &[100_000, 5], &[refused(6), refused(6)]),
     ("F G 29999 120 60 60 D 0 2 0 1000 0 L", &[u64::MAX; 24], &[refused(1); 24]),
 ];
@@ -63,10 +71,11 @@ const REFUSED: &[(&str, usize, usize, i32)] = &[
     ("F E 75400 110 20 0 D 24 2  920 50 R", 1, 12, -15),
     ("F E 75400 110 20 0 D 24 2 02000 920 50 R", 1, 12, -15),
     ("F E 75400 110 20 0 D 24 2 100000 920 50 R", 1, 12, -15),
+    ("F E 75400 110 20 0 D 24 2 2000 920 50 R 1000", 1, 12, -15),
 ];
 
 // What must come up in a run of 100,000: results of refused calls, refusals and letters of positions.
-const OUTCOMES: [&str; 18] = ["-15", "-18", "1", "2", "3", "4", "5", "6", "7", "8", "9", "10", "A", "B", "C", "D", "E", "F"];
+const OUTCOMES: [&str; 19] = ["-15", "-18", "1", "2", "3", "4", "5", "6", "7", "8", "9", "10", "19", "A", "B", "C", "D", "E", "F"];
 const LEAST_OF_EACH: u64 = 1_000;
 
 // Numbers on both sides of a lent buffer.
@@ -156,20 +165,20 @@ fn draw_count(draw: &mut Draw) -> u64 {
     }
 }
 
-// A demand for a case, which comes with its F if 1 to 10 do not refuse it.
-fn draw_any_demand(draw: &mut Draw, method: &Method, accepted: &Option<(Case, u64)>) -> u64 {
+// A demand for a case, which comes with its curve if it is accepted.
+fn draw_any_demand(draw: &mut Draw, method: &Method, accepted: &Option<(Case, Curve)>) -> u64 {
     match (draw.from(0, 8), accepted) {
         (0, _) => draw.one_of(&[0, 1, GREATEST_DEMAND, GREATEST_DEMAND + 1, GREATEST_DEMAND + 2]),
         (1, _) => draw.one_of(&LARGE) - 1 + draw.from(0, 2),
         (2, _) => draw.bits() >> draw.from(0, 63),
         (3, _) | (_, None) => draw.from(0, 19_999),
-        (_, Some((case, free_flow_speed))) => draw_demand(draw, method, case, *free_flow_speed),
+        (_, Some((case, curve))) => draw_demand(draw, method, case, curve),
     }
 }
 
 fn draw_call(draw: &mut Draw, method: &Method) -> Call {
     let line = draw_line(draw, method);
-    let accepted = lines::parse(&line).and_then(|case| Some((case, method.answer(&case).ok()?.free_flow_speed)));
+    let accepted = lines::parse(&line).filter(|case| planner_refusal(case).is_none()).and_then(|case| Some((case, method.curve(&case).ok()?)));
     let count = draw_count(draw);
     let demands: Vec<u64> = (0..count).map(|_| draw_any_demand(draw, method, &accepted)).collect();
     let length = draw_length(draw, demands.len());

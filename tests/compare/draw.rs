@@ -1,6 +1,8 @@
 // Random cases near every limit of the method, and lines damaged on purpose. The same seed draws the same cases.
 
-use crate::second::method::{passenger_cars, planner_refusal, Case, Kind, Median, Method, Terrain, Way, GREATEST_DEMAND};
+use crate::second::method::{
+    passenger_cars, planner_refusal, Case, Curve, Kind, Median, Method, Terrain, Way, Weather, GREATEST_DEMAND,
+};
 use std::fmt::Write;
 
 // Splitmix64.
@@ -50,6 +52,24 @@ fn draw_clearance(draw: &mut Draw) -> u64 {
     }
 }
 
+// Factors at and beside their ends, and low capacity factors, with which the rounding of b shows.
+fn draw_factor(draw: &mut Draw) -> u64 {
+    match draw.from(0, 4) {
+        0 => 1_000,
+        1 => draw.one_of(&[500, 501, 503, 505, 506, 999]),
+        2 => draw.from(500, 1_000),
+        _ => draw.from(750, 1_000),
+    }
+}
+
+// Clear on kind M, and on kind F two times in three.
+fn draw_weather(draw: &mut Draw, kind: Kind) -> Weather {
+    if kind == Kind::Multilane || !draw.once_in(3) {
+        return Weather::CLEAR;
+    }
+    Weather { speed_factor: if draw.once_in(2) { draw.from(700, 1_000) } else { draw_factor(draw) }, capacity_factor: draw_factor(draw) }
+}
+
 fn draw_road(draw: &mut Draw) -> Case {
     let kind = draw.one_of(&[Kind::Freeway, Kind::Multilane]);
     let medians: &[Median] = match kind {
@@ -74,6 +94,7 @@ fn draw_road(draw: &mut Draw) -> Case {
             _ => draw.from(0, 250),
         },
         terrain: draw.one_of(&[Terrain::Level, Terrain::Rolling]),
+        weather: draw_weather(draw, kind),
     }
 }
 
@@ -88,10 +109,20 @@ fn move_to_end(draw: &mut Draw, method: &Method, case: &mut Case) {
     case.speed = end + taken_off + draw.from(0, 2) - 1;
 }
 
+// Moves the speed factor so that F after it lies at or beside 50,000, on kind F.
+fn move_to_adjusted_end(draw: &mut Draw, method: &Method, case: &mut Case) {
+    let clear = Case { weather: Weather::CLEAR, ..*case };
+    if case.kind == Kind::Freeway && planner_refusal(&clear).is_none() {
+        if let Ok(free_flow_speed) = method.free_flow_speed(&clear) {
+            case.weather.speed_factor = 50_000_000_u64.div_ceil(free_flow_speed) + draw.from(0, 2) - 1;
+        }
+    }
+}
+
 // Puts some fields at or past a limit that a refusal guards.
 fn move_past_limits(draw: &mut Draw, case: &mut Case) {
     for _ in 0..draw.from(1, 3) {
-        match draw.from(0, 8) {
+        match draw.from(0, 10) {
             0 => case.speed = draw.one_of(&[0, 29_999, 30_000, 90_000, 90_001, 99_999]),
             1 => case.width = draw.one_of(&[0, 99, 100, 200, 201, 99_999]),
             2 => case.right = draw.one_of(&[400, 401, 99_999]),
@@ -100,19 +131,21 @@ fn move_past_limits(draw: &mut Draw, case: &mut Case) {
             5 => case.access = draw.one_of(&[48, 49, 200, 201, 99_999]),
             6 => case.lanes = draw.one_of(&[0, 1, 2, 3, 4, 8, 9, 99_999]),
             7 => case.factor = draw.one_of(&[0, 249, 250, 1_000, 1_001, 99_999]),
-            _ => case.share = draw.one_of(&[1_000, 1_001, 99_999]),
+            8 => case.share = draw.one_of(&[1_000, 1_001, 99_999]),
+            9 => case.weather.speed_factor = draw.one_of(&[0, 499, 500, 999, 1_000, 1_001, 99_999]),
+            _ => case.weather.capacity_factor = draw.one_of(&[0, 499, 500, 999, 1_000, 1_001, 99_999]),
         }
     }
 }
 
-// A demand near a change of letter, the breakpoint or a limit, for a case that 1 to 10 do not refuse.
-pub fn draw_demand(draw: &mut Draw, method: &Method, case: &Case, free_flow_speed: u64) -> u64 {
-    let volumes = method.service_volumes(case, free_flow_speed);
+// A demand near a change of letter, the breakpoint or a limit, for a case that is accepted, on its curve.
+pub fn draw_demand(draw: &mut Draw, method: &Method, case: &Case, curve: &Curve) -> u64 {
+    let volumes = method.service_volumes(case, curve);
     let demand = match draw.from(0, 9) {
         0 => draw.one_of(&[0, 1, 2, GREATEST_DEMAND - 1, GREATEST_DEMAND]),
         1 => draw.from(0, GREATEST_DEMAND),
         2 => {
-            let at_breakpoint = case.kind.breakpoint(free_flow_speed) * case.factor * case.lanes / passenger_cars(case) / 100;
+            let at_breakpoint = curve.breakpoint * case.factor * case.lanes / passenger_cars(case) / 100;
             at_breakpoint + draw.from(0, 2)
         }
         3..=5 => draw.one_of(&volumes) + draw.from(0, 2),
@@ -126,12 +159,15 @@ pub fn draw_case(draw: &mut Draw, method: &Method) -> Case {
     if draw.once_in(8) {
         move_to_end(draw, method, &mut case);
     }
+    if draw.once_in(16) {
+        move_to_adjusted_end(draw, method, &mut case);
+    }
     if draw.once_in(8) {
         move_past_limits(draw, &mut case);
     }
     case.demand = match planner_refusal(&case) {
-        None => match method.free_flow_speed(&case) {
-            Ok(free_flow_speed) => draw_demand(draw, method, &case, free_flow_speed),
+        None => match method.curve(&case) {
+            Ok(curve) => draw_demand(draw, method, &case, &curve),
             Err(_) => draw.from(0, 10_000),
         },
         Some(_) => draw.from(0, GREATEST_DEMAND),
@@ -139,7 +175,7 @@ pub fn draw_case(draw: &mut Draw, method: &Method) -> Case {
     case
 }
 
-// A case that 1 to 10 do not refuse.
+// A case that is accepted.
 pub fn draw_accepted_case(draw: &mut Draw, method: &Method) -> Case {
     loop {
         let case = draw_case(draw, method);
@@ -149,7 +185,7 @@ pub fn draw_accepted_case(draw: &mut Draw, method: &Method) -> Case {
     }
 }
 
-// A case as a line, appended to what is there.
+// A case as a line, appended to what is there: 13 fields in clear weather, else 15.
 pub fn append_line(line: &mut String, case: &Case) {
     let kind = match case.kind {
         Kind::Freeway => 'F',
@@ -174,6 +210,10 @@ pub fn append_line(line: &mut String, case: &Case) {
         "{kind}\t{way}\t{speed}\t{width}\t{right}\t{left}\t{median}\t{access}\t{lanes}\t{demand}\t{factor}\t{share}\t{terrain}"
     );
     written.expect("a string can be written to");
+    if case.weather != Weather::CLEAR {
+        let Weather { speed_factor, capacity_factor } = case.weather;
+        write!(line, "\t{speed_factor}\t{capacity_factor}").expect("a string can be written to");
+    }
 }
 
 pub fn line_of(case: &Case) -> Vec<u8> {
@@ -242,9 +282,13 @@ pub fn damage(draw: &mut Draw, line: &mut Vec<u8>) {
     }
 }
 
-// The line of a random case, one in four damaged once to three times.
+// The line of a random case, clear weather written out one time in four, one in four damaged once to three times.
 pub fn draw_line(draw: &mut Draw, method: &Method) -> Vec<u8> {
-    let mut line = line_of(&draw_case(draw, method));
+    let case = draw_case(draw, method);
+    let mut line = line_of(&case);
+    if case.weather == Weather::CLEAR && draw.once_in(4) {
+        line.extend_from_slice(b"\t1000\t1000");
+    }
     if draw.once_in(4) {
         for _ in 0..draw.from(1, 3) {
             damage(draw, &mut line);

@@ -1,13 +1,13 @@
 // Laws of the method, sampled through the engine's own answers.
 //   - More demand, a greater heavy share, rolling instead of level terrain, a lower peak-hour factor or fewer lanes never get a better
-//     letter.
+//     letter, under one weather; fewer lanes in clear weather or on a given speed.
 //   - A demand is at most the service volume of a letter exactly when it gets the letter or a better one.
 //   - The lanes question answers the least count with which the engine's own answer is the letter or a better one.
 
 use super::draw::{draw_accepted_case, line_of, Draw};
 use super::engine;
 use super::tally::Tally;
-use crate::second::method::{Case, Method, Terrain, GREATEST_DEMAND};
+use crate::second::method::{Case, Method, Terrain, Way, Weather, GREATEST_DEMAND};
 
 // Letter and service volumes as the engine answers them, or its refusal. A is 1.
 struct Answer {
@@ -47,7 +47,7 @@ fn harder(draw: &mut Draw, case: &Case) -> Case {
         let least = if draw.once_in(2) { 250 } else { case.factor.saturating_sub(2).max(250) };
         harder.factor = draw.from(least, case.factor);
     }
-    if which & 16 > 0 {
+    if which & 16 > 0 && (case.weather == Weather::CLEAR || case.way == Way::Given) {
         harder.lanes = draw.from(2, case.lanes);
     }
     harder

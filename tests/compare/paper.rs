@@ -1,4 +1,4 @@
-// What documents 01 and 02 (T-02) say by figures, and figures worked out by hand from their rules, checked against both implementations.
+// What documents 01 and 02 (T-02, T-03) say by figures, and figures worked out by hand from their rules, checked against both implementations.
 // Lines are written with blanks for tabs; a - stands for a figure that is not checked there by itself.
 
 use super::engine;
@@ -65,6 +65,35 @@ const ANSWERS: &[(&str, &str)] = &[
     // Flow rates are rounded up: 999 × 1.05 / (0.92 × 2) = 570.08, 999 × 1.1 / (0.92 × 2) = 597.2.
     ("F G 60000 120 60 60 D 0 2 999 920 50 L", "A 60000 230000 571"),
     ("F G 60000 120 60 60 D 0 2 999 920 50 R", "A 60000 230000 598"),
+    // Weather. Both factors; the speed factor alone, to just above 50,000 and just below; the capacity factor alone.
+    ("F G 75000 120 60 60 D 0 2 3000 1000 0 L 950 900", "C 71250 216000 1500 66271 227 1566 2506 3294 3884 4320"),
+    ("F G 75000 120 60 60 D 0 2 3000 1000 0 L 667 1000", "D 50025 220025 1500 50025 300 1100 1800 2600 3500 4400"),
+    ("F G 75000 120 60 60 D 0 2 3000 1000 0 L 666 1000", "X 10"),
+    ("F G 75000 120 60 60 D 0 2 3000 1000 0 L 1000 500", "F 75000 120000 1500 0 0 1406 1836 2104 2280 2400"),
+    // b = 128,580 × 0.942 × 0.942, rounded down once.
+    ("F G 67855 120 60 60 D 0 2 3534 1000 0 L 1000 942", "D 67855 224059 1767 62000 285"),
+    // b and c from the F after its factor.
+    ("F G 60000 120 60 60 D 0 2 3000 1000 0 L 950 1000", "D 57000 227000 1500 57000 264"),
+    ("F G 60000 120 60 60 D 0 2 3800 1000 0 L 950 1000", "D 57000 227000 1900 56297 338"),
+    // The upper end before the factor; the limit of 55,000 before it and of 50,000 after it.
+    ("F G 90000 120 60 60 D 0 2 0 1000 0 L 900 1000", "A 67500"),
+    ("F G 55000 120 60 60 D 0 2 0 1000 0 L 910 1000", "A 50050"),
+    ("F G 55000 120 60 60 D 0 2 0 1000 0 L 909 1000", "X 10"),
+    ("F G 54999 120 60 60 D 0 2 0 1000 0 L 910 1000", "X 10"),
+    // An estimated speed in snow: document 02's words, where source 000 works c from the F before the factor (1,800).
+    ("F E 75400 110 20 0 D 24 2 2000 920 50 R 860 780", "C 52273 173372 1196 52222 230"),
+    // Clear weather written out.
+    ("F E 75400 110 20 0 D 24 2 2000 920 50 R 1000 1000", "C 60783 230783 1196 60783 197 1117 1829 2642 3360 3858"),
+    ("M G 60000 120 60 60 D 0 2 3600 1000 0 L 1000 1000", "D 60000 - 1800 55518 325"),
+    // 19: a factor out of range, or below 1,000 on kind M; after 9 and before 10.
+    ("F G 75000 120 60 60 D 0 2 3000 1000 0 L 500 1000", "X 10"),
+    ("F G 75000 120 60 60 D 0 2 3000 1000 0 L 499 1000", "X 19"),
+    ("F G 75000 120 60 60 D 0 2 3000 1000 0 L 1001 1000", "X 19"),
+    ("F G 75000 120 60 60 D 0 2 3000 1000 0 L 99999 1000", "X 19"),
+    ("F G 75000 120 60 60 D 0 2 3000 1000 0 L 0 0", "X 19"),
+    ("M G 60000 120 60 60 D 0 2 0 1000 0 L 999 1000", "X 19"),
+    ("M G 30000 120 60 60 D 0 2 0 1000 0 L 1000 999", "X 19"),
+    ("F G 75000 120 60 60 D 0 2 0 1000 1001 L 499 1000", "X 9"),
     // The greatest flow rate.
     ("F G 60000 120 60 60 D 0 2 99999 250 1000 R", "F 60000 230000 599994 0 0"),
 ];
@@ -92,6 +121,15 @@ const LANES: &[(u32, &str, &str)] = &[
     (5, "M G 60000 120 60 60 D 0 2 4400 1000 0 L", "2"),
     (5, "M G 60000 120 60 60 D 0 2 6600 1000 0 L", "3"),
     (5, "M G 60000 120 60 60 D 0 2 6601 1000 0 L", "X 14"),
+    // In snow: D with 2 lanes and 2,222 vehicles. F after its factor is below 50,000 with one count, two, and all.
+    (3, "F E 75400 110 20 0 D 24 2 2221 920 50 R 860 780", "2"),
+    (3, "F E 75400 110 20 0 D 24 2 2222 920 50 R 860 780", "3"),
+    (5, "F E 59600 120 0 0 D 0 2 0 1000 0 L 880 1000", "3"),
+    (5, "F E 58600 120 0 0 D 0 2 0 1000 0 L 880 1000", "4"),
+    (5, "F E 58600 120 0 0 D 0 2 0 1000 0 L 861 1000", "X 14"),
+    // 19 before 14, after 16.
+    (5, "F G 75000 120 60 60 D 0 2 99999 1000 0 L 499 1000", "X 19"),
+    (5, "M G 44999 120 60 60 D 0 2 0 1000 0 L 1000 999", "X 19"),
 ];
 
 // Chapter 26 of the manual, its examples 1 to 3. The first is the document's line. The second and third are from memory, not from the book.
@@ -177,9 +215,9 @@ const SURVEYS: &[(Unit, f32, u32, u32, i32)] = &[
     (Unit::KilometresPerHour, 100.0, 100, u32::MAX, -12),
 ];
 
-// The refusals 1 to 10 of each kind: number, field (the first is 0), least and greatest value that it does not refuse. Where no value is
-// too small, the least is 0. 7 cannot be put on a line.
-const FREEWAY_LIMITS: [(i32, usize, u64, u64); 9] = [
+// The refusals 1 to 10 and 19 of each kind: number, field (the first is 0), least and greatest value that it does not refuse. Where no
+// value is too small, the least is 0. 7 cannot be put on a line, and a speed factor of 500 leaves no F of 50,000: it is among the answers.
+const FREEWAY_LIMITS: [(i32, usize, u64, u64); 10] = [
     (1, 2, 55_000, 90_000),
     (2, 3, 100, 200),
     (3, 4, 0, 400),
@@ -188,9 +226,10 @@ const FREEWAY_LIMITS: [(i32, usize, u64, u64); 9] = [
     (6, 8, 2, 8),
     (8, 10, 250, 1_000),
     (9, 11, 0, 1_000),
+    (19, 14, 500, 1_000),
     (10, 2, 55_000, 90_000),
 ];
-const MULTILANE_LIMITS: [(i32, usize, u64, u64); 9] = [
+const MULTILANE_LIMITS: [(i32, usize, u64, u64); 11] = [
     (1, 2, 45_000, 90_000),
     (2, 3, 100, 200),
     (3, 4, 0, 400),
@@ -199,11 +238,13 @@ const MULTILANE_LIMITS: [(i32, usize, u64, u64); 9] = [
     (6, 8, 2, 3),
     (8, 10, 250, 1_000),
     (9, 11, 0, 1_000),
+    (19, 13, 1_000, 1_000),
+    (19, 14, 1_000, 1_000),
     (10, 2, 45_000, 90_000),
 ];
 
-// A fault for each refusal: number, field, value.
-const FREEWAY_FAULTS: [(i32, usize, &str); 9] = [
+// A fault for each refusal, in their order: number, field, value.
+const FREEWAY_FAULTS: [(i32, usize, &str); 11] = [
     (1, 2, "29999"),
     (2, 3, "99"),
     (3, 5, "401"),
@@ -212,12 +253,23 @@ const FREEWAY_FAULTS: [(i32, usize, &str); 9] = [
     (6, 8, "9"),
     (8, 10, "249"),
     (9, 11, "1001"),
+    (19, 13, "499"),
+    (19, 14, "1001"),
     (10, 2, "54999"),
 ];
-const MULTILANE_FAULTS: [(i32, usize, &str); 8] =
-    [(1, 2, "90001"), (2, 3, "201"), (3, 4, "401"), (5, 7, "201"), (6, 8, "4"), (8, 10, "1001"), (9, 11, "99999"), (10, 2, "44999")];
-const FREEWAY: &str = "F G 60000 120 60 60 D 0 2 1000 1000 0 L";
-const MULTILANE: &str = "M G 60000 120 60 60 D 0 2 1000 1000 0 L";
+const MULTILANE_FAULTS: [(i32, usize, &str); 9] = [
+    (1, 2, "90001"),
+    (2, 3, "201"),
+    (3, 4, "401"),
+    (5, 7, "201"),
+    (6, 8, "4"),
+    (8, 10, "1001"),
+    (9, 11, "99999"),
+    (19, 14, "999"),
+    (10, 2, "44999"),
+];
+const FREEWAY: &str = "F G 60000 120 60 60 D 0 2 1000 1000 0 L 1000 1000";
+const MULTILANE: &str = "M G 60000 120 60 60 D 0 2 1000 1000 0 L 1000 1000";
 
 // Malformed lines. A ~ stands for a tab beside one.
 const MALFORMED: &[&str] = &[
@@ -254,6 +306,17 @@ const MALFORMED: &[&str] = &[
     "F G 60000 120 60 60 D 0 2 1000 1000 0 L\r",
     "F G 60000 120 60 60 D 0 2 1000 1000 0 L\n",
     "F G 60000 120 60 60 D 0 2 1000 1000 0 L\0",
+    // 14 fields, 16, and 15 of which a factor is malformed.
+    "F G 60000 120 60 60 D 0 2 1000 1000 0 L 1000",
+    "F G 60000 120 60 60 D 0 2 1000 1000 0 L 1000 1000 1000",
+    "F G 60000 120 60 60 D 0 2 1000 1000 0 L 1000 1000 ",
+    "F G 60000 120 60 60 D 0 2 1000 1000 0 L 1000 ",
+    "F G 60000 120 60 60 D 0 2 1000 1000 0 L  ",
+    "F G 60000 120 60 60 D 0 2 1000 1000 0 L 0950 1000",
+    "F G 60000 120 60 60 D 0 2 1000 1000 0 L 1000 0950",
+    "F G 60000 120 60 60 D 0 2 1000 1000 0 L 1000 100000",
+    "F G 60000 120 60 60 D 0 2 1000 1000 0 L 1.0 1000",
+    "F G 60000 120 60 60 D 0 2 1000 1000 0 1000 1000 L",
     // 80 and 81 bytes.
     "F G 60000 120 60 60 D 0 2 1000 1000 00000000000000000000000000000000000000000000 L",
     "F G 60000 120 60 60 D 0 2 1000 1000 000000000000000000000000000000000000000000000 L",
@@ -356,8 +419,8 @@ impl Paper<'_> {
 
     // The values at a limit are accepted, those past it refused with its number.
     fn limits(&mut self) {
-        for (line, limits) in [(FREEWAY, FREEWAY_LIMITS), (MULTILANE, MULTILANE_LIMITS)] {
-            for (number, field, least, most) in limits {
+        for (line, limits) in [(FREEWAY, &FREEWAY_LIMITS[..]), (MULTILANE, &MULTILANE_LIMITS[..])] {
+            for &(number, field, least, most) in limits {
                 for value in [least, most] {
                     self.accepted(&with_field(line, field, &value.to_string()));
                 }
@@ -383,7 +446,7 @@ impl Paper<'_> {
         self.tally.check(!text.starts_with('X'), || format!("{line}: engine {text:?}, the document accepts it"));
     }
 
-    // Of two faults the one with the smaller number is refused. The lanes question passes over 10.
+    // Of two faults the one that comes first is refused. The lanes question passes over 10.
     fn order(&mut self) {
         for (line, faults) in [(FREEWAY, &FREEWAY_FAULTS[..]), (MULTILANE, &MULTILANE_FAULTS[..])] {
             for (place, &(number, field, value)) in faults.iter().enumerate() {

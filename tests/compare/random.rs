@@ -9,9 +9,9 @@ use crate::second::method::Method;
 const LETTERS: [u32; 14] = [1, 2, 3, 4, 5, 0, 6, 7, 255, 256, 257, 65_537, 0x8000_0001, u32::MAX];
 
 // What must come up in a run of a million: every letter, lane count and refusal of a line.
-const OUTCOMES: [&str; 26] = [
+const OUTCOMES: [&str; 27] = [
     "A", "B", "C", "D", "E", "F", "2", "3", "4", "5", "6", "7", "8", "X1", "X2", "X3", "X4", "X5", "X6", "X8", "X9", "X10", "X14", "X15",
-    "X16", "X17",
+    "X16", "X17", "X19",
 ];
 const LEAST_OF_EACH: u64 = 1_000;
 
@@ -99,9 +99,9 @@ impl Random<'_> {
     pub fn every_demand(&mut self, count: u64) {
         for _ in 0..count {
             let case = draw_accepted_case(&mut self.draw, self.method);
-            let speed = self.method.free_flow_speed(&case).expect("the case is accepted");
-            let by_runs = self.method.service_volumes(&case, speed);
-            let by_every = [1, 2, 3, 4, 5].map(|letter| self.method.service_volume_by_every_demand(&case, speed, letter));
+            let curve = self.method.curve(&case).expect("the case is accepted");
+            let by_runs = self.method.service_volumes(&case, &curve);
+            let by_every = [1, 2, 3, 4, 5].map(|letter| self.method.service_volume_by_every_demand(&case, &curve, letter));
             self.tally.equal(by_runs, by_every, || format!("service volumes of the second implementation, {case:?}"));
         }
     }

@@ -1,10 +1,12 @@
-// The traps that document 01 names, and three of clearances (document 02, T-02). Each is written out as a formula, with an input at which
+// The traps that document 01 names, three of clearances and five of weather (document 02, T-02 and T-03). Each is written out as a formula, with an input at which
 // it answers something else: both implementations must give the right answer there, and the trap its wrong one.
 
 use super::engine;
 use super::tally::Tally;
 use crate::second::lines;
-use crate::second::method::{density, flow_rate, millionths, passenger_cars, speed_at_weight, Case, Kind, Method, LETTER_F};
+use crate::second::method::{
+    density, flow_rate, millionths, passenger_cars, planner_refusal, speed_at_weight, Case, Curve, Kind, Method, Weather, LETTER_F,
+};
 
 struct Trap {
     name: &'static str,
@@ -81,11 +83,51 @@ const TRAPS: &[Trap] = &[
         wrong: "A 59250 218500 500 59250 85",
         formula: sides_alone,
     },
+    Trap {
+        name: "b rounded down after each factor",
+        letter: 0,
+        line: "F G 67855 120 60 60 D 0 2 3534 1000 0 L 1000 942",
+        right: "D 67855 224059 1767 62000 285",
+        wrong: "D 67855 224059 1767 61999 286",
+        formula: breakpoint_rounded_twice,
+    },
+    Trap {
+        name: "b from the F before the factor",
+        letter: 0,
+        line: "F G 60000 120 60 60 D 0 2 3800 1000 0 L 950 1000",
+        right: "D 57000 227000 1900 56297 338",
+        wrong: "D 57000 227000 1900 55685 342",
+        formula: breakpoint_before_factor,
+    },
+    Trap {
+        name: "c from the F before the factor",
+        letter: 0,
+        line: "F E 75400 110 20 0 D 24 2 2000 920 50 R 860 780",
+        right: "C 52273 173372 1196 52222 230",
+        wrong: "C 52273 180010 1196 52237 229",
+        formula: capacity_before_factor,
+    },
+    Trap {
+        name: "the factor before the upper end",
+        letter: 0,
+        line: "F G 90000 120 60 60 D 0 2 3000 1000 0 L 900 1000",
+        right: "C 67500 237500 1500 66990 224",
+        wrong: "C 75000 240000 1500 72236 208",
+        formula: factor_before_upper_end,
+    },
+    Trap {
+        name: "19 after 10",
+        letter: 0,
+        line: "M G 30000 120 60 60 D 0 2 3000 1000 0 L 1000 999",
+        right: "X 19",
+        wrong: "X 10",
+        formula: weather_after_speed,
+    },
 ];
 
 // The first six fields of an answer, with blanks.
-fn fields(case: &Case, letter: u32, free_flow_speed: u64, flow_rate: u64, speed: u64, density: u64) -> String {
-    let capacity = case.kind.capacity(free_flow_speed);
+fn fields(curve: &Curve, letter: u32, flow_rate: u64, speed: u64, density: u64) -> String {
+    let Curve { free_flow_speed, capacity, .. } = curve;
     format!("{} {free_flow_speed} {capacity} {flow_rate} {speed} {density}", lines::letter_name(letter))
 }
 
@@ -97,18 +139,22 @@ fn free_flow_speed(method: &Method, case: &Case) -> u64 {
     method.free_flow_speed(case).expect("10 does not refuse the case")
 }
 
+fn curve(method: &Method, case: &Case) -> Curve {
+    method.curve(case).expect("10 does not refuse the case")
+}
+
 fn divided_by_share(method: &Method, case: &Case) -> String {
-    let speed = free_flow_speed(method, case);
     let wrong = (case.demand * 1_000 * 1_000).div_ceil(case.factor * case.lanes * passenger_cars(case));
-    let service = method.service(case.kind, speed, wrong);
-    fields(case, service.letter, speed, wrong, service.speed, service.density)
+    let curve = curve(method, case);
+    let service = method.service(&curve, wrong);
+    fields(&curve, service.letter, wrong, service.speed, service.density)
 }
 
 fn letter_from_shown_speed(method: &Method, case: &Case) -> String {
-    let (speed, flow) = (free_flow_speed(method, case), flow_rate(case));
-    let shown = method.service(case.kind, speed, flow).speed;
+    let (curve, flow) = (curve(method, case), flow_rate(case));
+    let shown = method.service(&curve, flow).speed;
     let wrong = (10_000 * flow).div_ceil(shown);
-    fields(case, letter_of(wrong), speed, flow, shown, wrong)
+    fields(&curve, letter_of(wrong), flow, shown, wrong)
 }
 
 fn rounded_to_five(method: &Method, case: &Case) -> String {
@@ -116,24 +162,29 @@ fn rounded_to_five(method: &Method, case: &Case) -> String {
 }
 
 fn kept_free_flow_speed(method: &Method, case: &Case) -> String {
-    let wrong = free_flow_speed(method, case);
-    let meets = |&lanes: &u64| method.letter(case.kind, wrong, flow_rate(&Case { lanes, ..*case })) <= 1;
+    let wrong = curve(method, case);
+    let meets = |&lanes: &u64| method.letter(&wrong, flow_rate(&Case { lanes, ..*case })) <= 1;
     case.kind.lane_counts().find(meets).map_or("X 14".to_string(), |lanes| lanes.to_string())
 }
 
 fn freeway_breakpoint(method: &Method, case: &Case) -> String {
-    let (speed, flow) = (free_flow_speed(method, case), flow_rate(case));
-    let (wrong, c) = (Kind::Freeway.breakpoint(speed), case.kind.capacity(speed));
+    let (curve, flow) = (curve(method, case), flow_rate(case));
+    let (wrong, c) = (Kind::Freeway.breakpoint(curve.free_flow_speed), curve.capacity);
     let i = (1_000 * (100 * flow).saturating_sub(wrong)).div_ceil(c - wrong);
-    let exact = speed_at_weight(case.kind, speed, millionths(method.power(i)));
+    let exact = speed_at_weight(&curve, millionths(method.power(i)));
     let density = density(exact, flow).rounded_up();
-    fields(case, letter_of(density), speed, flow, exact.rounded_down(), density)
+    fields(&curve, letter_of(density), flow, exact.rounded_down(), density)
 }
 
-// The answer with a wrong F.
+// The answer on a wrong curve.
+fn on_curve(method: &Method, case: &Case, wrong: Curve) -> String {
+    let service = method.service(&wrong, flow_rate(case));
+    fields(&wrong, service.letter, flow_rate(case), service.speed, service.density)
+}
+
+// The answer with a wrong F, in clear weather.
 fn with_speed(method: &Method, case: &Case, wrong: u64) -> String {
-    let service = method.service(case.kind, wrong, flow_rate(case));
-    fields(case, service.letter, wrong, flow_rate(case), service.speed, service.density)
+    on_curve(method, case, Curve::clear(case.kind, wrong))
 }
 
 fn cut_to_whole_feet(method: &Method, case: &Case) -> String {
@@ -150,6 +201,37 @@ fn sides_alone(method: &Method, case: &Case) -> String {
     let [none, right, left] = [(60, 60), (case.right, 60), (60, case.left)]
         .map(|(right, left)| free_flow_speed(method, &Case { right, left, ..*case }));
     with_speed(method, case, none - (none - right) - (none - left))
+}
+
+// F before its factor.
+fn unadjusted_speed(method: &Method, case: &Case) -> u64 {
+    free_flow_speed(method, &Case { weather: Weather::CLEAR, ..*case })
+}
+
+fn breakpoint_rounded_twice(method: &Method, case: &Case) -> String {
+    let curve = curve(method, case);
+    let once = case.kind.breakpoint(curve.free_flow_speed) * case.weather.capacity_factor / 1_000;
+    on_curve(method, case, Curve { breakpoint: once * case.weather.capacity_factor / 1_000, ..curve })
+}
+
+fn breakpoint_before_factor(method: &Method, case: &Case) -> String {
+    let wrong = case.kind.breakpoint(unadjusted_speed(method, case)) * case.weather.capacity_factor.pow(2) / 1_000_000;
+    on_curve(method, case, Curve { breakpoint: wrong, ..curve(method, case) })
+}
+
+fn capacity_before_factor(method: &Method, case: &Case) -> String {
+    let wrong = case.kind.capacity(unadjusted_speed(method, case)) * case.weather.capacity_factor / 1_000;
+    on_curve(method, case, Curve { capacity: wrong, ..curve(method, case) })
+}
+
+fn factor_before_upper_end(method: &Method, case: &Case) -> String {
+    with_speed(method, case, (case.speed * case.weather.speed_factor / 1_000).min(*case.kind.free_flow_speeds().end()))
+}
+
+// 10 asked first.
+fn weather_after_speed(method: &Method, case: &Case) -> String {
+    let number = method.curve(case).err().or(planner_refusal(case)).expect("the case is refused");
+    format!("X {number}")
 }
 
 // Blanks for tabs, and no more fields than there are wanted.

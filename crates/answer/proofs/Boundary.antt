@@ -9,7 +9,7 @@
 --   boundary-shown     each figure of the list is what is to be shown
 -- Assumes nothing.
 use mathlib.Core.Path.{_≡_, refl, ap, _∙_}
-use mathlib.Core.Bool.{Bool, _&&_}
+use mathlib.Core.Bool.{Bool, false, _&&_}
 use mathlib.Core.List.{List, [], _∷_}
 use Prim.Native.Nat.{ℕ, _≤_}
 use native.Mathlib.Omega.{arith}
@@ -19,16 +19,19 @@ use Rattle.numbers.specs.Division.{divUp}
 use Rattle.numbers.specs.Search.{leastFrom, least, endsAt}
 use Rattle.numbers.proofs.SearchLaws.{greatest-last}
 use Rattle.numbers.proofs.BoolLaws.{and-left, and-right}
+use Rattle.checks.specs.Refusals.{refuses}
 use Rattle.checks.specs.Figures.{Shown}
 use Rattle.checks.proofs.FigureLaws.{Shown-append}
 use Rattle.curve.specs.declared.kind.Kind.the-variants as Kind
 use Rattle.curve.specs.declared.Curve.{Curve}
 use Rattle.curve.specs.Curves.{capacity, breakpoint}
-use Rattle.curve.specs.Weather.{adjustedSpeed, adjustedCapacity, adjustedBreakpoint, curveUnder}
+use Rattle.curve.specs.declared.Weather.{Weather}
+use Rattle.curve.specs.Weather.{factors, clear, adjustedSpeed, adjustedCapacity, adjustedBreakpoint, curveUnder}
 use Rattle.curve.specs.Speed.{fallShareBy, speed, shownSpeed}
 use Rattle.curve.specs.Service.{density, shownDensity, densityLetter, letterAt, meetsLimit, densityLimit, performance}
 use Rattle.road.specs.Interpolation.{entryBefore, entryAfter, weightedSum, interpolated}
 use Rattle.road.specs.Adjustments.{laneWidthAdjustment, perMissingFoot, rightClearanceRow, rightClearanceAdjustment}
+use Rattle.road.specs.declared.Road.{Road}
 use Rattle.road.specs.declared.Case.{Case}
 use Rattle.road.specs.FreeFlowSpeed.{estimatedBy, uncappedBy, freeFlowSpeed}
 use Rattle.road.specs.Refusals.{greatestDemand, weatherUnfit, roadRefusals, loadRefusals, fieldRefusals}
@@ -73,14 +76,36 @@ pub snow-accepted : Accepted (givenInSnow 2 3000) × Accepted (exampleInSnow 200
 unfolding uncappedBy freeFlowSpeed weatherUnfit roadRefusals loadRefusals fieldRefusals adjustedSpeed speedRefusals refusals
 snow-accepted = (refl, simp (example-speeds .0))
 
--- their curves, by F, c and b
+-- ---- curves
 abbrev freeway : (f c b : ℕ) → Curve
 freeway f c b = record { kind = Kind.Freeway; «free_flow_speed» = f; capacity = c; breakpoint = b }
 
-curves : (caseCurve example ≡ freeway 60783 230783 156868) × (caseCurve (givenInSnow 2 3000) ≡ freeway 71250 216000 93150)
-    × (caseCurve (exampleInSnow 2000) ≡ freeway 52273 173372 116148)
-unfolding uncappedBy freeFlowSpeed capacity breakpoint adjustedSpeed adjustedCapacity adjustedBreakpoint curveUnder curveOf
-curves = (simp (example-speeds .0), refl, simp (example-speeds .0))
+-- the curve of a road with n lanes under weather, by F, c and b; 10 does not refuse it
+abbrev HasCurve : Road → Weather → (n f c b : ℕ) → Type 0
+HasCurve road weather n f c b =
+    (curveOf road weather n ≡ freeway f c b) × (speedRefusals road weather n ≡ refuses 10 false ∷ refuses 10 false ∷ [])
+
+example-curves : HasCurve (example .road) clear 2 60783 230783 156868 × HasCurve (example .road) clear 3 61583 231583 153668
+    × HasCurve (example .road) clear 4 62383 232383 150468 × HasCurve (example .road) clear 5 62783 232783 148868
+    × HasCurve (example .road) clear 6 62783 232783 148868 × HasCurve (example .road) clear 7 62783 232783 148868
+    × HasCurve (example .road) clear 8 62783 232783 148868
+unfolding capacity breakpoint adjustedSpeed adjustedCapacity adjustedBreakpoint curveUnder speedRefusals curveOf
+example-curves =
+    let speed = example-speeds in (
+      (simp (speed .0), simp (speed .0)),
+      (simp (speed .1), simp (speed .1)),
+      (simp (speed .2), simp (speed .2)),
+      (simp (speed .3), simp (speed .3)),
+      (simp (speed .4), simp (speed .4)),
+      (simp (speed .5), simp (speed .5)),
+      (simp (speed .6), simp (speed .6)),
+    )
+
+snow-curves : HasCurve (givenInSnow 2 3000 .road) (factors 950 900) 2 71250 216000 93150
+    × HasCurve (example .road) (factors 860 780) 2 52273 173372 116148 × HasCurve (example .road) (factors 860 780) 3 52961 173909 114474
+unfolding uncappedBy freeFlowSpeed capacity breakpoint adjustedSpeed adjustedCapacity adjustedBreakpoint curveUnder speedRefusals curveOf
+snow-curves =
+    let speed = example-speeds in ((refl, refl), (simp (speed .0), simp (speed .0)), (simp (speed .1), simp (speed .1)))
 
 abbrev VolumesOf : Case → (s₁ s₂ s₃ s₄ s₅ : ℕ) → Type 0
 VolumesOf case s₁ s₂ s₃ s₄ s₅ =
@@ -113,15 +138,15 @@ module _ (case : Case) (curve : Curve) (a : Accepted case) (own : caseCurve case
 
 pub volumes : VolumesOf example 1117 1829 2642 3360 3858
 unfolding divUp endsAt heavyFactor flowRate fallShareBy speed density meetsLimit densityLimit demandMeets ends
-volumes = five example (freeway 60783 230783 156868) example-accepted (curves .0) 1117 1829 2642 3360 3858 tt tt tt tt tt
+volumes = five example (freeway 60783 230783 156868) example-accepted (example-curves .0 .0) 1117 1829 2642 3360 3858 tt tt tt tt tt
 
 pub given-volumes : VolumesOf (givenInSnow 2 3000) 1566 2506 3294 3884 4320
 unfolding divUp endsAt heavyFactor flowRate fallShareBy speed density meetsLimit densityLimit demandMeets ends
-given-volumes = five (givenInSnow 2 3000) (freeway 71250 216000 93150) (snow-accepted .0) (curves .1) 1566 2506 3294 3884 4320 tt tt tt tt tt
+given-volumes = five (givenInSnow 2 3000) (freeway 71250 216000 93150) (snow-accepted .0) (snow-curves .0 .0) 1566 2506 3294 3884 4320 tt tt tt tt tt
 
 pub snow-volumes : VolumesOf (exampleInSnow 2000) 961 1572 2221 2636 2898
 unfolding divUp endsAt heavyFactor flowRate fallShareBy speed density meetsLimit densityLimit demandMeets ends
-snow-volumes = five (exampleInSnow 2000) (freeway 52273 173372 116148) (snow-accepted .1) (curves .2) 961 1572 2221 2636 2898 tt tt tt tt tt
+snow-volumes = five (exampleInSnow 2000) (freeway 52273 173372 116148) (snow-accepted .1) (snow-curves .1 .0) 961 1572 2221 2636 2898 tt tt tt tt tt
 
 -- ---- the figures
 -- the number of an answer's refusal and its values
@@ -163,23 +188,43 @@ example-figures = ap (drop 1) example-answer
 abbrev counted : Case → ℕ → List ℕ
 counted case n = refusalNumber (lanesAnswer case n) ∷ values (lanesAnswer case n)
 
--- the lanes of the printed case, with more demand, with a letter number past E; of the case that 10 refuses; in snow; and 19
+-- the lanes of the printed case, with more demand, with a letter number past E; in snow; and 19
 lanes-shown : (counted example 3 ≡ 0 ∷ 2 ∷ []) × (counted (exampleWith 2643) 3 ≡ 0 ∷ 3 ∷ []) × (counted (exampleWith 99999) 3 ≡ 14 ∷ [])
-    × (counted example 6 ≡ 16 ∷ []) × (counted estimated 1 ≡ 0 ∷ 4 ∷ []) × (counted (exampleInSnow 2222) 3 ≡ 0 ∷ 3 ∷ [])
-    × (counted refusedBy19 1 ≡ 19 ∷ [])
+    × (counted example 6 ≡ 16 ∷ []) × (counted (exampleInSnow 2222) 3 ≡ 0 ∷ 3 ∷ []) × (counted refusedBy19 1 ≡ 19 ∷ [])
+unfolding divUp leastFrom least weatherUnfit roadRefusals loadRefusals fieldRefusals refusals heavyFactor flowRate fallShareBy speed
+    shownSpeed density shownDensity densityLimit densityLetter letterAt performance measures meets lanesFound lanesRefusals
+lanes-shown =
+    let c = example-curves in
+    let s = snow-curves in (
+      simp (c .0 .0, c .0 .1, c .1 .0, c .1 .1),
+      simp (c .0 .0, c .0 .1, c .1 .0, c .1 .1),
+      simp (
+        c .0 .0,
+        c .0 .1,
+        c .1 .0,
+        c .1 .1,
+        c .2 .0,
+        c .2 .1,
+        c .3 .0,
+        c .3 .1,
+        c .4 .0,
+        c .4 .1,
+        c .5 .0,
+        c .5 .1,
+        c .6 .0,
+        c .6 .1,
+      ),
+      refl,
+      simp (s .1 .0, s .1 .1, s .2 .0, s .2 .1),
+      refl,
+    )
+
+-- the lanes of the case that 10 refuses
+estimated-shown : counted estimated 1 ≡ 0 ∷ 4 ∷ []
 unfolding divUp leastFrom least weatherUnfit roadRefusals loadRefusals fieldRefusals adjustedSpeed speedRefusals refusals capacity breakpoint
     adjustedCapacity adjustedBreakpoint curveUnder curveOf heavyFactor flowRate fallShareBy speed shownSpeed density shownDensity densityLimit
     densityLetter letterAt performance measures meets lanesFound lanesRefusals
-lanes-shown =
-    let speed = example-speeds in (
-      simp (speed .0, speed .1),
-      simp (speed .0, speed .1),
-      simp (speed .0, speed .1, speed .2, speed .3, speed .4, speed .5, speed .6),
-      refl,
-      simp (estimated-speeds .0, estimated-speeds .1, estimated-speeds .2),
-      simp (speed .0, speed .1),
-      refl,
-    )
+estimated-shown = simp (estimated-speeds .0, estimated-speeds .1, estimated-speeds .2)
 
 pub none-at-99999 : counted (exampleWith 99999) 3 ≡ 14 ∷ []
 none-at-99999 = lanes-shown .2
@@ -188,7 +233,7 @@ added-shown : Shown addedFigures
 unfolding addedFigures
 added-shown =
     let a = answers-shown in
-    let l = lanes-shown in (a .0, (l .0, (l .1, (l .2, (l .3, (a .1, (l .4, (a .2, (a .3, (l .5, (l .6, tt)))))))))))
+    let l = lanes-shown in (a .0, (l .0, (l .1, (l .2, (l .3, (a .1, (estimated-shown, (a .2, (a .3, (l .4, (l .5, tt)))))))))))
 
 pub boundary-shown : Shown boundaryFigures
 boundary-shown = Shown-append specs-method.boundaryFigures addedFigures method.boundary-shown added-shown
