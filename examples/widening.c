@@ -2,14 +2,14 @@
 
      widening LINE GROWTH LETTER YEARS
 
-   LINE is a section's line (13 fields parted by tabs), GROWTH the yearly growth of its demand in thousandths, LETTER the target, A to E,
+   LINE is a section's line (13 or 15 fields parted by tabs), GROWTH the yearly growth of its demand in thousandths, LETTER the target, A to E,
    YEARS how many years to look ahead. For each year, from 0 for the section as given, a row: year, demand, letter, and the lanes that the
    target needs, or 'none' where no lane count meets it. The rows end before a demand above 99,999, which no line can hold.
 
    The last lines, each where it holds:
 
      demand passes 99999 in year N        the first year without a row
-     must be wider in year N              the first year in which more lanes than the section has meet the target, and its own do not
+     must be wider in year N              the first year in which some lane count meets the target, and the section's own does not
      need not be wider in years 0 to N    the section meets the target in these years
      no widening suffices from year N     no lane count meets the target in that year or in a later one
 
@@ -31,7 +31,6 @@
 #include <string.h>
 
 enum {
-    LANES_FIELD = 9,
     DEMAND_FIELD = 10,
     GREATEST_DEMAND = 99999,
     LINE_SIZE = 81 /* 80 bytes and the zero byte */
@@ -54,14 +53,14 @@ struct year {
 /* The first year of each sort, or the year after the last one looked at. */
 struct first_years {
     unsigned long passed; /* the demand is above GREATEST_DEMAND */
-    unsigned long narrow; /* some lane count meets the target, and it is more than the section has */
+    unsigned long narrow; /* some lane count meets the target, and the section's own does not */
     unsigned long unmet;  /* no lane count meets the target */
 };
 
 static int usage(void)
 {
     fprintf(stderr, "usage: widening LINE GROWTH LETTER YEARS\n"
-                    "LINE: 13 fields parted by tabs; GROWTH: thousandths a year, 0 to 99999; LETTER: A to E; YEARS: 0 to 99999\n");
+                    "LINE: 13 or 15 fields parted by tabs; GROWTH: thousandths a year, 0 to 99999; LETTER: A to E; YEARS: 0 to 99999\n");
     return BAD_ARGUMENTS;
 }
 
@@ -76,12 +75,17 @@ static bool read_number(const char *text, unsigned long *number)
     return true;
 }
 
+static uint32_t letter_number(char letter)
+{
+    return (uint32_t)(letter - 'A') + MAREHOUR_LETTER_A;
+}
+
 static bool read_letter(const char *text, uint32_t *number)
 {
     if (text[0] < 'A' || text[0] > 'E' || text[1] != '\0') {
         return false;
     }
-    *number = (uint32_t)(text[0] - 'A') + MAREHOUR_LETTER_A;
+    *number = letter_number(text[0]);
     return true;
 }
 
@@ -102,11 +106,6 @@ static const char *field(const char *line, int n)
         line = strchr(line, '\t') + 1;
     }
     return line;
-}
-
-static unsigned long field_number(const char *line, int n)
-{
-    return strtoul(field(line, n), NULL, 10);
 }
 
 /* A well-formed line with another demand. */
@@ -182,8 +181,7 @@ static void print_verdict(const struct plan *plan, const struct first_years *fir
 /* Prints the rows of a section that is accepted; 0, or minus a refusal's number. */
 static int32_t print_rows(const struct plan *plan, struct first_years *first)
 {
-    unsigned long lanes = field_number(plan->line, LANES_FIELD);
-    unsigned long demand = field_number(plan->line, DEMAND_FIELD);
+    unsigned long demand = strtoul(field(plan->line, DEMAND_FIELD), NULL, 10);
     unsigned long number;
     printf("year\tdemand\tletter\tlanes\n");
     for (number = 0; number <= plan->years && demand <= GREATEST_DEMAND; number++) {
@@ -197,7 +195,7 @@ static int32_t print_rows(const struct plan *plan, struct first_years *first)
         print_year(number, demand, &year);
         if (year.lanes_needed == 0) {
             keep_earlier(&first->unmet, number);
-        } else if (year.lanes_needed > lanes) {
+        } else if (letter_number(year.letter) > plan->target) {
             keep_earlier(&first->narrow, number);
         }
         demand = grown(demand, plan->growth);

@@ -13,10 +13,11 @@
 
    Units. Speeds are in thousandths of mi/h, capacities in hundredths of passenger cars per hour per
    lane, flow rates in passenger cars per hour per lane, densities in tenths of a passenger car per
-   mile per lane, lengths in tenths of a foot, the peak-hour factor and the heavy share in
-   thousandths, demands and service volumes in vehicles per hour.
+   mile per lane, lengths in tenths of a foot, the peak-hour factor, the heavy share and the
+   weather's factors in thousandths, demands and service volumes in vehicles per hour.
 
-   A line describes one section: 13 fields parted by single tabs, without a newline at its end.
+   A line describes one section: 13 or 15 fields parted by single tabs, without a newline at its
+   end.
 
      1  kind: F freeway, M multilane highway
      2  E: the speed is the base speed, from which the free-flow speed is estimated; G: it is the
@@ -32,9 +33,12 @@
     11  peak-hour factor
     12  heavy share
     13  terrain: L level, R rolling
+    14  speed factor: what is left of the free-flow speed in snow or rain
+    15  capacity factor: what is left of the capacity
 
-   A number has one to five digits and no leading zero, save 0 itself. What clearances take off a
-   base speed is linear, tenth by tenth, between the feet that the manual's tables have.
+   A line of 13 fields means 1,000 for both factors, clear weather; 14 fields are malformed. A
+   number has one to five digits and no leading zero, save 0 itself. What clearances take off a base
+   speed is linear, tenth by tenth, between the feet that the manual's tables have.
 
    Memory. A call reads line[0] to line[line_length - 1] and demands[0] to
    demands[demand_count - 1], and nothing else, and keeps no pointer. It writes into answer[0] to
@@ -84,7 +88,8 @@ enum {
                                             hands it back; a position of a day may have it */
     MAREHOUR_FACTOR_OUT_OF_RANGE = 8,    /* peak-hour factor not 250 to 1,000 */
     MAREHOUR_SHARE_TOO_LARGE = 9,        /* heavy share above 1,000 */
-    MAREHOUR_SPEED_BELOW_LOWER_END = 10, /* free-flow speed F below 55,000 (F), 45,000 (M) */
+    MAREHOUR_SPEED_BELOW_LOWER_END = 10, /* free-flow speed F below 55,000 (F), 45,000 (M), or
+                                            below 50,000 (F) after the speed factor */
     MAREHOUR_CARS_TOO_FEW = 11,          /* fewer than 100 cars counted */
     MAREHOUR_FLOW_TOO_LARGE = 12,        /* flow of 1,000 or more */
     MAREHOUR_SURVEYED_SPEED_OUT_OF_RANGE = 13, /* not a finite number, or rounded down not 30,000
@@ -93,8 +98,10 @@ enum {
     MAREHOUR_LINE_MALFORMED = 15,        /* not a line as above, or longer than 80 bytes */
     MAREHOUR_LETTER_UNKNOWN = 16,        /* letter number not 1 to 5 */
     MAREHOUR_BUFFER_TOO_SHORT = 17,      /* answer buffer under MAREHOUR_ANSWER_SIZE bytes */
-    MAREHOUR_DAY_UNFIT = 18              /* no demand, more than MAREHOUR_DAY_DEMANDS, or room for
+    MAREHOUR_DAY_UNFIT = 18,             /* no demand, more than MAREHOUR_DAY_DEMANDS, or room for
                                             fewer answers than demands */
+    MAREHOUR_WEATHER_UNFIT = 19          /* speed or capacity factor not 500 to 1,000 (F), not 1,000
+                                            (M) */
 };
 
 int32_t marehour_answer(const uint8_t *line, size_t line_length, uint8_t *answer,
@@ -103,7 +110,9 @@ int32_t marehour_answer(const uint8_t *line, size_t line_length, uint8_t *answer
 
      letter A to F; free-flow speed; capacity; flow rate; speed; density; service volumes A to E
 
-   A free-flow speed above 75,000 (kind F) or 70,000 (kind M) is taken as that end. Flow rate and
+   A free-flow speed above 75,000 (kind F) or 70,000 (kind M) is taken as that end. Free-flow speed
+   and capacity are those after the weather's factors: the speed times the speed factor, rounded
+   down; the capacity worked from that speed, times the capacity factor, rounded down. Flow rate and
    density are rounded up, speed down; the letter rests on the speed before it is rounded. Above
    capacity the letter is F, and speed and density are 0. A service volume is the greatest demand
    from 0 to 99,999 that gets its letter or a better one.
@@ -113,7 +122,7 @@ int32_t marehour_answer(const uint8_t *line, size_t line_length, uint8_t *answer
 
      17  answer_length under MAREHOUR_ANSWER_SIZE; the line is not read
      15  malformed line
-     1 to 6, 8, 9, 10  in the order of the numbers
+     1 to 6, 8, 9, 19, 10  in this order
 
    Afterwards the first bytes of the buffer, as many as the result says, are the answer. Those past
    them keep their content. A refusal changes no byte.
@@ -125,7 +134,8 @@ int32_t marehour_lanes(const uint8_t *line, size_t line_length, uint32_t letter,
    the letter or a better one, all other fields kept: one digit and a newline. The letter is given
    by its number, MAREHOUR_LETTER_A to MAREHOUR_LETTER_E; any number may be passed. With E the
    free-flow speed is estimated anew for each count. A count with which F is below its lower end
-   (10) is passed over, the section's own too: 10 is never the result.
+   (10), before the weather's factor or after it, is passed over, the section's own too: 10 is never
+   the result.
 
    The result is 2, the count of bytes written; or minus the first of these refusals that holds, in
    this order:
@@ -133,7 +143,7 @@ int32_t marehour_lanes(const uint8_t *line, size_t line_length, uint32_t letter,
      17  answer_length under MAREHOUR_ANSWER_SIZE; the line is not read
      15  malformed line
      16  letter number not 1 to 5
-     1 to 6, 8, 9  in the order of the numbers; 6 looks at the section's own lanes
+     1 to 6, 8, 9, 19  in this order; 6 looks at the section's own lanes
      14  no lane count meets the letter
 
    Afterwards the first two bytes of the buffer are the answer. Those past them keep their content.
@@ -152,9 +162,9 @@ int32_t marehour_day(const uint8_t *line, size_t line_length, const uint64_t *de
      the refusal's number, 0 for none; letter by its number, A to F; free-flow speed; capacity; flow
      rate; speed; density; service volumes A to E
 
-   Where one of 1 to 10 refuses the section with that demand, the number is the first that does, and
-   the other eleven are 0. A demand above 99,999 gets 7, or one of 1 to 6 where that refuses the
-   section; the other positions go on.
+   Where one of 1 to 9, 19 and 10 refuses the section with that demand, the number is the first that
+   does, in this order, and the other eleven are 0. A demand above 99,999 gets 7, or one of 1 to 6
+   where that refuses the section; the other positions go on.
 
    The result is the count of answers written, which is demand_count; or minus the first of these
    refusals that holds, in this order:

@@ -6,14 +6,15 @@
 // Each run must give these bytes on standard output and standard error, and this status.
 //
 // The expected rows rest on the service volumes of a lane with peak-hour factor 1,000 and no heavy vehicles:
-//   a freeway of F = 75,000: A 825, B 1,328, C 1,776, D 2,130, E 2,400; a multilane highway of F = 60,000: C 1,532, D 1,893.
+//   a freeway of F = 75,000: A 825, B 1,328, C 1,776, D 2,130, E 2,400; the same with the weather's factors 950 and 900: B 1,253, C 1,647,
+//   D 1,942; a multilane highway of F = 60,000: C 1,532, D 1,893.
 
 use std::fs::File;
 use std::process::{exit, Command, Output};
 
 const HEADER: &str = "year\tdemand\tletter\tlanes\n";
 const USAGE: &str = "usage: widening LINE GROWTH LETTER YEARS\n\
-    LINE: 13 fields parted by tabs; GROWTH: thousandths a year, 0 to 99999; LETTER: A to E; YEARS: 0 to 99999\n";
+    LINE: 13 or 15 fields parted by tabs; GROWTH: thousandths a year, 0 to 99999; LETTER: A to E; YEARS: 0 to 99999\n";
 const NOT_WRITTEN: &str = "widening: standard output can't be written\n";
 
 // Lanes and demand; growth, letter and years; the rows and the last lines, parted by semicolons, the fields of a row by blanks.
@@ -51,8 +52,13 @@ const MULTILANE: [Table; 3] = [
     ("3 4597", "0 C 0", "0 4597 D none;no widening suffices from year 0"),
 ];
 
+const SNOW: [Table; 2] = [
+    ("2 3000", "100 C 2", "0 3000 C 2;1 3300 D 3;2 3630 D 3;must be wider in year 1"),
+    ("8 13176", "1 C 1", "0 13176 C 8;1 13190 D none;need not be wider in years 0 to 0;no widening suffices from year 1"),
+];
+
 // Lines with the fields parted by blanks, and the refusal of each.
-const REFUSED: [(&str, u32); 13] = [
+const REFUSED: [(&str, u32); 16] = [
     ("F G 29999 120 60 60 D 0 2 1000 1000 0 L", 1),
     ("F G 75000 99 60 60 D 0 2 1000 1000 0 L", 2),
     ("F G 75000 120 401 60 D 0 2 1000 1000 0 L", 3),
@@ -62,8 +68,11 @@ const REFUSED: [(&str, u32); 13] = [
     ("M G 60000 120 60 60 D 0 4 1000 1000 0 L", 6),
     ("F G 75000 120 60 60 D 0 2 1000 249 0 L", 8),
     ("F G 75000 120 60 60 D 0 2 1000 1000 1001 L", 9),
+    ("F G 75000 120 60 60 D 0 2 1000 1000 0 L 499 1000", 19),
+    ("M G 60000 120 60 60 D 0 2 1000 1000 0 L 1000 999", 19),
     ("F G 54999 120 60 60 D 0 2 1000 1000 0 L", 10),
     ("F G 75000 120 60 60 D 0 2 100000 1000 0 L", 15),
+    ("F G 75000 120 60 60 D 0 2 1000 1000 0 L 1000", 15),
     ("F G 75000 120 60 60 D 0 2", 15),
     ("", 15),
 ];
@@ -107,12 +116,12 @@ fn printed(line: &str) -> String {
     (if row { tabbed(line) } else { line.to_string() }) + "\n"
 }
 
-fn expect_tables(widening: &str, road: &str, tables: &[Table]) {
+fn expect_tables(widening: &str, road: &str, weather: &str, tables: &[Table]) {
     for (load, plan, lines) in tables {
-        let section = tabbed(&format!("{road} {load} 1000 0 L"));
+        let section = tabbed(&format!("{road} {load} 1000 0 L{weather}"));
         let arguments: Vec<&str> = [section.as_str()].into_iter().chain(plan.split(' ')).collect();
         let expected: String = lines.split(';').map(printed).collect();
-        expect(&format!("{road} {load}, {plan}"), &run(program(widening, &arguments)), 0, &format!("{HEADER}{expected}"), "");
+        expect(&format!("{road} {load}{weather}, {plan}"), &run(program(widening, &arguments)), 0, &format!("{HEADER}{expected}"), "");
     }
 }
 
@@ -183,12 +192,13 @@ fn main() {
     let Some(widening) = std::env::args().nth(1) else { fail("usage: widening PATH-OF-WIDENING") };
     let empty_road = tabbed("F G 75000 120 60 60 D 0 2 0 1000 0 L");
     expect_example(&widening);
-    expect_tables(&widening, "F G 75000 120 60 60 D 0", &FREEWAY);
-    expect_tables(&widening, "M G 60000 120 60 60 D 0", &MULTILANE);
+    expect_tables(&widening, "F G 75000 120 60 60 D 0", "", &FREEWAY);
+    expect_tables(&widening, "F G 75000 120 60 60 D 0", " 950 900", &SNOW);
+    expect_tables(&widening, "M G 60000 120 60 60 D 0", "", &MULTILANE);
     expect_most_years(&widening, &empty_road);
     expect_refusals(&widening);
     expect_bad_arguments(&widening, &empty_road);
     expect_lost_output(&widening, &empty_road);
-    let tables = FREEWAY.len() + MULTILANE.len() + 2;
+    let tables = FREEWAY.len() + SNOW.len() + MULTILANE.len() + 2;
     println!("widening: {tables} tables, {} refused lines, bad arguments, lost output: all as expected", REFUSED.len());
 }

@@ -1,7 +1,7 @@
 -- The laws of specs/Laws, proved.
 --   FieldFits, Fits   what the value of a field is; values that fit some fields
 --   valuesOf-fits     the values of well-formed parts fit their fields
---   length-never-decides-alone, well-formed-lines-are-short, clear-weather-may-be-left-out, fourteen-fields-are-malformed,
+--   length-never-decides-alone, well-formed-lines-are-short, clear-weather-may-be-left-out, other-counts-are-malformed,
 --   values-are-the-fields, demand-on-a-line, refusal-has-its-number
 -- Assumes nothing.
 use mathlib.Core.Path.{_≡_, refl, sym, ap, _∙_, subst}
@@ -31,7 +31,7 @@ use Rattle.lines.specs.Fields.{valuesOf}
 use Rattle.lines.specs.Reading.{kindOf, wayOf, medianOf, terrainOf, caseOf, readValues, longestLine, readLine, kindByte, wayByte}
 use Rattle.lines.specs.Reading.{medianByte, terrainByte, values}
 use Rattle.lines.specs.Laws.{LengthNeverDecidesAlone, longestWellFormed, WellFormedLinesAreShort, ClearWeatherMayBeLeftOut}
-use Rattle.lines.specs.Laws.{FourteenFieldsAreMalformed, ValuesAreTheFields, DemandOnALine, RefusalHasItsNumber}
+use Rattle.lines.specs.Laws.{OtherCountsAreMalformed, ValuesAreTheFields, DemandOnALine, RefusalHasItsNumber}
 use Rattle.lines.proofs.DigitsLaws.{more}
 use Rattle.lines.proofs.PlacesLaws.{not-malformed}
 
@@ -236,9 +236,9 @@ clear-weather-may-be-left-out bs h =
     (ap completed (parts-append tab bs (bytesOf "1000\t1000")) ∙ completed-thirteen (parts tab bs) h)
     ∙ sym (length-never-decides-alone bs)
 
-pub fourteen-fields-are-malformed : FourteenFieldsAreMalformed
+pub other-counts-are-malformed : OtherCountsAreMalformed
 unfolding layout completed readValues
-fourteen-fields-are-malformed bs a b =
+other-counts-are-malformed bs a b =
     length-never-decides-alone bs ∙ go (valuesOf layout (completed (parts tab bs))) refl
   where
     go : (o : Option (List ℕ)) → valuesOf layout (completed (parts tab bs)) ≡ o → readValues o ≡ LineRead.Refused 15

@@ -2,7 +2,7 @@
 --   LengthNeverDecidesAlone   a line is read by its fields: none of more than 80 bytes has well-formed ones
 --   longestWellFormed, WellFormedLinesAreShort   73 bytes, and no line that is read has more
 --   ClearWeatherMayBeLeftOut   a line of 13 fields reads as the same line with 1000 and 1000
---   FourteenFieldsAreMalformed   fewer than 13, 14, or more than 15 fields are malformed
+--   OtherCountsAreMalformed   fewer than 13 fields, 14, or more than 15 are malformed
 --   ValuesAreTheFields   the values of a line that is read are those of its fields, in their order
 --   DemandOnALine        no line can hold a demand that 7 refuses
 --   RefusalHasItsNumber  the number of a refusal is the one that it holds, and it has no values
@@ -35,8 +35,8 @@ abbrev pub ClearWeatherMayBeLeftOut : Type 0
 ClearWeatherMayBeLeftOut =
     (bs : List ℕ) → length (parts tab bs) ≡ 13 → readLine (bs ++ bytesOf "\t1000\t1000") ≡ readLine bs
 
-abbrev pub FourteenFieldsAreMalformed : Type 0
-FourteenFieldsAreMalformed =
+abbrev pub OtherCountsAreMalformed : Type 0
+OtherCountsAreMalformed =
     (bs : List ℕ) → (length (parts tab bs) ≡ 13 → ⊥) → (length (parts tab bs) ≡ 15 → ⊥) → readLine bs ≡ LineRead.Refused 15
 
 abbrev pub ValuesAreTheFields : Type 0
