@@ -1,4 +1,5 @@
-// Whole curves: a given free-flow speed with each flow rate, in clear weather and under snow or rain. On two lanes with H = 1,000 and P = 0 the demand 2v has the flow rate v.
+// Whole curves: a given free-flow speed with each flow rate, in clear weather and under snow or rain. On two lanes with H = 1,000 and
+// P = 0 the demand 2v has the flow rate v.
 
 use super::draw::append_line;
 use super::engine;

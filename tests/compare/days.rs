@@ -178,7 +178,8 @@ fn draw_any_demand(draw: &mut Draw, method: &Method, accepted: &Option<(Case, Cu
 
 fn draw_call(draw: &mut Draw, method: &Method) -> Call {
     let line = draw_line(draw, method);
-    let accepted = lines::parse(&line).filter(|case| planner_refusal(case).is_none()).and_then(|case| Some((case, method.curve(&case).ok()?)));
+    let case = lines::parse(&line).filter(|case| planner_refusal(case).is_none());
+    let accepted = case.and_then(|case| Some((case, method.curve(&case).ok()?)));
     let count = draw_count(draw);
     let demands: Vec<u64> = (0..count).map(|_| draw_any_demand(draw, method, &accepted)).collect();
     let length = draw_length(draw, demands.len());

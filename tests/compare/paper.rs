@@ -1,5 +1,5 @@
-// What documents 01 and 02 (T-02, T-03) say by figures, and figures worked out by hand from their rules, checked against both implementations.
-// Lines are written with blanks for tabs; a - stands for a figure that is not checked there by itself.
+// What documents 01 and 02 (T-02, T-03) say by figures, and figures worked out by hand from their rules, checked against both
+// implementations. Lines are written with blanks for tabs; a - stands for a figure that is not checked there by itself.
 
 use super::engine;
 use super::tally::Tally;

@@ -1,5 +1,6 @@
-// The traps that document 01 names, three of clearances and five of weather (document 02, T-02 and T-03). Each is written out as a formula, with an input at which
-// it answers something else: both implementations must give the right answer there, and the trap its wrong one.
+// The traps that document 01 names, three of clearances and five of weather (document 02, T-02 and T-03). Each is written out as a
+// formula, with an input at which it answers something else: both implementations must give the right answer there, and the trap its wrong
+// one.
 
 use super::engine;
 use super::tally::Tally;

@@ -142,11 +142,15 @@ volumes = five example (freeway 60783 230783 156868) example-accepted (example-c
 
 pub given-volumes : VolumesOf (givenInSnow 2 3000) 1566 2506 3294 3884 4320
 unfolding divUp endsAt heavyFactor flowRate fallShareBy speed density meetsLimit densityLimit demandMeets ends
-given-volumes = five (givenInSnow 2 3000) (freeway 71250 216000 93150) (snow-accepted .0) (snow-curves .0 .0) 1566 2506 3294 3884 4320 tt tt tt tt tt
+given-volumes =
+    five (givenInSnow 2 3000) (freeway 71250 216000 93150) (snow-accepted .0) (snow-curves .0 .0) 1566 2506 3294 3884 4320 tt tt tt tt
+    tt
 
 pub snow-volumes : VolumesOf (exampleInSnow 2000) 961 1572 2221 2636 2898
 unfolding divUp endsAt heavyFactor flowRate fallShareBy speed density meetsLimit densityLimit demandMeets ends
-snow-volumes = five (exampleInSnow 2000) (freeway 52273 173372 116148) (snow-accepted .1) (snow-curves .1 .0) 961 1572 2221 2636 2898 tt tt tt tt tt
+snow-volumes =
+    five (exampleInSnow 2000) (freeway 52273 173372 116148) (snow-accepted .1) (snow-curves .1 .0) 961 1572 2221 2636 2898 tt tt tt tt
+    tt
 
 -- ---- the figures
 -- the number of an answer's refusal and its values
@@ -221,9 +225,9 @@ lanes-shown =
 
 -- the lanes of the case that 10 refuses
 estimated-shown : counted estimated 1 ≡ 0 ∷ 4 ∷ []
-unfolding divUp leastFrom least weatherUnfit roadRefusals loadRefusals fieldRefusals adjustedSpeed speedRefusals refusals capacity breakpoint
-    adjustedCapacity adjustedBreakpoint curveUnder curveOf heavyFactor flowRate fallShareBy speed shownSpeed density shownDensity densityLimit
-    densityLetter letterAt performance measures meets lanesFound lanesRefusals
+unfolding divUp leastFrom least weatherUnfit roadRefusals loadRefusals fieldRefusals adjustedSpeed speedRefusals refusals capacity
+    breakpoint adjustedCapacity adjustedBreakpoint curveUnder curveOf heavyFactor flowRate fallShareBy speed shownSpeed density
+    shownDensity densityLimit densityLetter letterAt performance measures meets lanesFound lanesRefusals
 estimated-shown = simp (estimated-speeds .0, estimated-speeds .1, estimated-speeds .2)
 
 pub none-at-99999 : counted (exampleWith 99999) 3 ≡ 14 ∷ []

@@ -48,8 +48,9 @@ unfolding weatherUnfit roadRefusals loadRefusals fieldRefusals adjustedSpeed spe
 lighter-accepted = simp (example-speeds .1)
 
 letters : (letterIn (answerTo lighter) ≡ 1) × (letterIn (answerTo (exampleWith 2643)) ≡ 4)
-unfolding divUp weatherUnfit roadRefusals loadRefusals fieldRefusals adjustedSpeed speedRefusals refusals capacity breakpoint adjustedCapacity adjustedBreakpoint curveUnder curveOf heavyFactor flowRate
-    fallShareBy speed shownSpeed density shownDensity densityLimit densityLetter letterAt performance measures graded
+unfolding divUp weatherUnfit roadRefusals loadRefusals fieldRefusals adjustedSpeed speedRefusals refusals capacity breakpoint
+    adjustedCapacity adjustedBreakpoint curveUnder curveOf heavyFactor flowRate fallShareBy speed shownSpeed density shownDensity
+    densityLimit densityLetter letterAt performance measures graded
 letters = (simp (example-speeds .1), simp (example-speeds .0))
 
 heavier-accepted : Accepted (exampleWith 2643)
@@ -72,8 +73,9 @@ no-better-letter-under-more-demand = (
 )
 
 multilane-letters : (letterIn (answerTo (multilaneWith 2800)) ≡ 3) × (letterIn (answerTo (multilaneWith 3600)) ≡ 4)
-unfolding divUp uncappedBy freeFlowSpeed weatherUnfit roadRefusals loadRefusals fieldRefusals adjustedSpeed speedRefusals refusals capacity breakpoint adjustedCapacity adjustedBreakpoint curveUnder curveOf
-    heavyFactor flowRate fallShareBy speed shownSpeed density shownDensity densityLimit densityLetter letterAt performance measures graded
+unfolding divUp uncappedBy freeFlowSpeed weatherUnfit roadRefusals loadRefusals fieldRefusals adjustedSpeed speedRefusals refusals capacity
+    breakpoint adjustedCapacity adjustedBreakpoint curveUnder curveOf heavyFactor flowRate fallShareBy speed shownSpeed density
+    shownDensity densityLimit densityLetter letterAt performance measures graded
 multilane-letters = (refl, simp power-500)
 
 multilane-accepted : Accepted (multilaneWith 2800) × Accepted (multilaneWith 3600)
@@ -155,8 +157,9 @@ counts = (simp (estimated-speeds .0), simp (estimated-speeds .1), simp (estimate
 
 -- with 4 lanes the letter is A
 four-meet : (n : ℕ) → meets (withLanes estimated 4) n ≡ leb 1 n
-unfolding divUp weatherUnfit roadRefusals loadRefusals fieldRefusals adjustedSpeed speedRefusals refusals capacity breakpoint adjustedCapacity adjustedBreakpoint curveUnder curveOf heavyFactor flowRate
-    fallShareBy speed shownSpeed density shownDensity densityLimit densityLetter letterAt performance measures meets
+unfolding divUp weatherUnfit roadRefusals loadRefusals fieldRefusals adjustedSpeed speedRefusals refusals capacity breakpoint
+    adjustedCapacity adjustedBreakpoint curveUnder curveOf heavyFactor flowRate fallShareBy speed shownSpeed density shownDensity
+    densityLimit densityLetter letterAt performance measures meets
 four-meet n = simp (estimated-speeds .2)
 
 fewer-refused : (n fewer : ℕ) → AcceptedCount estimated fewer → fewer < 4 → Meets (withLanes estimated fewer) n → ⊥
@@ -190,8 +193,9 @@ no-lanes-for-the-greatest-demand =
 
 -- with 3 lanes the letter is C
 three-meet : T (meets (withLanes (multilaneWith 3600) 3) 3)
-unfolding divUp uncappedBy freeFlowSpeed weatherUnfit roadRefusals loadRefusals fieldRefusals adjustedSpeed speedRefusals refusals capacity breakpoint adjustedCapacity adjustedBreakpoint curveUnder curveOf
-    heavyFactor flowRate fallShareBy speed shownSpeed density shownDensity densityLimit densityLetter letterAt performance measures meets
+unfolding divUp uncappedBy freeFlowSpeed weatherUnfit roadRefusals loadRefusals fieldRefusals adjustedSpeed speedRefusals refusals capacity
+    breakpoint adjustedCapacity adjustedBreakpoint curveUnder curveOf heavyFactor flowRate fallShareBy speed shownSpeed density
+    shownDensity densityLimit densityLetter letterAt performance measures meets
 three-meet = tt
 
 multilane-fits : FieldsFit (multilaneWith 3600)

@@ -50,8 +50,8 @@ abbrev counted : Case → ℕ → List ℕ
 counted case n = lanes.refusalNumber (lanesAnswer case n) ∷ lanes.values (lanesAnswer case n)
 
 -- Of what is accepted 0 and its values, of what is refused its number. Starred: the printed line. Not starred: the lanes question at the
--- printed case with letter C, with V = 2,643 and with 99,999; a letter number past E; a case that 10 refuses, and its lanes; answers in snow,
--- at a given and at an estimated speed; the lanes of the latter; and a lanes question that 19 refuses.
+-- printed case with letter C, with V = 2,643 and with 99,999; a letter number past E; a case that 10 refuses, and its lanes; answers in
+-- snow, at a given and at an estimated speed; the lanes of the latter; and a lanes question that 19 refuses.
 unfoldable pub addedFigures : List Figure
 addedFigures =
     figure (answered example) (0 ∷ 3 ∷ 60783 ∷ 230783 ∷ 1196 ∷ 60783 ∷ 197 ∷ 1117 ∷ 1829 ∷ 2642 ∷ 3360 ∷ 3858 ∷ [])

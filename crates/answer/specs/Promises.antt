@@ -85,8 +85,8 @@ MeetsUpToTheServiceVolume =
     (c : Case) → Accepted c → (n : ℕ) → 1 ≤ n → n ≤ 5 → (demand : ℕ) → demand ≤ greatestDemand
     → Meets (withDemand c demand) n ↔ (demand ≤ volumeIn (answerTo c) n)
 
--- Part 3. For a letter number from 1 to 5 and a case that none of 1 to 9 nor 19 refuses: the lanes question answers a count exactly when the
--- count is accepted, meets the letter, and no smaller accepted count does; and it answers 14 exactly when no accepted count does.
+-- Part 3. For a letter number from 1 to 5 and a case that none of 1 to 9 nor 19 refuses: the lanes question answers a count exactly when
+-- the count is accepted, meets the letter, and no smaller accepted count does; and it answers 14 exactly when no accepted count does.
 abbrev pub LeastAcceptedCount : Type 0
 LeastAcceptedCount =
     (case : Case) (n : ℕ) → 1 ≤ n → n ≤ 5 → FieldsFit case

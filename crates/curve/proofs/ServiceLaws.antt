@@ -238,7 +238,8 @@ pub letterAt-flow : (curve : Curve) (v w : ℕ) → WellFormed curve → v ≤ w
     → letterNumber (letterAt curve v) ≤ letterNumber (letterAt curve w)
 letterAt-flow curve v w ok l =
     letterAt-worse curve curve v w
-    (λ c. let d : 100 * v ≤ curve .capacity = omega arith in (d, density-mono curve curve v w ok ok d c l (speed-antitone curve v w ok l c)))
+    (λ c. let d : 100 * v ≤ curve .capacity = omega arith in
+    (d, density-mono curve curve v w ok ok d c l (speed-antitone curve v w ok l c)))
 
 -- ---- either kind, at two free-flow speeds
 pub speed-mono : (kind : Kind) (f g v : ℕ) → lowestSpeed kind ≤ f → f ≤ g → g ≤ highestSpeed kind → 100 * v ≤ capacity kind f

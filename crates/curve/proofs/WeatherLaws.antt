@@ -10,7 +10,7 @@ use native.Mathlib.Nat.{mul-le-mul-left, mul-le-mul-right, le-trans}
 use Rattle.curve.specs.declared.kind.Kind.{Kind}
 use Rattle.curve.specs.declared.kind.Kind.the-variants as Kind
 use Rattle.curve.specs.declared.Weather.{Weather}
-use Rattle.curve.specs.Kinds.{highestSpeed, lowestAdjustedSpeed, lowestFactor}
+use Rattle.curve.specs.Kinds.{highestSpeed, lowestAdjustedSpeed}
 use Rattle.curve.specs.Curves.{capacity, breakpoint, curveAt, WellFormed, Sized}
 use Rattle.curve.specs.Weather.{factors, clear, FactorsFit, adjustedSpeed, adjustedCapacity, adjustedBreakpoint, curveUnder}
 use Rattle.curve.proofs.CurveLaws.{curveAt-wellFormed, curveAt-sized}

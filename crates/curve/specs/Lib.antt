@@ -1,4 +1,5 @@
--- The speed–flow curve of document 01, under the weather of document 02, from a free-flow speed to speed, density and letter, a file for each part.
+-- The speed–flow curve of document 01, under the weather of document 02, from a free-flow speed to speed, density and letter, a file for
+-- each part.
 --   Kinds     what each kind carries
 --   Curves    capacity, breakpoint, the curve at a free-flow speed
 --   Weather   the factors of document 02, and the curve under weather

@@ -32,8 +32,9 @@ shown-2000 : answerFigures (answerTo (withDemand example 2000)) ≡ at2000
 shown-2000 = ap (λ l. figuresOf (getD l 0 0) (drop 1 l)) example-answer
 
 shown-2643 : answerFigures (answerTo (withDemand example 2643)) ≡ at2643
-unfolding divUp weatherUnfit roadRefusals loadRefusals fieldRefusals adjustedSpeed speedRefusals refusals capacity breakpoint adjustedCapacity adjustedBreakpoint curveUnder curveOf heavyFactor flowRate
-    fallShareBy speed shownSpeed density shownDensity densityLimit densityLetter letterAt performance measures graded
+unfolding divUp weatherUnfit roadRefusals loadRefusals fieldRefusals adjustedSpeed speedRefusals refusals capacity breakpoint
+    adjustedCapacity adjustedBreakpoint curveUnder curveOf heavyFactor flowRate fallShareBy speed shownSpeed density shownDensity
+    densityLimit densityLetter letterAt performance measures graded
 shown-2643 =
     let same = serviceVolumes-withDemand example 2643 in
     let v = volumes in
@@ -53,11 +54,13 @@ example-day = day-is-the-single-calls example exampleDemands (replicate 38 9) re
 -- a day in snow: its first answer is that of the boundary list
 snow-day : dayContent (givenInSnow 2 0) snowDemands (replicate 24 9) ≡ snowDay
 unfolding flatMap weatherUnfit roadRefusals loadRefusals fieldRefusals refusals lentUnfit lentRefusals dayFigures
-snow-day = day-is-the-single-calls (givenInSnow 2 0) snowDemands (replicate 24 9) refl ∙ rw (ap (λ l. figuresOf (getD l 0 0) (drop 1 l)) snow-answer)
+snow-day =
+    day-is-the-single-calls (givenInSnow 2 0) snowDemands (replicate 24 9) refl
+    ∙ rw (ap (λ l. figuresOf (getD l 0 0) (drop 1 l)) snow-answer)
 
 pub instances-shown : Shown dayInstances
-unfolding flatMap uncappedBy freeFlowSpeed weatherUnfit roadRefusals loadRefusals fieldRefusals adjustedSpeed speedRefusals refusals lentUnfit lentRefusals dayFigures
-    dayContent dayInstances
+unfolding flatMap uncappedBy freeFlowSpeed weatherUnfit roadRefusals loadRefusals fieldRefusals adjustedSpeed speedRefusals refusals
+    lentUnfit lentRefusals dayFigures dayContent dayInstances
 instances-shown =
     let day = day-is-the-single-calls in (
       example-day,

@@ -141,7 +141,8 @@ no-better-with-more-demand case demands old z a i j h k less fits =
     rw (letter-at case demands old z i h, letter-at case demands old z j k)
     (no-better-under-more-load (withDemand case (getD demands i 0)) (withDemand case (getD demands j 0))
     (accepted-withDemand (withDemand case 0) (getD demands i 0) a (omega arith))
-    (accepted-withDemand (withDemand case 0) (getD demands j 0) a fits) refl refl (inr (inr refl)) less (omega arith) (omega arith) (omega arith) (omega arith))
+    (accepted-withDemand (withDemand case 0) (getD demands j 0) a fits) refl refl (inr (inr refl)) less (omega arith) (omega arith)
+    (omega arith) (omega arith))
 
 -- ---- what is not written
 -- 18 refuses or does not

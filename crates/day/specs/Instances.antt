@@ -57,8 +57,8 @@ abbrev called : ℕ → ℕ → List ℕ
 called n room = refusalNumber (dayAnswer n room) ∷ values (dayAnswer n room)
 
 -- Three demands on the printed road, of which 7 refuses the second; the same with one number too few; a road that 8 refuses, one that 10
--- does, one that 6 does and one that 19 does, each with demands that 7 refuses and one that it lets pass; a day in snow; no demand, 1, 24 and 25 with room for all, 3 with
--- room for two and eleven numbers more, and for three.
+-- does, one that 6 does and one that 19 does, each with demands that 7 refuses and one that it lets pass; a day in snow; no demand, 1, 24
+-- and 25 with room for all, 3 with room for two and eleven numbers more, and for three.
 unfoldable pub dayInstances : List Figure
 dayInstances =
     figure (dayContent example exampleDemands (replicate 38 9)) exampleDay

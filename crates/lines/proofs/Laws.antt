@@ -26,8 +26,8 @@ use Rattle.checks.proofs.RefusalLaws.{within}
 use Rattle.lines.specs.declared.field.FieldValue.{FieldValue}
 use Rattle.lines.specs.declared.field.FieldValue.the-variants.{Value, Malformed}
 use Rattle.lines.specs.declared.read.LineRead.the-variants as LineRead
-use Rattle.lines.specs.Fields.{Field, letters, digits, layout, clearFactors, completed, digit, spelled, leadingZero, number, oneOf, letter, fieldAs, joined}
-use Rattle.lines.specs.Fields.{valuesOf}
+use Rattle.lines.specs.Fields.{Field, letters, digits, layout, clearFactors, completed, digit, spelled, leadingZero, number, oneOf}
+use Rattle.lines.specs.Fields.{letter, fieldAs, joined, valuesOf}
 use Rattle.lines.specs.Reading.{kindOf, wayOf, medianOf, terrainOf, caseOf, readValues, longestLine, readLine, kindByte, wayByte}
 use Rattle.lines.specs.Reading.{medianByte, terrainByte, values}
 use Rattle.lines.specs.Laws.{LengthNeverDecidesAlone, longestWellFormed, WellFormedLinesAreShort, ClearWeatherMayBeLeftOut}

@@ -71,11 +71,23 @@ day-shown : content (dayCall (bytesOf printedLine) exampleDemands 38) (replicate
 day-shown = day-call-is-the-day (bytesOf printedLine) example line-read exampleDemands (replicate 38 9) .1 ∙ example-day
 
 added-shown : Shown addedFigures
-unfolding flatMap onFirst parts layout completed spelled number oneOf letter fieldAs valuesOf readValues readLine texts lastLine withoutEmptyLast
-    linesOf outputOf addedFigures
+unfolding flatMap onFirst parts layout completed spelled number oneOf letter fieldAs valuesOf readValues readLine texts lastLine
+    withoutEmptyLast linesOf outputOf addedFigures
 added-shown = (
   line-shown,
-  (output-shown, (refl, (day-shown, (ap (λ r. refusalNumber r ∷ values r) line-read, (refl, (refl, (refl, (refl, (refl, (snow-shown, (refl, (refl, (refl, (factor-shown, tt)))))))))))))),
+  (
+    output-shown,
+    (
+      refl,
+      (
+        day-shown,
+        (
+          ap (λ r. refusalNumber r ∷ values r) line-read,
+          (refl, (refl, (refl, (refl, (refl, (snow-shown, (refl, (refl, (refl, (factor-shown, tt)))))))))),
+        ),
+      ),
+    ),
+  ),
 )
 
 pub boundary-shown : Shown boundaryFigures

@@ -71,9 +71,10 @@ clearances-shown = (refl, (refl, (refl, (refl, (refl, (refl, (refl, (refl, (refl
 
 pub boundary-shown : Shown boundaryFigures
 unfolding divUp entryBefore entryAfter weightedSum interpolated laneWidthAdjustment perMissingFoot rightClearanceRow
-    rightClearanceAdjustment totalClearance twoLaneRow totalClearanceRow totalClearanceAdjustment accessAdjustment estimatedBy
-    uncappedBy freeFlowSpeed weatherUnfit roadRefusals loadRefusals fieldRefusals adjustedSpeed speedRefusals refusals capacity breakpoint
-    curveAt adjustedCapacity adjustedBreakpoint curveUnder curveOf heavyFactor flowRate fallShareBy speed shownSpeed density shownDensity densityLimit densityLetter letterAt performance measures boundaryFigures
+    rightClearanceAdjustment totalClearance twoLaneRow totalClearanceRow totalClearanceAdjustment accessAdjustment estimatedBy uncappedBy
+    freeFlowSpeed weatherUnfit roadRefusals loadRefusals fieldRefusals adjustedSpeed speedRefusals refusals capacity breakpoint curveAt
+    adjustedCapacity adjustedBreakpoint curveUnder curveOf heavyFactor flowRate fallShareBy speed shownSpeed density shownDensity
+    densityLimit densityLetter letterAt performance measures boundaryFigures
 boundary-shown = (
   simp ramp-24,
   (

@@ -84,6 +84,7 @@ pub checkedCurve-accepted : (case : Case) (curve : Curve) → FieldsFit case
     → Accepted case × (curve ≡ caseCurve case)
 checkedCurve-accepted case curve z e = checked-accepted case curve (sym (checkedCurve-eq case z) ∙ e)
 
-pub checkedCurve-refused : (case : Case) (n : ℕ) → FieldsFit case → checkedCurve (case .road) (case .weather) (case .lanes) ≡ Checked.Refused n
+pub checkedCurve-refused : (case : Case) (n : ℕ) → FieldsFit case
+    → checkedCurve (case .road) (case .weather) (case .lanes) ≡ Checked.Refused n
     → 0 < refusal case
 checkedCurve-refused case n z e = checked-refused case n (sym (checkedCurve-eq case z) ∙ e)

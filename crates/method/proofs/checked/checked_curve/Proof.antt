@@ -39,10 +39,11 @@ returns-2 c =
     let a = s .before .before .args in
     let f = freeFlowSpeed (a .road) (a .lanes) in
     let free = s .before .free-flow-speed .ensures in
+    let after = adjusted _ _ _ _ _ (u .curve-under .ensures) free in
     simp (
       le-ltb f (lowestSpeed (a .road .kind)) (omega (arith, free, s .lowest-speed .ensures, u .before .if1 .left)),
       lt-ltb (adjustedSpeed (a .weather) f) (lowestAdjustedSpeed (a .road .kind))
-          (omega (arith, adjusted _ _ _ _ _ (u .curve-under .ensures) free, c .before .before .lowest-adjusted-speed .ensures, c .if2 .taken)),
+          (omega (arith, after, c .before .before .lowest-adjusted-speed .ensures, c .if2 .taken)),
     )
 
 returns-3 : tie.Need-returns-3
@@ -53,10 +54,11 @@ returns-3 c =
     let a = s .before .before .args in
     let f = freeFlowSpeed (a .road) (a .lanes) in
     let free = s .before .free-flow-speed .ensures in
+    let after = adjusted _ _ _ _ _ (u .curve-under .ensures) free in
     simp (
       le-ltb f (lowestSpeed (a .road .kind)) (omega (arith, free, s .lowest-speed .ensures, u .before .if1 .left)),
       le-ltb (adjustedSpeed (a .weather) f) (lowestAdjustedSpeed (a .road .kind))
-          (omega (arith, adjusted _ _ _ _ _ (u .curve-under .ensures) free, c .before .before .lowest-adjusted-speed .ensures, c .if2 .left)),
+          (omega (arith, after, c .before .before .lowest-adjusted-speed .ensures, c .if2 .left)),
     )
     (ap Checked.Accepted (u .curve-under .ensures ∙ ap (curveUnder (a .weather) (a .road .kind)) free))
 
