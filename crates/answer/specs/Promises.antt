@@ -4,6 +4,7 @@
 --   Meets case n                   the answer to the case is graded, with letter number n or a better one; a refused case meets nothing
 --   AcceptedCount case n           n is an accepted lane count
 --   hardness t                     how hard a terrain is: level is easier than rolling
+--   HeavierIsNoBetter c d          if d has no less load than c, it does not get the better letter
 --   LanesComparable c d            c and d may have different lanes: clear weather, or a given speed; or they have equal lanes
 --   NoBetterUnderMoreLoad          part 1
 --   NoBetterInClearWeather         what part 1 says of clear weather, whatever the lanes
@@ -52,32 +53,30 @@ abbrev pub hardness : Terrain → ℕ
 hardness Terrain.Level = 0
 hardness Terrain.Rolling = 1
 
+-- no less demand, no smaller share, no easier terrain, no higher peak-hour factor and no more lanes
+abbrev pub HeavierIsNoBetter : Case → Case → Type 0
+HeavierIsNoBetter c d =
+    c .demand ≤ d .demand
+    → c .«heavy_share» ≤ d .«heavy_share»
+    → hardness (c .terrain) ≤ hardness (d .terrain)
+    → d .«peak_hour_factor» ≤ c .«peak_hour_factor»
+    → d .lanes ≤ c .lanes
+    → letterIn (answerTo c) ≤ letterIn (answerTo d)
+
 -- "With a factor below 1,000 the comparison of lane counts is wanted for given speeds only"
 abbrev pub LanesComparable : Case → Case → Type 0
 LanesComparable c d = (c .weather ≡ clear) ⊎ (c .road .way ≡ Way.Given) ⊎ (c .lanes ≡ d .lanes)
 
--- Part 1. Of two accepted cases of the same road under one weather, the one with no less demand, no smaller share, no easier terrain, no
--- higher peak-hour factor and no more lanes, where lanes are comparable, never gets the better letter.
+-- Part 1. Of two accepted cases of the same road under one weather, where lanes are comparable, the one with no less load never gets the
+-- better letter.
 abbrev pub NoBetterUnderMoreLoad : Type 0
 NoBetterUnderMoreLoad =
-    (c d : Case) → Accepted c → Accepted d → SameRoad c d → c .weather ≡ d .weather → LanesComparable c d
-    → c .demand ≤ d .demand
-    → c .«heavy_share» ≤ d .«heavy_share»
-    → hardness (c .terrain) ≤ hardness (d .terrain)
-    → d .«peak_hour_factor» ≤ c .«peak_hour_factor»
-    → d .lanes ≤ c .lanes
-    → letterIn (answerTo c) ≤ letterIn (answerTo d)
+    (c d : Case) → Accepted c → Accepted d → SameRoad c d → c .weather ≡ d .weather → LanesComparable c d → HeavierIsNoBetter c d
 
--- In clear weather it is part 1 of document 01: lanes are comparable.
+-- In clear weather it is part 1 as document 01 asks it, whatever the lanes.
 abbrev pub NoBetterInClearWeather : Type 0
 NoBetterInClearWeather =
-    (c d : Case) → Accepted c → Accepted d → SameRoad c d → c .weather ≡ clear → d .weather ≡ clear
-    → c .demand ≤ d .demand
-    → c .«heavy_share» ≤ d .«heavy_share»
-    → hardness (c .terrain) ≤ hardness (d .terrain)
-    → d .«peak_hour_factor» ≤ c .«peak_hour_factor»
-    → d .lanes ≤ c .lanes
-    → letterIn (answerTo c) ≤ letterIn (answerTo d)
+    (c d : Case) → Accepted c → Accepted d → SameRoad c d → c .weather ≡ clear → d .weather ≡ clear → HeavierIsNoBetter c d
 
 -- Part 2. A demand meets a letter, A to E, exactly when it is at most the service volume that the answer to the case gives.
 abbrev pub MeetsUpToTheServiceVolume : Type 0

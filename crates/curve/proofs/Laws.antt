@@ -13,7 +13,7 @@ use Rattle.curve.specs.Laws.{SpeedIsAboveZero, SpeedNeverBelowCapacitySp
 use Rattle.curve.specs.Laws.{DensityNeverFallsWithFlow, SpeedNeverFallsWithFreeFlowSpeed, DensityMeetsLimitByExactSpeed}
 use Rattle.curve.specs.Laws.{DensityAtMost450, LetterNeverBetterWithFlow, LetterNeverBetter}
 use Rattle.curve.proofs.CurveLaws.{capacity-within}
-use Rattle.curve.proofs.WeatherLaws.{curveUnder-clear, curveUnder-wellFormed, curveUnder-sized}
+use Rattle.curve.proofs.WeatherLaws.{curveUnder-clear, curveUnder-fits}
 use Rattle.curve.proofs.SpeedLaws.{speed-numerator-pos, speed-denominator-pos, speed-antitone, capacitySpeed-le}
 use Rattle.curve.proofs.ServiceLaws.{density-le-iff, shownDensity-eq, density-mono, density-le, letterAt-flow, letterAt-mono}
 use Rattle.curve.proofs.ServiceLaws.{speed-mono}
@@ -30,8 +30,7 @@ pub clear-weather-changes-nothing : ClearWeatherChangesNothing
 clear-weather-changes-nothing = curveUnder-clear
 
 pub curve-under-is-well-formed : CurveUnderIsWellFormed
-curve-under-is-well-formed kind weather f fit slow fast =
-    (curveUnder-wellFormed kind weather f fit slow fast, curveUnder-sized kind weather f fit slow fast)
+curve-under-is-well-formed = curveUnder-fits
 
 pub speed-is-above-zero : SpeedIsAboveZero
 speed-is-above-zero curve v ok h = (speed-numerator-pos curve v ok h, speed-denominator-pos curve v ok)

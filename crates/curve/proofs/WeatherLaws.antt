@@ -1,7 +1,7 @@
 -- The curve under weather (specs/Weather).
 --   adjustedSpeed-le       the factor raises no speed
 --   curveUnder-clear       in clear weather it is the curve at the free-flow speed
---   curveUnder-wellFormed, curveUnder-sized   with factors and speeds between their ends it is well formed and within the sizes
+--   curveUnder-fits        with factors and speeds between their ends it is well formed and within the sizes
 -- Assumes nothing.
 use mathlib.Core.Path.{_≡_, ap, sym, subst, _∙_}
 use Prim.Native.Nat.{ℕ, _+_, _*_, _-_, _≤_}
@@ -90,34 +90,20 @@ module _ (weather : Weather) (low : 500 ≤ weather .«capacity_factor») (high 
   )
 
 -- 10c ≤ 45F from 48,572 up: 50,000 leaves room
-pub curveUnder-wellFormed : (kind : Kind) (weather : Weather) (f : ℕ) → FactorsFit kind weather
-    → lowestAdjustedSpeed kind ≤ adjustedSpeed weather f → f ≤ highestSpeed kind → WellFormed (curveUnder weather kind f)
+pub curveUnder-fits : (kind : Kind) (weather : Weather) (f : ℕ) → FactorsFit kind weather
+    → lowestAdjustedSpeed kind ≤ adjustedSpeed weather f → f ≤ highestSpeed kind
+    → WellFormed (curveUnder weather kind f) × Sized (curveUnder weather kind f)
 unfolding curveUnder
-curveUnder-wellFormed Kind.Freeway weather f fit slow fast =
+curveUnder-fits Kind.Freeway weather f fit slow fast =
     let g = adjustedSpeed weather f in
     let top : g ≤ 75000 = le-trans (adjustedSpeed-le weather f (fit .speed-high)) fast in
     let c = c-ends weather (fit .capacity-low) (fit .capacity-high) g slow top in
     let b = b-ends weather (fit .capacity-low) (fit .capacity-high) g slow top in
-    let raw = c-raw weather (fit .capacity-low) (fit .capacity-high) g slow top in
-    record { breakpoint-below = omega (arith, fit .capacity-low, c, b); capacitySpeed-le = omega (arith, c, raw) }
-curveUnder-wellFormed Kind.Multilane weather f fit slow fast =
+    let raw = c-raw weather (fit .capacity-low) (fit .capacity-high) g slow top in (
+      record { breakpoint-below = omega (arith, fit .capacity-low, c, b); capacitySpeed-le = omega (arith, c, raw) },
+      record { speed-le = top; capacity-le = omega (arith, c, raw); span-le = omega (arith, fit .capacity-high, c, b) },
+    )
+curveUnder-fits Kind.Multilane weather f fit slow fast =
     let same = multilane-curve weather f fit slow in
-    subst WellFormed (sym (same .0)) (curveAt-wellFormed Kind.Multilane f (same .1) fast)
-
-pub curveUnder-sized : (kind : Kind) (weather : Weather) (f : ℕ) → FactorsFit kind weather
-    → lowestAdjustedSpeed kind ≤ adjustedSpeed weather f → f ≤ highestSpeed kind → Sized (curveUnder weather kind f)
-unfolding curveUnder
-curveUnder-sized Kind.Freeway weather f fit slow fast =
-    let g = adjustedSpeed weather f in
-    let top : g ≤ 75000 = le-trans (adjustedSpeed-le weather f (fit .speed-high)) fast in
-    let c = c-ends weather (fit .capacity-low) (fit .capacity-high) g slow top in
-    let b = b-ends weather (fit .capacity-low) (fit .capacity-high) g slow top in
-    let raw = c-raw weather (fit .capacity-low) (fit .capacity-high) g slow top in
-    record {
-      speed-le = top;
-      capacity-le = omega (arith, c, raw);
-      span-le = omega (arith, fit .capacity-high, c, b);
-    }
-curveUnder-sized Kind.Multilane weather f fit slow fast =
-    let same = multilane-curve weather f fit slow in
-    subst Sized (sym (same .0)) (curveAt-sized Kind.Multilane f (same .1) fast)
+    subst (λ curve. WellFormed curve × Sized curve) (sym (same .0))
+    (curveAt-wellFormed Kind.Multilane f (same .1) fast, curveAt-sized Kind.Multilane f (same .1) fast)

@@ -18,7 +18,7 @@ use Rattle.checks.proofs.RefusalLaws.{unlessRefused-refused}
 use Rattle.curve.specs.declared.Curve.{Curve}
 use Rattle.curve.specs.Curves.{WellFormed, Sized}
 use Rattle.curve.specs.Weather.{curveUnder}
-use Rattle.curve.proofs.WeatherLaws.{curveUnder-wellFormed, curveUnder-sized}
+use Rattle.curve.proofs.WeatherLaws.{curveUnder-fits}
 use Rattle.road.specs.declared.Case.{Case}
 use Rattle.road.specs.FreeFlowSpeed.{freeFlowSpeed}
 use Rattle.road.specs.Refusals.{FieldsFit}
@@ -29,17 +29,17 @@ use Rattle.method.specs.Refusals.{refusal, Accepted}
 use Rattle.method.specs.Checked.{curveOf, caseCurve, checkedCurve, checked, refusalNumber}
 use Rattle.method.proofs.RefusalLaws.{refusals-fields, accepted-fields, accepted-adjusted}
 
-pub caseCurve-wellFormed : (case : Case) → Accepted case → WellFormed (caseCurve case)
+fits : (case : Case) → Accepted case → WellFormed (caseCurve case) × Sized (caseCurve case)
 unfolding curveOf
-caseCurve-wellFormed case a =
-    curveUnder-wellFormed (case .road .kind) (case .weather) (freeFlowSpeed (case .road) (case .lanes))
+fits case a =
+    curveUnder-fits (case .road .kind) (case .weather) (freeFlowSpeed (case .road) (case .lanes))
     (fields-weather case (accepted-fields case a)) (accepted-adjusted case a) (freeFlowSpeed-le (case .road) (case .lanes))
 
+pub caseCurve-wellFormed : (case : Case) → Accepted case → WellFormed (caseCurve case)
+caseCurve-wellFormed case a = fits case a .0
+
 pub caseCurve-sized : (case : Case) → Accepted case → Sized (caseCurve case)
-unfolding curveOf
-caseCurve-sized case a =
-    curveUnder-sized (case .road .kind) (case .weather) (freeFlowSpeed (case .road) (case .lanes))
-    (fields-weather case (accepted-fields case a)) (accepted-adjusted case a) (freeFlowSpeed-le (case .road) (case .lanes))
+caseCurve-sized case a = fits case a .1
 
 pub caseCurve-kind : (case : Case) → caseCurve case .kind ≡ case .road .kind
 unfolding curveOf curveUnder

@@ -1,19 +1,21 @@
 -- `method::checked::checked_curve` meets its contract: below the lower end before the factor or after it it is 10, else the curve.
 -- Assumes nothing.
-use mathlib.Core.Path.{_≡_, ap, _∙_}
-use Prim.Native.Nat.{ℕ}
+use mathlib.Core.Path.{_≡_}
+use mathlib.Core.Bool.{Bool, true, false, cond}
+use Prim.Native.Nat.{ℕ, _≤_}
 use native.Mathlib.Omega.{arith}
 use borrow.Author.Tests.{lt-ltb, le-ltb}
-use Rattle.curve.specs.declared.kind.Kind.{Kind}
+use lib.Dec.{ltb}
 use Rattle.curve.specs.declared.Curve.{Curve}
 use Rattle.curve.specs.declared.Weather.{Weather}
 use Rattle.curve.specs.Kinds.{lowestSpeed, lowestAdjustedSpeed}
 use Rattle.curve.specs.Weather.{adjustedSpeed, curveUnder}
+use Rattle.road.specs.declared.Road.{Road}
 use Rattle.road.specs.FreeFlowSpeed.{freeFlowSpeed}
 use Rattle.road.proofs.FreeFlowSpeedLaws.{freeFlowSpeed-le}
 use Rattle.method.specs.declared.checked.Checked.the-variants as Checked
 use Rattle.method.specs.Refusals.{speedRefusals}
-use Rattle.method.specs.Checked.{curveOf}
+use Rattle.method.specs.Checked.{curveOf, checkedCurve}
 use borrow.Author.Needs.{needs}
 use Rattle.method.proofs.checked.checked_curve.Statement.{statement}
 use Rattle.method.proofs.checked.checked_curve.Tie as tie
@@ -25,42 +27,34 @@ returns c =
     simp (lt-ltb (freeFlowSpeed (a .road) (a .lanes)) (lowestSpeed (a .road .kind))
     (omega (arith, c .before .before .free-flow-speed .ensures, c .before .lowest-speed .ensures, c .if1 .taken)))
 
--- F after its factor, in a curve that was worked from F before it
-adjusted : (weather : Weather) (kind : Kind) (speed f : ℕ) (curve : Curve) → curve ≡ curveUnder weather kind speed → speed ≡ f
-    → curve .«free_flow_speed» ≡ adjustedSpeed weather f
-unfolding curveUnder
-adjusted weather kind speed f curve made same = ap (λ curve. curve .«free_flow_speed») made ∙ ap (adjustedSpeed weather) same
+-- where F is not below its lower end, the test after its factor decides
+decided : (road : Road) (weather : Weather) (n : ℕ) (b : Bool) {speed lowest least : ℕ} {curve : Curve} → speed ≡ freeFlowSpeed road n
+    → lowest ≡ lowestSpeed (road .kind) → lowest ≤ speed → curve ≡ curveUnder weather (road .kind) speed
+    → least ≡ lowestAdjustedSpeed (road .kind) → ltb (curve .«free_flow_speed») least ≡ b
+    → cond b (Checked.Refused 10) (Checked.Accepted curve) ≡ checkedCurve road weather n
+unfolding speedRefusals curveUnder curveOf
+decided road weather n b f low h made least test =
+    rw (made, f) (by b (le-ltb (freeFlowSpeed road n) (lowestSpeed (road .kind)) (omega (arith, f, low))) (rw (made, f, least) at test))
+  where
+    by : (b : Bool) → ltb (freeFlowSpeed road n) (lowestSpeed (road .kind)) ≡ false
+        → ltb (adjustedSpeed weather (freeFlowSpeed road n)) (lowestAdjustedSpeed (road .kind)) ≡ b
+        → cond b (Checked.Refused 10) (Checked.Accepted (curveOf road weather n)) ≡ checkedCurve road weather n
+    by true first second = simp (first, second)
+    by false first second = simp (first, second)
 
 returns-2 : tie.Need-returns-2
-unfolding speedRefusals
 returns-2 c =
     let u = c .before .before .before in
     let s = u .before .before in
-    let a = s .before .before .args in
-    let f = freeFlowSpeed (a .road) (a .lanes) in
-    let free = s .before .free-flow-speed .ensures in
-    let after = adjusted _ _ _ _ _ (u .curve-under .ensures) free in
-    simp (
-      le-ltb f (lowestSpeed (a .road .kind)) (omega (arith, free, s .lowest-speed .ensures, u .before .if1 .left)),
-      lt-ltb (adjustedSpeed (a .weather) f) (lowestAdjustedSpeed (a .road .kind))
-          (omega (arith, after, c .before .before .lowest-adjusted-speed .ensures, c .if2 .taken)),
-    )
+    decided _ _ _ true (s .before .free-flow-speed .ensures) (s .lowest-speed .ensures) (u .before .if1 .left) (u .curve-under .ensures)
+    (c .before .before .lowest-adjusted-speed .ensures) (lt-ltb _ _ (c .if2 .taken))
 
 returns-3 : tie.Need-returns-3
-unfolding speedRefusals curveOf
 returns-3 c =
     let u = c .before .before .before in
     let s = u .before .before in
-    let a = s .before .before .args in
-    let f = freeFlowSpeed (a .road) (a .lanes) in
-    let free = s .before .free-flow-speed .ensures in
-    let after = adjusted _ _ _ _ _ (u .curve-under .ensures) free in
-    simp (
-      le-ltb f (lowestSpeed (a .road .kind)) (omega (arith, free, s .lowest-speed .ensures, u .before .if1 .left)),
-      le-ltb (adjustedSpeed (a .weather) f) (lowestAdjustedSpeed (a .road .kind))
-          (omega (arith, after, c .before .before .lowest-adjusted-speed .ensures, c .if2 .left)),
-    )
-    (ap Checked.Accepted (u .curve-under .ensures ∙ ap (curveUnder (a .weather) (a .road .kind)) free))
+    decided _ _ _ false (s .before .free-flow-speed .ensures) (s .lowest-speed .ensures) (u .before .if1 .left) (u .curve-under .ensures)
+    (c .before .before .lowest-adjusted-speed .ensures) (le-ltb _ _ (c .if2 .left))
 
 pub checked-curve-spec : {M : Type 1} → statement M
 checked-curve-spec =
