@@ -1,18 +1,18 @@
 -- The laws that specs/Laws states, proved: each by the law of the file beside its definition.
 --   straight-between-entries, clearances-are-whole, right-clearance-by-tenths, ramp-term-is-greatest, estimate-never-below-zero,
---   free-flow-speed-never-falls-with-lanes
+--   free-flow-speed-never-falls-with-lanes, weather-fits-exactly
 -- Assumes nothing.
 use mathlib.Core.Path.{_≡_}
 use Prim.Native.Nat.{_≤_, min}
 use native.Mathlib.Omega.{arith}
 use Rattle.road.specs.FreeFlowSpeed.{estimatedBy}
 use Rattle.road.specs.Laws.{StraightBetweenEntries, ClearancesAreWhole, RightClearanceByTenths, RampTermIsGreatest}
-use Rattle.road.specs.Laws.{EstimateNeverBelowZero, FreeFlowSpeedNeverFallsWithLanes}
+use Rattle.road.specs.Laws.{EstimateNeverBelowZero, FreeFlowSpeedNeverFallsWithLanes, WeatherFitsExactly}
 use Rattle.road.proofs.InterpolationLaws.{weightedSum-between}
 use Rattle.road.proofs.AdjustmentLaws.{rightClearanceAdjustment-whole, rightClearanceAdjustment-tenths}
 use Rattle.road.proofs.AdjustmentLaws.{totalClearanceAdjustment-whole}
 use Rattle.road.proofs.RampLaws.{rampTerm-rule}
-use Rattle.road.proofs.RefusalLaws.{road-ends}
+use Rattle.road.proofs.RefusalLaws.{road-ends, weather-exactly}
 use Rattle.road.proofs.FreeFlowSpeedLaws.{freewayTerms-le, multilaneTerms-le, freeFlowSpeed-mono}
 
 pub straight-between-entries : StraightBetweenEntries
@@ -40,3 +40,6 @@ estimate-never-below-zero road n z =
 
 pub free-flow-speed-never-falls-with-lanes : FreeFlowSpeedNeverFallsWithLanes
 free-flow-speed-never-falls-with-lanes = freeFlowSpeed-mono
+
+pub weather-fits-exactly : WeatherFitsExactly
+weather-fits-exactly = weather-exactly

@@ -4,10 +4,12 @@
 --   fields-numbered      every number is above 0
 --   RoadEnds, road-ends  the ends that 1 and 5 leave to a road
 --   LoadEnds, load-ends  the ends that 6 to 9 leave to a case
---   fields-weather       the factors that 19 lets pass
+--   weather-exactly, fields-weather   the factors that 19 lets pass
 --   fields-withLanes     a case that none of them refuses is so with every lane count of the kind
 -- Assumes nothing.
 use mathlib.Core.Path.{_≡_, _∙_}
+use mathlib.Core.Bool.{false}
+use mathlib.Core.Logic.{_↔_}
 use Prim.Native.Nat.{ℕ, _≤_, _<_}
 use borrow.Author.Tests.{ltb-false}
 use lib.Dec.{T}
@@ -15,6 +17,8 @@ use Rattle.numbers.proofs.BoolLaws.{or-false}
 use Rattle.checks.specs.Refusals.{firstRefusal, outside}
 use Rattle.checks.proofs.RefusalLaws.{numbered, firstRefusal-none, firstRefusal-some, firstRefusal-join, NoneMet, none-met, none-of, within}
 use Rattle.checks.proofs.RefusalLaws.{inside}
+use Rattle.curve.specs.declared.kind.Kind.{Kind}
+use Rattle.curve.specs.declared.Weather.{Weather}
 use Rattle.curve.specs.Kinds.{lowestFactor, fewestLanes, mostLanes}
 use Rattle.curve.specs.Weather.{FactorsFit}
 use Rattle.road.specs.declared.Road.{Road}
@@ -89,16 +93,30 @@ load-ends case z =
       share-high = ltb-false 1000 (case .«heavy_share») (none .1 .1 .1 .0);
     }
 
+pub weather-exactly : (kind : Kind) (weather : Weather) → (weatherUnfit kind weather ≡ false) ↔ FactorsFit kind weather
+unfolding weatherUnfit
+weather-exactly kind weather = (to, from)
+  where
+    low : ℕ
+    low = lowestFactor kind
+
+    to : weatherUnfit kind weather ≡ false → FactorsFit kind weather
+    to e =
+        let none = or-false (outside low 1000 (weather .«speed_factor»)) (outside low 1000 (weather .«capacity_factor»)) e in
+        let speed = within low 1000 (weather .«speed_factor») (none .0) in
+        let capacity = within low 1000 (weather .«capacity_factor») (none .1) in
+        record { speed-low = speed .0; speed-high = speed .1; capacity-low = capacity .0; capacity-high = capacity .1 }
+
+    from : FactorsFit kind weather → weatherUnfit kind weather ≡ false
+    from fit =
+        simp (
+          inside low 1000 (weather .«speed_factor») (fit .speed-low) (fit .speed-high),
+          inside low 1000 (weather .«capacity_factor») (fit .capacity-low) (fit .capacity-high),
+        )
+
 pub fields-weather : (case : Case) → FieldsFit case → FactorsFit (case .road .kind) (case .weather)
-unfolding loadRefusals weatherUnfit
-fields-weather case z =
-    let low = lowestFactor (case .road .kind) in
-    let w = case .weather in
-    let none = or-false (outside low 1000 (w .«speed_factor»)) (outside low 1000 (w .«capacity_factor»))
-    (load-none case z .1 .1 .1 .1 .0) in
-    let speed = within low 1000 (w .«speed_factor») (none .0) in
-    let capacity = within low 1000 (w .«capacity_factor») (none .1) in
-    record { speed-low = speed .0; speed-high = speed .1; capacity-low = capacity .0; capacity-high = capacity .1 }
+unfolding loadRefusals
+fields-weather case z = weather-exactly (case .road .kind) (case .weather) .0 (load-none case z .1 .1 .1 .1 .0)
 
 -- ---- a case with another lane count
 pub fields-withLanes : (case : Case) (n : ℕ) → FieldsFit case → fewestLanes (case .road .kind) ≤ n → n ≤ mostLanes (case .road .kind)

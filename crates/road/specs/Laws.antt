@@ -1,19 +1,24 @@
--- The laws of free-flow speed, stated over the definitions that the contracts cite; proofs/Laws proves each.
+-- The laws of free-flow speed, and of refusal 19, stated over the definitions that the contracts cite; proofs/Laws proves each.
 --   StraightBetweenEntries, ClearancesAreWhole, RightClearanceByTenths, RampTermIsGreatest, EstimateNeverBelowZero,
---   FreeFlowSpeedNeverFallsWithLanes
+--   FreeFlowSpeedNeverFallsWithLanes, WeatherFitsExactly
 -- Assumes nothing.
 use mathlib.Core.Path.{_≡_}
+use mathlib.Core.Bool.{false}
+use mathlib.Core.Logic.{_↔_}
 use mathlib.Core.List.{List}
 use Prim.Native.Nat.{ℕ, suc, _+_, _*_, _-_, _^_, _≤_, _<_, min}
 use lib.ListN.{getD}
+use Rattle.curve.specs.declared.kind.Kind.{Kind}
 use Rattle.curve.specs.declared.kind.Kind.the-variants as Kind
+use Rattle.curve.specs.declared.Weather.{Weather}
+use Rattle.curve.specs.Weather.{FactorsFit}
 use Rattle.road.specs.declared.Road.{Road}
 use Rattle.road.specs.Interpolation.{weightedSum}
 use Rattle.road.specs.Adjustments.{laneWidthAdjustment, perMissingFoot, rightClearanceRow, rightClearanceAdjustment}
 use Rattle.road.specs.Adjustments.{totalClearance, totalClearanceRow, totalClearanceAdjustment, medianAdjustment, accessAdjustment}
 use Rattle.road.specs.RampTerm.{rampTerm}
 use Rattle.road.specs.FreeFlowSpeed.{estimatedSpeed, freeFlowSpeed}
-use Rattle.road.specs.Refusals.{RoadFits}
+use Rattle.road.specs.Refusals.{weatherUnfit, RoadFits}
 
 -- Over any row, t tenths past entry j, up to the next entry, which is included: step times the line's height is step − t times the one
 -- entry and t times the other. Past the row's end an entry is 0.
@@ -55,3 +60,7 @@ EstimateNeverBelowZero =
 -- Free-flow speed never falls with more lanes.
 abbrev pub FreeFlowSpeedNeverFallsWithLanes : Type 0
 FreeFlowSpeedNeverFallsWithLanes = (road : Road) (m n : ℕ) → m ≤ n → freeFlowSpeed road m ≤ freeFlowSpeed road n
+
+-- 19 lets pass exactly the factors within the kind's ends: 500 to 1,000 on kind F, 1,000 on kind M.
+abbrev pub WeatherFitsExactly : Type 0
+WeatherFitsExactly = (kind : Kind) (weather : Weather) → (weatherUnfit kind weather ≡ false) ↔ FactorsFit kind weather

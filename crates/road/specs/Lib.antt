@@ -5,7 +5,7 @@
 --   RampTerm        what ramps take off
 --   FreeFlowSpeed   F, given or estimated
 --   Refusals        1 to 9 and 19 in their order
---   Laws            the laws of free-flow speed, stated
+--   Laws            the laws of free-flow speed and of refusal 19, stated
 pub mod Cases
 pub mod Interpolation
 pub mod Adjustments
