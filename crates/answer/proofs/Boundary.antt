@@ -10,7 +10,7 @@
 -- Assumes nothing.
 use mathlib.Core.Path.{_≡_, refl, ap, _∙_}
 use mathlib.Core.Bool.{Bool, false, _&&_}
-use mathlib.Core.List.{List, [], _∷_}
+use mathlib.Core.List.{List, [], _∷_, _++_}
 use Prim.Native.Nat.{ℕ, _≤_}
 use native.Mathlib.Omega.{arith}
 use lib.Dec.{T, leb, leb→le}
@@ -51,7 +51,8 @@ use Rattle.answer.specs.Answers as answers
 use Rattle.answer.specs.Answers.{graded, answerTo}
 use Rattle.answer.specs.Lanes.{lanesFound, lanesRefusals, lanesAnswer, refusalNumber, values}
 use Rattle.answer.specs.Search.{demandMeets}
-use Rattle.answer.specs.Boundary.{exampleWith, exampleInSnow, estimated, givenInSnow, refusedBy19, addedFigures, boundaryFigures}
+use Rattle.answer.specs.Boundary.{exampleWith, exampleInSnow, estimated, givenInSnow, refusedBy19, refusedByAll, addedFigures}
+use Rattle.answer.specs.Boundary.{boundaryFigures}
 use Rattle.answer.proofs.VolumeLaws.{demandMeets-down, serviceVolume-eq}
 
 -- F by the lanes, of the printed case and of the one that 10 refuses
@@ -192,9 +193,10 @@ example-figures = ap (drop 1) example-answer
 abbrev counted : Case → ℕ → List ℕ
 counted case n = refusalNumber (lanesAnswer case n) ∷ values (lanesAnswer case n)
 
--- the lanes of the printed case, with more demand, with a letter number past E; in snow; and 19
+-- the lanes of the printed case, with more demand, with a letter number past E; in snow; the order 16, 1, 19
 lanes-shown : (counted example 3 ≡ 0 ∷ 2 ∷ []) × (counted (exampleWith 2643) 3 ≡ 0 ∷ 3 ∷ []) × (counted (exampleWith 99999) 3 ≡ 14 ∷ [])
-    × (counted example 6 ≡ 16 ∷ []) × (counted (exampleInSnow 2222) 3 ≡ 0 ∷ 3 ∷ []) × (counted refusedBy19 1 ≡ 19 ∷ [])
+    × (counted example 6 ≡ 16 ∷ []) × (counted (exampleInSnow 2222) 3 ≡ 0 ∷ 3 ∷ [])
+    × (counted refusedBy19 1 ++ (counted refusedBy19 6 ++ (counted refusedByAll 1 ++ counted refusedByAll 0)) ≡ 19 ∷ 16 ∷ 1 ∷ 16 ∷ [])
 unfolding divUp leastFrom least weatherUnfit roadRefusals loadRefusals fieldRefusals refusals heavyFactor flowRate fallShareBy speed
     shownSpeed density shownDensity densityLimit densityLetter letterAt performance measures meets lanesFound lanesRefusals
 lanes-shown =

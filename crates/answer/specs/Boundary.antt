@@ -4,6 +4,7 @@
 --   estimated            F E 60000 120 0 0 D 6 2 2000 1000 0 L: refused with 10, and 4 lanes are the least for every letter
 --   givenInSnow n demand   F G 75000 120 60 60 D 0 N V 1000 0 L 950 900
 --   refusedBy19          F G 75000 120 60 60 D 0 2 0 1000 0 L 499 1000
+--   refusedByAll         a case that breaks 1 to 9, 19 and 10
 --   addedFigures         what this layer adds
 --   boundaryFigures      the longer list
 -- Assumes nothing.
@@ -17,7 +18,7 @@ use Rattle.road.specs.declared.Terrain.the-variants as Terrain
 use Rattle.road.specs.declared.Case.{Case}
 use Rattle.method.specs.Boundary as method
 use Rattle.checks.specs.Figures.{Figure, figure}
-use Rattle.method.specs.Boundary.{example, given, twoLanesUnder}
+use Rattle.method.specs.Boundary.{example, given, twoLanesUnder, faulty}
 use Rattle.road.specs.Cases.{road, loaded, withDemand, withLanes}
 use Rattle.answer.specs.Answers as answers
 use Rattle.answer.specs.Answers.{answerTo}
@@ -41,6 +42,9 @@ givenInSnow n demand = withLanes (twoLanesUnder (factors 950 900) (given Kind.Fr
 abbrev pub refusedBy19 : Case
 refusedBy19 = twoLanesUnder (factors 499 1000) (given Kind.Freeway 75000 120) 0
 
+abbrev pub refusedByAll : Case
+refusedByAll = faulty 0 99 401 Median.Undivided 49 1 1000000 249 1001 499
+
 -- the number of an answer's refusal, 0 for none, and its values
 abbrev answered : Case → List ℕ
 answered case = answers.refusalNumber (answerTo case) ∷ answers.values (answerTo case)
@@ -51,7 +55,7 @@ counted case n = lanes.refusalNumber (lanesAnswer case n) ∷ lanes.values (lane
 
 -- Of what is accepted 0 and its values, of what is refused its number. Starred: the printed line. Not starred: the lanes question at the
 -- printed case with letter C, with V = 2,643 and with 99,999; a letter number past E; a case that 10 refuses, and its lanes; answers in
--- snow, at a given and at an estimated speed; the lanes of the latter; and a lanes question that 19 refuses.
+-- snow, at a given and at an estimated speed; the lanes of the latter; the order 16, 1, 19 in the lanes question.
 unfoldable pub addedFigures : List Figure
 addedFigures =
     figure (answered example) (0 ∷ 3 ∷ 60783 ∷ 230783 ∷ 1196 ∷ 60783 ∷ 197 ∷ 1117 ∷ 1829 ∷ 2642 ∷ 3360 ∷ 3858 ∷ [])
@@ -64,7 +68,7 @@ addedFigures =
     ∷ figure (answered (givenInSnow 2 3000)) (0 ∷ 3 ∷ 71250 ∷ 216000 ∷ 1500 ∷ 66271 ∷ 227 ∷ 1566 ∷ 2506 ∷ 3294 ∷ 3884 ∷ 4320 ∷ [])
     ∷ figure (answered (exampleInSnow 2000)) (0 ∷ 3 ∷ 52273 ∷ 173372 ∷ 1196 ∷ 52222 ∷ 230 ∷ 961 ∷ 1572 ∷ 2221 ∷ 2636 ∷ 2898 ∷ [])
     ∷ figure (counted (exampleInSnow 2222) 3) (0 ∷ 3 ∷ [])
-    ∷ figure (counted refusedBy19 1) (19 ∷ [])
+    ∷ figure (counted refusedBy19 1 ++ (counted refusedBy19 6 ++ (counted refusedByAll 1 ++ counted refusedByAll 0))) (19 ∷ 16 ∷ 1 ∷ 16 ∷ [])
     ∷ []
 
 abbrev pub boundaryFigures : List Figure

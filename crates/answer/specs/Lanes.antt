@@ -1,4 +1,4 @@
--- The lanes question (document 01, "Flow, letter, service volume, lanes").
+-- The lanes question (document 01, "Flow, letter, service volume, lanes", and document 02, T-03).
 --   lanesMeet case n lanes  the case with this lane count meets letter number n
 --   lanesFound case n       the least lane count with which the case meets letter number n; one more than the kind's most where none does
 --   lanesRefusals case n    what refuses the question, in its order: 16, 1 to 9, 19, 14

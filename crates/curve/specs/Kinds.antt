@@ -5,7 +5,7 @@
 --   lowestAdjustedSpeed               the lower end of F after the speed factor
 --   lowestFactor                      the lower end of the weather's factors
 --   fewestLanes, mostLanes            the ends of the lane count
---   lowestCapacity, highestCapacity   the ends of capacity, at the ends of F
+--   lowestCapacity, highestCapacity   the ends of capacity in clear weather, at the ends of F
 -- Assumes nothing.
 use Prim.Native.Nat.{ℕ}
 use Rattle.curve.specs.declared.kind.Kind.{Kind}

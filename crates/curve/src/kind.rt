@@ -1,5 +1,5 @@
 // The two kinds of road and what each carries: the ends of F in thousandths of mi/h, of the weather's factors in thousandths, of the lane
-// count, and of capacity, at those ends of F, in hundredths of passenger cars per hour per lane.
+// count, and of capacity in clear weather, at those ends of F, in hundredths of passenger cars per hour per lane.
 //   Freeway, Multilane            the two kinds, with what they carry as constants
 //   Kind                          one of the two
 //   lowest_speed, highest_speed   the ends of F

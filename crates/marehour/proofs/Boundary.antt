@@ -4,7 +4,7 @@
 use mathlib.Core.Path.{_≡_, refl, ap, _∙_}
 use mathlib.Core.List.{[], _∷_, _++_, flatMap}
 use Prim.Native.String.{_++_ as _then_}
-use lib.ListN.{drop, getD, replicate}
+use lib.ListN.{length, drop, getD, replicate}
 use Rattle.text.specs.Bytes.{bytesOf}
 use Rattle.text.specs.Parts.{onFirst, parts}
 use Rattle.text.specs.Decimal.{decimalUpTo, decimal, figuresText, rowText}
@@ -31,7 +31,7 @@ use Rattle.replies.specs.Output.{lineTexts}
 use Rattle.replies.proofs.TextsLaws.{lineText-refused, lineText-case}
 use Rattle.marehour.specs.Calls.{dayCall, content}
 use Rattle.marehour.proofs.Laws.{day-call-is-the-day}
-use Rattle.marehour.specs.Boundary.{printedLine, printedAnswer, snowAnswer, addedFigures, boundaryFigures}
+use Rattle.marehour.specs.Boundary.{printedLine, printedAnswer, snowAnswer, longest, addedFigures, boundaryFigures}
 
 line-read : readLine (bytesOf printedLine) ≡ LineRead.Case example
 unfolding onFirst parts layout completed spelled number oneOf letter fieldAs valuesOf caseOf readValues readLine
@@ -54,6 +54,11 @@ factor-shown : lineText (bytesOf (printedLine then "\t99999\t1000")) ≡ bytesOf
 unfolding flatMap onFirst parts decimalUpTo decimal figuresText rowText layout completed spelled number oneOf letter fieldAs valuesOf caseOf
     readValues readLine weatherUnfit roadRefusals loadRefusals fieldRefusals refusals refusalText textOf lineText
 factor-shown = refl
+
+longest-shown : length (bytesOf longest) ∷ (refusalNumber (readLine (bytesOf longest)) ∷ values (readLine (bytesOf longest)))
+    ≡ 73 ∷ 0 ∷ 77 ∷ 71 ∷ 99999 ∷ 99999 ∷ 99999 ∷ 99999 ∷ 84 ∷ 99999 ∷ 99999 ∷ 99999 ∷ 99999 ∷ 99999 ∷ 76 ∷ 99999 ∷ 99999 ∷ []
+unfolding onFirst parts layout completed spelled number oneOf letter fieldAs valuesOf caseOf readValues readLine
+longest-shown = refl
 
 -- an empty line, and a line of one field
 short-shown : (lineText [] ≡ refusalText 15) × (lineText (bytesOf "F") ≡ refusalText 15)
@@ -83,7 +88,7 @@ added-shown = (
         day-shown,
         (
           ap (λ r. refusalNumber r ∷ values r) line-read,
-          (refl, (refl, (refl, (refl, (refl, (snow-shown, (refl, (refl, (refl, (factor-shown, tt)))))))))),
+          (refl, (refl, (refl, (refl, (refl, (snow-shown, (refl, (refl, (refl, (factor-shown, (longest-shown, tt))))))))))),
         ),
       ),
     ),

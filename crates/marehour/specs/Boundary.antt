@@ -3,13 +3,14 @@
 --   printedLineWith v t   the same with another demand and another terrain
 --   printedAnswer         what `los` prints for it
 --   snowAnswer            what it prints for the same line with the factors 860 and 780
+--   longest               a well-formed line of 73 bytes
 --   addedFigures          what this layer adds
 --   boundaryFigures       the list
 -- Assumes nothing.
 use Prim.Native.Nat.{ℕ}
 use Prim.Native.String.{String, _++_ as _then_}
 use mathlib.Core.List.{List, [], _∷_, _++_}
-use lib.ListN.{replicate}
+use lib.ListN.{length, replicate}
 use Rattle.text.specs.Bytes.{bytesOf}
 use Rattle.checks.specs.Figures.{Figure, figure}
 use Rattle.answer.specs.Boundary as answer
@@ -38,10 +39,13 @@ printedAnswer = "C\t60783\t230783\t1196\t60783\t197\t1117\t1829\t2642\t3360\t385
 abbrev pub snowAnswer : String
 snowAnswer = "C\t52273\t173372\t1196\t52222\t230\t961\t1572\t2221\t2636\t2898\n"
 
+abbrev pub longest : String
+longest = "M\tG\t99999\t99999\t99999\t99999\tT\t99999\t99999\t99999\t99999\t99999\tL\t99999\t99999"
+
 -- Starred: the printed line. Not starred: what is printed for it between an empty line and a last line without newline; an empty input;
 -- its day with 2,000, 1,000,000 and 2,643; its 15 values, letters by their bytes; the line with a leading zero, six digits and an empty
 -- field as its demand, with an empty 14th field, and with an unknown terrain; in snow; with 14 fields, 16, and a leading zero in a factor;
--- and with a factor of 99999, which is 19.
+-- and with a factor of 99999, which is 19; and the longest line that is read.
 unfoldable pub addedFigures : List Figure
 addedFigures =
     figure (lineText (bytesOf printedLine)) (bytesOf printedAnswer)
@@ -59,6 +63,8 @@ addedFigures =
     ∷ figure (readAs (printedLine then "\t1000\t1000\t1000")) (15 ∷ [])
     ∷ figure (readAs (printedLine then "\t0950\t1000")) (15 ∷ [])
     ∷ figure (lineText (bytesOf (printedLine then "\t99999\t1000"))) (bytesOf "X\t19\n")
+    ∷ figure (length (bytesOf longest) ∷ readAs longest)
+    (73 ∷ 0 ∷ 77 ∷ 71 ∷ 99999 ∷ 99999 ∷ 99999 ∷ 99999 ∷ 84 ∷ 99999 ∷ 99999 ∷ 99999 ∷ 99999 ∷ 99999 ∷ 76 ∷ 99999 ∷ 99999 ∷ [])
     ∷ []
 
 abbrev pub boundaryFigures : List Figure

@@ -4,7 +4,9 @@
 --   twoLanesUnder weather road v   its case with two lanes and demand v, no heavy vehicles, level, under weather
 --   twoLanes road v  the same in clear weather
 --   example          the printed line's case
---   boundaryFigures, clearanceFigures, speedFigures, weatherFigures   the list, and its last parts, each the end of the one before
+--   faulty ..        a case of kind F with these fields
+--   boundaryFigures, clearanceFigures, speedFigures, weatherFigures, orderFigures   the list, and its last parts, each the end of the one
+--                    before
 -- Assumes nothing.
 use mathlib.Core.List.{List, [], _∷_, map}
 use Prim.Native.Nat.{ℕ}
@@ -68,29 +70,59 @@ assessed case = refusalNumber (assessment case) ∷ values (assessment case)
 abbrev checkedAs : Case → List ℕ
 checkedAs case = checked.refusalNumber (checked.checked case) ∷ checked.values (checked.checked case)
 
--- Under snow or rain (document 02, T-03): b rounded down once; b and c from F after its factor, below the breakpoint and past it; the upper
--- end before the factor; F, c and both factors at once; 50,000 after the factor, and 55,000 before it; the ends of the factors, on kind M
--- too; 9 before 19, and 19 before 10.
+-- a case of kind F with these fields, level, with a speed factor
+abbrev pub faulty : (speed width right : ℕ) → Median → (access lanes demand factor share speedFactor : ℕ) → Case
+faulty speed width right median access lanes demand factor share speedFactor =
+    loaded (road Kind.Freeway Way.Given speed width right 0 median access) lanes demand factor share Terrain.Level
+    (factors speedFactor 1000)
+
+-- The order of refusals: a case that breaks all of 1 to 9, 19 and 10, and then without its first fault, again and again.
+unfoldable pub orderFigures : List Figure
+orderFigures =
+    figure (
+    refusal (faulty 0 99 401 Median.Undivided 49 1 1000000 249 1001 499)
+    ∷ refusal (faulty 54999 99 401 Median.Undivided 49 1 1000000 249 1001 499)
+    ∷ refusal (faulty 54999 120 401 Median.Undivided 49 1 1000000 249 1001 499)
+    ∷ refusal (faulty 54999 120 60 Median.Undivided 49 1 1000000 249 1001 499)
+    ∷ refusal (faulty 54999 120 60 Median.Divided 49 1 1000000 249 1001 499)
+    ∷ refusal (faulty 54999 120 60 Median.Divided 0 1 1000000 249 1001 499)
+    ∷ refusal (faulty 54999 120 60 Median.Divided 0 2 1000000 249 1001 499)
+    ∷ refusal (faulty 54999 120 60 Median.Divided 0 2 0 249 1001 499)
+    ∷ refusal (faulty 54999 120 60 Median.Divided 0 2 0 1000 1001 499)
+    ∷ refusal (faulty 54999 120 60 Median.Divided 0 2 0 1000 0 499)
+    ∷ refusal (faulty 54999 120 60 Median.Divided 0 2 0 1000 0 1000)
+    ∷ refusal (faulty 55000 120 60 Median.Divided 0 2 0 1000 0 1000)
+    ∷ []
+    )
+    (1 ∷ 2 ∷ 3 ∷ 4 ∷ 5 ∷ 6 ∷ 7 ∷ 8 ∷ 9 ∷ 19 ∷ 10 ∷ 0 ∷ [])
+    ∷ []
+
+-- Under snow or rain (document 02, T-03): b rounded down once; b and c from F after its factor, below the breakpoint and past it; F, c and b
+-- each with a fraction above a half; the upper end before the factor; F, c and both factors at once; 50,000 after the factor, and 55,000
+-- before it; the ends of the factors, on kind M too; 19 before 10 on kind M.
 unfoldable pub weatherFigures : List Figure
 weatherFigures =
     figure (checkedAs (snow 67855 1000 942 3534)) (0 ∷ 67855 ∷ 224059 ∷ 114097 ∷ [])
     ∷ figure (assessed (snow 67855 1000 942 3534)) (0 ∷ 4 ∷ 67855 ∷ 224059 ∷ 1767 ∷ 62000 ∷ 285 ∷ [])
     ∷ figure (assessed (snow 60000 950 1000 3000)) (0 ∷ 4 ∷ 57000 ∷ 227000 ∷ 1500 ∷ 57000 ∷ 264 ∷ [])
     ∷ figure (assessed (snow 60000 950 1000 3800)) (0 ∷ 4 ∷ 57000 ∷ 227000 ∷ 1900 ∷ 56297 ∷ 338 ∷ [])
+    ∷ figure (checkedAs (snow 60001 955 946 0)) (0 ∷ 57300 ∷ 215025 ∷ 152851 ∷ [])
     ∷ figure (checkedAs (snow 90000 900 1000 0)) (0 ∷ 67500 ∷ 237500 ∷ 130000 ∷ [])
     ∷ figure (assessed (snow 75000 950 900 3000)) (0 ∷ 3 ∷ 71250 ∷ 216000 ∷ 1500 ∷ 66271 ∷ 227 ∷ [])
     ∷ figure (assessed (snow 75000 667 1000 3000)) (0 ∷ 4 ∷ 50025 ∷ 220025 ∷ 1500 ∷ 50025 ∷ 300 ∷ [])
     ∷ figure (assessed (snow 75000 666 1000 3000)) (10 ∷ [])
     ∷ figure (assessed (snow 75000 1000 500 3000)) (0 ∷ 6 ∷ 75000 ∷ 120000 ∷ 1500 ∷ 0 ∷ 0 ∷ [])
+    ∷ figure (checkedAs (snow 62500 800 1000 0)) (0 ∷ 50000 ∷ 220000 ∷ 200000 ∷ [])
+    ∷ figure (checkedAs (snow 55066 908 1000 0)) (10 ∷ [])
     ∷ figure (checkedAs (snow 55000 910 1000 0)) (0 ∷ 50050 ∷ 220050 ∷ 199800 ∷ [])
     ∷ figure (checkedAs (snow 55000 909 1000 0)) (10 ∷ [])
     ∷ figure (checkedAs (snow 54999 910 1000 0)) (10 ∷ [])
     ∷ figure (map (λ s. refusal (snow 75000 s 1000 0)) (0 ∷ 499 ∷ 500 ∷ 1000 ∷ 1001 ∷ 99999 ∷ [])) (19 ∷ 19 ∷ 10 ∷ 0 ∷ 19 ∷ 19 ∷ [])
     ∷ figure (map (λ k. refusal (snow 75000 1000 k 0)) (0 ∷ 499 ∷ 500 ∷ 1000 ∷ 1001 ∷ 99999 ∷ [])) (19 ∷ 19 ∷ 0 ∷ 0 ∷ 19 ∷ 19 ∷ [])
-    ∷ figure (refusal (onMultilane 60000 999 1000) ∷ refusal (onMultilane 60000 1000 999) ∷ refusal (onMultilane 60000 1000 1000) ∷ [])
-    (19 ∷ 19 ∷ 0 ∷ [])
-    ∷ figure (refusal (onMultilane 30000 1000 999) ∷ refusal (onMultilane 30000 1000 1000) ∷ refusal overShare ∷ []) (19 ∷ 10 ∷ 9 ∷ [])
-    ∷ []
+    ∷ figure (map (λ s. refusal (onMultilane 60000 s 1000)) (999 ∷ 1000 ∷ 1001 ∷ [])) (19 ∷ 0 ∷ 19 ∷ [])
+    ∷ figure (map (λ k. refusal (onMultilane 60000 1000 k)) (999 ∷ 1000 ∷ 1001 ∷ [])) (19 ∷ 0 ∷ 19 ∷ [])
+    ∷ figure (refusal (onMultilane 30000 1000 999) ∷ refusal (onMultilane 30000 1000 1000) ∷ []) (19 ∷ 10 ∷ [])
+    ∷ orderFigures
   where
     -- F, given: speed, speed factor, capacity factor, demand
     snow : ℕ → ℕ → ℕ → ℕ → Case
@@ -98,10 +130,6 @@ weatherFigures =
 
     onMultilane : ℕ → ℕ → ℕ → Case
     onMultilane f s k = twoLanesUnder (factors s k) (given Kind.Multilane f 120) 0
-
-    -- P = 1,001
-    overShare : Case
-    overShare = loaded (given Kind.Freeway 75000 120) 2 0 1000 1001 Terrain.Level (factors 499 1000)
 
 -- F with such clearances and by the lanes; the worst road fields, which take off nothing from a given speed.
 unfoldable pub speedFigures : List Figure
@@ -134,7 +162,8 @@ clearanceFigures =
 
 -- Of a case that is accepted 0, and then letter, F, c, v, speed and density, of one that is refused its number. A is 1 and F is 6.
 -- Starred in document 01: all down to the right clearance of 59, which takes off 60 by document 02. Not starred: no demand; two letters
--- that the shown speed would miss; a case that breaks 1 and 2; the curve of a case and its refusal; more clearances.
+-- that the shown speed would miss; a case that breaks 1 and 2; the curve of a case and its refusal; more clearances; snow and rain; the order of
+-- refusals.
 unfoldable pub boundaryFigures : List Figure
 boundaryFigures =
     figure (assessed example) (0 ∷ 3 ∷ 60783 ∷ 230783 ∷ 1196 ∷ 60783 ∷ 197 ∷ [])
