@@ -1,6 +1,7 @@
 -- The curve under weather (specs/Weather).
 --   adjustedSpeed-le       the factor raises no speed
---   curveUnder-clear       in clear weather it is the curve at the free-flow speed
+--   adjustedSpeed-clear, curveUnder-clear   in clear weather F is kept, and the curve is the one at that F
+--   multilane-clear        factors that fit kind M are those of clear weather
 --   curveUnder-fits        with factors and speeds between their ends it is well formed and within the sizes
 -- Assumes nothing.
 use mathlib.Core.Path.{_≡_, ap, sym, subst, _∙_}
@@ -37,7 +38,7 @@ unfolding curveUnder curveAt
 curveUnder-clear kind f = simp (adjustedSpeed-clear f, adjustedCapacity-clear, adjustedBreakpoint-clear)
 
 -- ---- kind M
-multilane-clear : (weather : Weather) → FactorsFit Kind.Multilane weather → weather ≡ clear
+pub multilane-clear : (weather : Weather) → FactorsFit Kind.Multilane weather → weather ≡ clear
 multilane-clear weather fit =
     let s : weather .«speed_factor» ≡ 1000 = omega (arith, fit .speed-low, fit .speed-high) in
     let k : weather .«capacity_factor» ≡ 1000 = omega (arith, fit .capacity-low, fit .capacity-high) in

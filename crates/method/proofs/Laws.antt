@@ -1,12 +1,16 @@
 -- The laws that specs/Laws states, proved: each by the law of the file beside its definition.
---   accepted-curve-is-well-formed, flow-rate-never-falls-with-load, no-demand-gets-a, refused-by-the-list
+--   accepted-curve-is-well-formed, multilane-is-in-clear-weather, flow-rate-never-falls-with-load, no-demand-gets-a,
+--   refused-by-the-list
 -- Assumes nothing.
 use Rattle.curve.specs.Service.{performance}
+use Rattle.curve.proofs.WeatherLaws.{multilane-clear}
 use Rattle.curve.proofs.ServiceLaws.{letterAt-zero}
+use Rattle.road.proofs.RefusalLaws.{fields-weather}
 use Rattle.method.specs.Checked.{caseCurve}
 use Rattle.method.specs.Flow.{loadOf}
 use Rattle.method.specs.Assess.{measures}
-use Rattle.method.specs.Laws.{AcceptedCurveIsWellFormed, FlowRateNeverFallsWithLoad, NoDemandGetsA, RefusedByTheList}
+use Rattle.method.specs.Laws.{AcceptedCurveIsWellFormed, MultilaneIsInClearWeather, FlowRateNeverFallsWithLoad, NoDemandGetsA}
+use Rattle.method.specs.Laws.{RefusedByTheList}
 use Rattle.method.proofs.RefusalLaws.{accepted-fields}
 use Rattle.method.proofs.CheckedLaws.{caseCurve-wellFormed, caseCurve-sized}
 use Rattle.method.proofs.FlowLaws.{caseFlowRate-mono, caseLoad-fits, flowRate-zero}
@@ -14,6 +18,10 @@ use Rattle.method.proofs.AssessLaws.{assessment-refusal}
 
 pub accepted-curve-is-well-formed : AcceptedCurveIsWellFormed
 accepted-curve-is-well-formed case a = (caseCurve-wellFormed case a, caseCurve-sized case a)
+
+pub multilane-is-in-clear-weather : MultilaneIsInClearWeather
+multilane-is-in-clear-weather case a e =
+    multilane-clear (case .weather) (rw e at (fields-weather case (accepted-fields case a)))
 
 pub flow-rate-never-falls-with-load : FlowRateNeverFallsWithLoad
 flow-rate-never-falls-with-load = caseFlowRate-mono

@@ -1,10 +1,12 @@
 -- The laws of the method, stated over the definitions that the contracts cite; proofs/Laws proves each.
---   AcceptedCurveIsWellFormed, FlowRateNeverFallsWithLoad, NoDemandGetsA, RefusedByTheList
+--   AcceptedCurveIsWellFormed, MultilaneIsInClearWeather, FlowRateNeverFallsWithLoad, NoDemandGetsA, RefusedByTheList
 -- Assumes nothing.
 use mathlib.Core.Path.{_≡_}
 use Prim.Native.Nat.{_≤_}
+use Rattle.curve.specs.declared.kind.Kind.the-variants as Kind
 use Rattle.curve.specs.declared.service.Letter.the-variants as Letter
 use Rattle.curve.specs.Curves.{WellFormed, Sized}
+use Rattle.curve.specs.Weather.{clear}
 use Rattle.road.specs.declared.Case.{Case}
 use Rattle.road.specs.Refusals.{FieldsFit}
 use Rattle.method.specs.Refusals.{refusal, Accepted}
@@ -15,6 +17,10 @@ use Rattle.method.specs.Assess.{measures, assessment, refusalNumber}
 -- The curve of an accepted case has its breakpoint below its capacity, the speed at capacity is at most F, and 64 bits hold its products.
 abbrev pub AcceptedCurveIsWellFormed : Type 0
 AcceptedCurveIsWellFormed = (case : Case) → Accepted case → WellFormed (caseCurve case) × Sized (caseCurve case)
+
+-- "Kind M takes 1,000 only": an accepted case of kind M is in clear weather, so that what is said of clear weather holds of it.
+abbrev pub MultilaneIsInClearWeather : Type 0
+MultilaneIsInClearWeather = (case : Case) → Accepted case → case .road .kind ≡ Kind.Multilane → case .weather ≡ clear
 
 -- The flow rate never falls with more demand, a larger heavy share, a larger truck equivalent, a lower peak-hour factor or fewer lanes.
 abbrev pub FlowRateNeverFallsWithLoad : Type 0
