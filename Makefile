@@ -1,6 +1,6 @@
 # make run      answers the lines of examples/sections.tsv with the program los
 # make test     proves everything and tries every must-fail edit (rt ci), then tests the library and the program that were proved
-# make full     compares every curve and every float with the second implementation
+# make full     compares every curve of clear weather and every float with the second implementation
 # make tables   writes the constant tables anew
 # make vectors  writes the answers of the vectors anew, as the second implementation has them
 # make bench    times los and the calls against plain C on a million made lines; RUNS=n sets how often

@@ -1,8 +1,8 @@
 /* Writes lines for the benchmark to standard output: generate [COUNT], 1,000,000 unless told otherwise.
 
-   Both kinds, both ways, speeds 70,000 to 75,000, demands 0 to 20,000, every other field anywhere within refusals 1 to 9. A freeway whose
-   estimated speed falls below the lower end is refused with 10, as in real files; no other line is refused. The draws come from a linear
-   congruential generator with a fixed seed in 32 bits: the bytes are the same on every machine. */
+   Both kinds, both ways, clear weather in 13 fields, speeds 70,000 to 75,000, demands 0 to 20,000, every other field anywhere within
+   refusals 1 to 9. A freeway whose estimated speed falls below the lower end is refused with 10, as in real files; no other line is
+   refused. The draws come from a linear congruential generator with a fixed seed in 32 bits: the bytes are the same on every machine. */
 #include <inttypes.h>
 #include <stdint.h>
 #include <stdio.h>

@@ -22,6 +22,9 @@ instructions() { # PROGRAM
 
 "$los" <"$lines" >"$build/answers.tsv"
 for program in "$los" "$@"; do check "$program"; done
+# Plain C's calls are compared on the vectors too, which have weather; the made lines have none.
+"$build/calls" crates/los/stdin 1 >"$build/vectors.out"
+"$build/days" crates/los/stdin 1 >>"$build/vectors.out"
 echo "$count lines: los and plain C print the same bytes. Best of $runs runs, in turn; ratio: the first over the row's."
 for program in "$@"; do echo "$program: $("${program##*-}" --version | head -n 1), -O3"; done
 echo

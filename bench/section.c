@@ -131,7 +131,7 @@ static bool read_section(const uint8_t *bytes, size_t length, struct section *se
         && (section->median == 'U' || section->median == 'D' || section->median == 'T');
 }
 
-/* Refusals 1 to 9 and 19, 0 where none holds */
+/* Refusals 1 to 6, 8, 9 and 19, 0 where none holds */
 
 static bool weather_unfit(const struct section *s, uint64_t factor)
 {

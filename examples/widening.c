@@ -9,7 +9,8 @@
    The last lines, each where it holds:
 
      demand passes 99999 in year N        the first year without a row
-     must be wider in year N              the first year in which some lane count meets the target, and the section's own does not
+     must be wider in year N              the first year in which some lane count meets the target, and the section's own does not (in snow,
+                                          on an estimated speed, see the row's lanes)
      need not be wider in years 0 to N    the section meets the target in these years
      no widening suffices from year N     no lane count meets the target in that year or in a later one
 

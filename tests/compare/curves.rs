@@ -84,7 +84,8 @@ pub fn by_stride(method: &Method, tally: &mut Tally) {
     }
 }
 
-// Every capacity factor, and speed factors and speeds by a stride, the ends of both included.
+// Every capacity factor, each with one of seven speeds in turn and three speed factors: the least that 10 lets pass, one between, and
+// 1,000.
 pub fn under_weather(method: &Method, tally: &mut Tally) {
     let speeds = [55_000, 59_999, 60_000, 67_855, 70_000, 75_000, 90_000];
     for capacity_factor in Kind::Freeway.weather_factors() {

@@ -2,7 +2,7 @@
 --   no-better-letter-under-more-load, no-better-letter-under-more-demand, no-better-letter-on-a-multilane
 --   no-better-letter-in-snow-with-fewer-lanes, no-better-letter-in-snow-on-an-estimate
 --   service-volume-of-the-example, service-volume-in-snow, first-and-last-service-volume
---   four-lanes-for-every-letter, no-lanes-for-the-greatest-demand, three-lanes-on-a-multilane
+--   four-lanes-for-every-letter, no-lanes-for-the-greatest-demand, three-lanes-on-a-multilane, three-lanes-in-snow
 -- Assumes nothing.
 use mathlib.Core.Path.{_≡_, refl, ap, _∙_}
 use mathlib.Core.Logic.{inl, inr}
@@ -16,6 +16,7 @@ use Rattle.curve.specs.Curves.{capacity, breakpoint}
 use Rattle.curve.specs.Weather.{adjustedSpeed, adjustedCapacity, adjustedBreakpoint, curveUnder}
 use Rattle.curve.specs.Speed.{fallShareBy, speed, shownSpeed}
 use Rattle.curve.specs.Service.{density, shownDensity, densityLimit, densityLetter, letterAt, performance}
+use Rattle.curve.proofs.KindLaws.{kind-ends}
 use Rattle.road.specs.declared.Case.{Case}
 use Rattle.road.specs.Cases.{withDemand, withLanes}
 use Rattle.road.specs.FreeFlowSpeed.{uncappedBy, freeFlowSpeed}
@@ -36,6 +37,7 @@ use Rattle.answer.specs.Instances.{lighter, multilaneWith, NoBetterLette
 use Rattle.answer.specs.Instances.{NoBetterLetterOnAMultilane, NoBetterLetterInSnowWithFewerLanes, NoBetterLetterInSnowOnAnEstimate}
 use Rattle.answer.specs.Instances.{ServiceVolumeOfTheExample, ServiceVolumeInSnow, FirstAndLastServiceVolume}
 use Rattle.answer.specs.Instances.{FourLanesForEveryLetter, NoLanesForTheGreatestDemand, ThreeLanesOnAMultilane}
+use Rattle.answer.specs.Instances.{lighterInSnow, narrowInSnow, ThreeLanesInSnow}
 use Rattle.answer.proofs.VolumeLaws.{meets-only-accepted}
 use Rattle.answer.proofs.AnswerLaws.{Meets-iff}
 use Rattle.answer.proofs.Promises.{volumeIn-accepted, no-better-under-more-load, meets-up-to-the-service-volume}
@@ -92,7 +94,7 @@ no-better-letter-on-a-multilane = (
 
 -- in snow
 snow-letters : (letterIn (answerTo (givenInSnow 3 3000)) ≡ 2) × (letterIn (answerTo (givenInSnow 2 3000)) ≡ 3)
-    × (letterIn (answerTo (exampleInSnow 2000)) ≡ 3) × (letterIn (answerTo (exampleInSnow 2222)) ≡ 4)
+    × (letterIn (answerTo lighterInSnow) ≡ 3) × (letterIn (answerTo (exampleInSnow 2222)) ≡ 4)
 unfolding divUp uncappedBy freeFlowSpeed weatherUnfit roadRefusals loadRefusals fieldRefusals adjustedSpeed speedRefusals refusals capacity
     breakpoint adjustedCapacity adjustedBreakpoint curveUnder curveOf heavyFactor flowRate fallShareBy speed shownSpeed density shownDensity
     densityLimit densityLetter letterAt performance measures graded
@@ -110,11 +112,15 @@ no-better-letter-in-snow-with-fewer-lanes = (
       (omega arith) (omega arith) (omega arith) (omega arith) (omega arith),
 )
 
+lighter-in-snow-accepted : Accepted lighterInSnow
+unfolding weatherUnfit roadRefusals loadRefusals fieldRefusals adjustedSpeed speedRefusals refusals
+lighter-in-snow-accepted = simp (example-speeds .0)
+
 pub no-better-letter-in-snow-on-an-estimate : NoBetterLetterInSnowOnAnEstimate
 no-better-letter-in-snow-on-an-estimate = (
   snow-letters .2,
   snow-letters .3,
-  no-better-under-more-load (exampleInSnow 2000) (exampleInSnow 2222) (snow-accepted .1)
+  no-better-under-more-load lighterInSnow (exampleInSnow 2222) lighter-in-snow-accepted
       (accepted-withDemand (exampleInSnow 2000) 2222 (snow-accepted .1) (omega arith)) refl refl (inr (inr refl))
       (omega arith) (omega arith) (omega arith) (omega arith) (omega arith),
 )
@@ -202,16 +208,43 @@ multilane-fits : FieldsFit (multilaneWith 3600)
 unfolding weatherUnfit roadRefusals loadRefusals fieldRefusals
 multilane-fits = refl
 
-two-fail : (fewer : ℕ) → AcceptedCount (multilaneWith 3600) fewer → fewer < 3 → Meets (withLanes (multilaneWith 3600) fewer) 3 → ⊥
-two-fail zero a f m = omega (arith, a .0)
-two-fail (suc zero) a f m = omega (arith, a .0)
-two-fail (suc (suc zero)) a f m = omega (arith, m .1, multilane-letters .1)
-two-fail (suc (suc (suc fewer))) a f m = omega arith
+-- where 2 lanes do not serve, no fewer than 3 do
+below-three : (case : Case) (n : ℕ) → (AcceptedCount case 2 → Meets (withLanes case 2) n → ⊥)
+    → (fewer : ℕ) → AcceptedCount case fewer → fewer < 3 → Meets (withLanes case fewer) n → ⊥
+below-three case n two zero a f m = omega (arith, a .0, kind-ends (case .road .kind) .lanes-ge)
+below-three case n two (suc zero) a f m = omega (arith, a .0, kind-ends (case .road .kind) .lanes-ge)
+below-three case n two (suc (suc zero)) a f m = two a m
+below-three case n two (suc (suc (suc fewer))) a f m = omega arith
 
 pub three-lanes-on-a-multilane : ThreeLanesOnAMultilane
 three-lanes-on-a-multilane =
     least-accepted-count (multilaneWith 3600) 3 (omega arith) (omega arith) multilane-fits .0 3 .1 (
       (omega arith, omega arith, meets-only-accepted (withLanes (multilaneWith 3600) 3) 3 three-meet),
       Meets-iff (withLanes (multilaneWith 3600) 3) 3 .1 three-meet,
-      two-fail,
+      below-three (multilaneWith 3600) 3 (λ a m. omega (arith, m .1, multilane-letters .1)),
     )
+
+-- in snow 10 refuses 2 lanes, after the factor, and nothing refuses 3
+narrow-counts : (refusal (withLanes narrowInSnow 2) ≡ 10) × (refusal (withLanes narrowInSnow 3) ≡ 0)
+unfolding weatherUnfit roadRefusals loadRefusals fieldRefusals adjustedSpeed speedRefusals refusals
+narrow-counts = (simp (example-speeds .0), simp (example-speeds .1))
+
+narrow-fits : FieldsFit narrowInSnow
+unfolding weatherUnfit roadRefusals loadRefusals fieldRefusals
+narrow-fits = refl
+
+narrow-meet : T (meets (withLanes narrowInSnow 3) 3)
+unfolding divUp weatherUnfit roadRefusals loadRefusals fieldRefusals adjustedSpeed speedRefusals refusals capacity breakpoint
+    adjustedCapacity adjustedBreakpoint curveUnder curveOf heavyFactor flowRate fallShareBy speed shownSpeed density shownDensity
+    densityLimit densityLetter letterAt performance measures meets
+narrow-meet = rw (example-speeds .1) tt
+
+pub three-lanes-in-snow : ThreeLanesInSnow
+three-lanes-in-snow = (
+  simp (narrow-counts .0),
+  least-accepted-count narrowInSnow 3 (omega arith) (omega arith) narrow-fits .0 3 .1 (
+    (omega arith, omega arith, narrow-counts .1),
+    Meets-iff (withLanes narrowInSnow 3) 3 .1 narrow-meet,
+    below-three narrowInSnow 3 (λ a m. omega (arith, a .2, narrow-counts .0)),
+  ),
+)

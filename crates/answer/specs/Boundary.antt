@@ -68,7 +68,8 @@ addedFigures =
     ∷ figure (answered (givenInSnow 2 3000)) (0 ∷ 3 ∷ 71250 ∷ 216000 ∷ 1500 ∷ 66271 ∷ 227 ∷ 1566 ∷ 2506 ∷ 3294 ∷ 3884 ∷ 4320 ∷ [])
     ∷ figure (answered (exampleInSnow 2000)) (0 ∷ 3 ∷ 52273 ∷ 173372 ∷ 1196 ∷ 52222 ∷ 230 ∷ 961 ∷ 1572 ∷ 2221 ∷ 2636 ∷ 2898 ∷ [])
     ∷ figure (counted (exampleInSnow 2222) 3) (0 ∷ 3 ∷ [])
-    ∷ figure (counted refusedBy19 1 ++ (counted refusedBy19 6 ++ (counted refusedByAll 1 ++ counted refusedByAll 0))) (19 ∷ 16 ∷ 1 ∷ 16 ∷ [])
+    ∷ figure (counted refusedBy19 1 ++ (counted refusedBy19 6 ++ (counted refusedByAll 1 ++ counted refusedByAll 0)))
+    (19 ∷ 16 ∷ 1 ∷ 16 ∷ [])
     ∷ []
 
 abbrev pub boundaryFigures : List Figure

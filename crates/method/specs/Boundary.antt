@@ -97,8 +97,8 @@ orderFigures =
     (1 ∷ 2 ∷ 3 ∷ 4 ∷ 5 ∷ 6 ∷ 7 ∷ 8 ∷ 9 ∷ 19 ∷ 10 ∷ 0 ∷ [])
     ∷ []
 
--- Under snow or rain (document 02, T-03): b rounded down once; b and c from F after its factor, below the breakpoint and past it; F, c and b
--- each with a fraction above a half; the upper end before the factor; F, c and both factors at once; 50,000 after the factor, and 55,000
+-- Under snow or rain (document 02, T-03): b rounded down once; b and c from F after its factor, below the breakpoint and past it; F, c and
+-- b each with a fraction above a half; the upper end before the factor; F, c and both factors at once; 50,000 after the factor, and 55,000
 -- before it; the ends of the factors, on kind M too; 19 before 10 on kind M.
 unfoldable pub weatherFigures : List Figure
 weatherFigures =
@@ -162,8 +162,8 @@ clearanceFigures =
 
 -- Of a case that is accepted 0, and then letter, F, c, v, speed and density, of one that is refused its number. A is 1 and F is 6.
 -- Starred in document 01: all down to the right clearance of 59, which takes off 60 by document 02. Not starred: no demand; two letters
--- that the shown speed would miss; a case that breaks 1 and 2; the curve of a case and its refusal; more clearances; snow and rain; the order of
--- refusals.
+-- that the shown speed would miss; a case that breaks 1 and 2; the curve of a case and its refusal; more clearances; snow and rain; the
+-- order of refusals.
 unfoldable pub boundaryFigures : List Figure
 boundaryFigures =
     figure (assessed example) (0 ∷ 3 ∷ 60783 ∷ 230783 ∷ 1196 ∷ 60783 ∷ 197 ∷ [])

@@ -19,7 +19,8 @@ returns c =
 measures-with-requires : tie.Need-measures-with-requires
 measures-with-requires c κs =
     let s = c .before .before .before .before .before .before in
-    ready-within (s .args .case) _ _ (told _ _ _ (s .pre) (Shared.Accepted _ _) (c .before .before .before .shared .given .1) .0) (c .if1 .left)
+    ready-within (s .args .case) _ _ (told _ _ _ (s .pre) (Shared.Accepted _ _) (c .before .before .before .shared .given .1) .0)
+    (c .if1 .left)
 
 returns-2 : tie.Need-returns-2
 returns-2 c =
