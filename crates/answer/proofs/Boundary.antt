@@ -40,7 +40,7 @@ use Rattle.method.specs.Checked.{curveOf, caseCurve}
 use Rattle.method.specs.Flow.{heavyFactor, loadOf, flowRate}
 use Rattle.method.specs.Assess.{measures}
 use Rattle.method.specs.Boundary as specs-method
-use Rattle.method.specs.Boundary.{example}
+use Rattle.method.specs.Boundary.{example, refusedByAll}
 use Rattle.method.proofs.RefusalLaws.{accepted-fields}
 use Rattle.method.proofs.CheckedLaws.{caseCurve-wellFormed}
 use Rattle.method.proofs.FlowLaws.{caseLoad-fits}
@@ -49,10 +49,10 @@ use Rattle.method.proofs.Boundary.{ramp-6, ramp-24}
 use Rattle.answer.specs.Volumes.{meets, serviceVolume}
 use Rattle.answer.specs.Answers as answers
 use Rattle.answer.specs.Answers.{graded, answerTo}
-use Rattle.answer.specs.Lanes.{lanesFound, lanesRefusals, lanesAnswer, refusalNumber, values}
+use Rattle.answer.specs.Lanes.{lanesFound, lanesRefusals}
 use Rattle.answer.specs.Search.{demandMeets}
-use Rattle.answer.specs.Boundary.{exampleWith, exampleInSnow, estimated, givenInSnow, refusedBy19, refusedByAll, addedFigures}
-use Rattle.answer.specs.Boundary.{boundaryFigures}
+use Rattle.answer.specs.Boundary.{exampleWith, exampleInSnow, estimated, givenInSnow, refusedBy19, answered, counted}
+use Rattle.answer.specs.Boundary.{addedFigures, boundaryFigures}
 use Rattle.answer.proofs.VolumeLaws.{demandMeets-down, serviceVolume-eq}
 
 -- F by the lanes, of the printed case and of the one that 10 refuses
@@ -154,10 +154,6 @@ snow-volumes =
     tt
 
 -- ---- the figures
--- the number of an answer's refusal and its values
-abbrev answered : Case → List ℕ
-answered case = answers.refusalNumber (answerTo case) ∷ answers.values (answerTo case)
-
 -- the printed line's eleven, a case that 10 refuses, and those of the two in snow
 answers-shown : (answered example ≡ 0 ∷ 3 ∷ 60783 ∷ 230783 ∷ 1196 ∷ 60783 ∷ 197 ∷ 1117 ∷ 1829 ∷ 2642 ∷ 3360 ∷ 3858 ∷ [])
     × (answered estimated ≡ 10 ∷ [])
@@ -188,10 +184,6 @@ example-in-snow = answers-shown .3
 
 pub example-figures : answers.values (answerTo example) ≡ 3 ∷ 60783 ∷ 230783 ∷ 1196 ∷ 60783 ∷ 197 ∷ 1117 ∷ 1829 ∷ 2642 ∷ 3360 ∷ 3858 ∷ []
 example-figures = ap (drop 1) example-answer
-
--- the same of the lanes question
-abbrev counted : Case → ℕ → List ℕ
-counted case n = refusalNumber (lanesAnswer case n) ∷ values (lanesAnswer case n)
 
 -- the lanes of the printed case, with more demand, with a letter number past E; in snow; the order 16, 1, 19
 lanes-shown : (counted example 3 ≡ 0 ∷ 2 ∷ []) × (counted (exampleWith 2643) 3 ≡ 0 ∷ 3 ∷ []) × (counted (exampleWith 99999) 3 ≡ 14 ∷ [])

@@ -4,7 +4,8 @@
 --   estimated            F E 60000 120 0 0 D 6 2 2000 1000 0 L: refused with 10, and 4 lanes are the least for every letter
 --   givenInSnow n demand   F G 75000 120 60 60 D 0 N V 1000 0 L 950 900
 --   refusedBy19          F G 75000 120 60 60 D 0 2 0 1000 0 L 499 1000
---   refusedByAll         a case that breaks 1 to 9, 19 and 10
+--   answered case        the number of its answer's refusal, 0 for none, and the answer's values
+--   counted case n       the same of the lanes question with letter number n
 --   addedFigures         what this layer adds
 --   boundaryFigures      the longer list
 -- Assumes nothing.
@@ -18,8 +19,8 @@ use Rattle.road.specs.declared.Terrain.the-variants as Terrain
 use Rattle.road.specs.declared.Case.{Case}
 use Rattle.method.specs.Boundary as method
 use Rattle.checks.specs.Figures.{Figure, figure}
-use Rattle.method.specs.Boundary.{example, given, twoLanesUnder, faulty}
-use Rattle.road.specs.Cases.{road, loaded, withDemand, withLanes}
+use Rattle.method.specs.Boundary.{example, given, twoLanesUnder, refusedByAll}
+use Rattle.road.specs.Cases.{road, loaded, withDemand, withLanes, withWeather}
 use Rattle.answer.specs.Answers as answers
 use Rattle.answer.specs.Answers.{answerTo}
 use Rattle.answer.specs.Lanes as lanes
@@ -32,9 +33,7 @@ abbrev pub estimated : Case
 estimated = loaded (road Kind.Freeway Way.Estimated 60000 120 0 0 Median.Divided 6) 2 2000 1000 0 Terrain.Level clear
 
 abbrev pub exampleInSnow : ℕ → Case
-exampleInSnow demand =
-    loaded (example .road) (example .lanes) demand (example .«peak_hour_factor») (example .«heavy_share») (example .terrain)
-    (factors 860 780)
+exampleInSnow demand = withWeather (exampleWith demand) (factors 860 780)
 
 abbrev pub givenInSnow : ℕ → ℕ → Case
 givenInSnow n demand = withLanes (twoLanesUnder (factors 950 900) (given Kind.Freeway 75000 120) demand) n
@@ -42,15 +41,10 @@ givenInSnow n demand = withLanes (twoLanesUnder (factors 950 900) (given Kind.Fr
 abbrev pub refusedBy19 : Case
 refusedBy19 = twoLanesUnder (factors 499 1000) (given Kind.Freeway 75000 120) 0
 
-abbrev pub refusedByAll : Case
-refusedByAll = faulty 0 99 401 Median.Undivided 49 1 1000000 249 1001 499
-
--- the number of an answer's refusal, 0 for none, and its values
-abbrev answered : Case → List ℕ
+abbrev pub answered : Case → List ℕ
 answered case = answers.refusalNumber (answerTo case) ∷ answers.values (answerTo case)
 
--- the same of the lanes question
-abbrev counted : Case → ℕ → List ℕ
+abbrev pub counted : Case → ℕ → List ℕ
 counted case n = lanes.refusalNumber (lanesAnswer case n) ∷ lanes.values (lanesAnswer case n)
 
 -- Of what is accepted 0 and its values, of what is refused its number. Starred: the printed line. Not starred: the lanes question at the

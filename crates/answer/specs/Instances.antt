@@ -9,7 +9,7 @@
 --   lighterInSnow                    F E 75400 110 20 0 D 24 2 2000 1000 0 L 860 780
 --   NoBetterLetterInSnowOnAnEstimate   part 1 in snow, F estimated, with equal lanes: it gets C, and with V = 2,222 and more of every other
 --                                    load D
---   ServiceVolumeInSnow              part 2 in snow: with V = 2,221 that case meets C, with 2,222 it does not
+--   ServiceVolumeInSnow              part 2 in snow: with V = 2,221 the printed case meets C there, with 2,222 it does not
 --   ServiceVolumeOfTheExample        part 2: with V = 2,642 the printed case meets C, with 2,643 it does not
 --   FirstAndLastServiceVolume        part 2: A up to 1,117 and E up to 3,858, each with V = 0 too
 --   FourLanesForEveryLetter          part 3: a case that 10 refuses needs 4 lanes, for every letter
@@ -26,7 +26,7 @@ use Rattle.curve.specs.Weather.{factors, clear}
 use Rattle.road.specs.declared.Terrain.the-variants as Terrain
 use Rattle.road.specs.declared.Case.{Case}
 use Rattle.method.specs.Boundary.{example, given, twoLanes}
-use Rattle.road.specs.Cases.{loaded, withLanes}
+use Rattle.road.specs.Cases.{loaded, withLanes, withWeather}
 use Rattle.answer.specs.Answers.{answerTo, refusalNumber}
 use Rattle.answer.specs.Lanes.{lanesAnswer, values}
 use Rattle.answer.specs.Promises.{letterIn, Meets, AcceptedCount}
@@ -89,7 +89,7 @@ abbrev pub ThreeLanesOnAMultilane : Type 0
 ThreeLanesOnAMultilane = values (lanesAnswer (multilaneWith 3600) 3) ≡ 3 ∷ []
 
 abbrev pub narrowInSnow : Case
-narrowInSnow = loaded (example .road) 2 2000 920 50 Terrain.Rolling (factors 815 1000)
+narrowInSnow = withWeather example (factors 815 1000)
 
 abbrev pub ThreeLanesInSnow : Type 0
 ThreeLanesInSnow = (refusalNumber (answerTo narrowInSnow) ≡ 10) × (values (lanesAnswer narrowInSnow 3) ≡ 3 ∷ [])

@@ -4,7 +4,7 @@
 --   twoLanesUnder weather road v   its case with two lanes and demand v, no heavy vehicles, level, under weather
 --   twoLanes road v  the same in clear weather
 --   example          the printed line's case
---   faulty ..        a case of kind F with these fields
+--   refusedByAll     a case that breaks 1 to 9, 19 and 10
 --   boundaryFigures, clearanceFigures, speedFigures, weatherFigures, orderFigures   the list, and its last parts, each the end of the one
 --                    before
 -- Assumes nothing.
@@ -71,16 +71,19 @@ abbrev checkedAs : Case → List ℕ
 checkedAs case = checked.refusalNumber (checked.checked case) ∷ checked.values (checked.checked case)
 
 -- a case of kind F with these fields, level, with a speed factor
-abbrev pub faulty : (speed width right : ℕ) → Median → (access lanes demand factor share speedFactor : ℕ) → Case
+abbrev faulty : (speed width right : ℕ) → Median → (access lanes demand factor share speedFactor : ℕ) → Case
 faulty speed width right median access lanes demand factor share speedFactor =
     loaded (road Kind.Freeway Way.Given speed width right 0 median access) lanes demand factor share Terrain.Level
     (factors speedFactor 1000)
+
+abbrev pub refusedByAll : Case
+refusedByAll = faulty 0 99 401 Median.Undivided 49 1 1000000 249 1001 499
 
 -- The order of refusals: a case that breaks all of 1 to 9, 19 and 10, and then without its first fault, again and again.
 unfoldable pub orderFigures : List Figure
 orderFigures =
     figure (
-    refusal (faulty 0 99 401 Median.Undivided 49 1 1000000 249 1001 499)
+    refusal refusedByAll
     ∷ refusal (faulty 54999 99 401 Median.Undivided 49 1 1000000 249 1001 499)
     ∷ refusal (faulty 54999 120 401 Median.Undivided 49 1 1000000 249 1001 499)
     ∷ refusal (faulty 54999 120 60 Median.Undivided 49 1 1000000 249 1001 499)

@@ -4,6 +4,7 @@
 --   loaded road ..           the case of a road with these lanes, demand, peak-hour factor, heavy share, terrain and weather
 --   withDemand case demand   the case with that demand, all other fields kept
 --   withLanes case n         the case with n lanes, all other fields kept
+--   withWeather case weather   the case under that weather, all other fields kept
 --   SameRoad c d             c and d are of the same road
 -- Assumes nothing.
 use mathlib.Core.Path.{_≡_}
@@ -51,6 +52,10 @@ withDemand case demand =
 abbrev pub withLanes : Case → ℕ → Case
 withLanes case n =
     loaded (case .road) n (case .demand) (case .«peak_hour_factor») (case .«heavy_share») (case .terrain) (case .weather)
+
+abbrev pub withWeather : Case → Weather → Case
+withWeather case weather =
+    loaded (case .road) (case .lanes) (case .demand) (case .«peak_hour_factor») (case .«heavy_share») (case .terrain) weather
 
 -- "Two cases are of the same road when they agree in kind, way (E or G), speed, width, both clearances, median and ramps or access":
 -- these are the fields of a road, and the weather is none of them
