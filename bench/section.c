@@ -291,10 +291,10 @@ static struct performance performance_at(const struct curve *curve, uint64_t v)
     return (struct performance){density_letter(density), speed.numerator / speed.denominator, density};
 }
 
-/* The greatest demand that keeps to a density, by halving. */
-static uint64_t service_volume(const struct curve *curve, const struct load *load, uint64_t limit)
+/* The greatest demand up to the end that keeps to a density, by halving. */
+static uint64_t greatest_meeting(const struct curve *curve, const struct load *load, uint64_t limit, uint64_t end)
 {
-    uint64_t low = 0, high = GREATEST_DEMAND + 1;
+    uint64_t low = 0, high = end + 1;
     while (high - low > 1) {
         uint64_t middle = low + (high - low) / 2;
         if (meets_limit(curve, flow_rate(load, middle), limit)) {
@@ -304,6 +304,15 @@ static uint64_t service_volume(const struct curve *curve, const struct load *loa
         }
     }
     return low;
+}
+
+/* A to E; from E down, each up to the one found before. */
+static void service_volumes(const struct curve *curve, const struct load *load, uint64_t *volumes)
+{
+    uint64_t end = GREATEST_DEMAND;
+    for (int i = 4; i >= 0; i--) {
+        end = volumes[i] = greatest_meeting(curve, load, limits[i], end);
+    }
 }
 
 /* Writing */
@@ -360,9 +369,11 @@ int32_t plain_answer(const uint8_t *line, size_t line_length, uint8_t *answer, s
         return -SPEED_BELOW_LOWER_END;
     }
     struct load load = load_of(&section, section.numbers[LANES]);
+    uint64_t volumes[5];
+    service_volumes(&curve, &load, volumes);
     uint8_t *at = put_measures(answer, &curve, flow_rate(&load, section.numbers[DEMAND]));
     for (int i = 0; i < 5; i++) {
-        at = put_figure(at, service_volume(&curve, &load, limits[i]));
+        at = put_figure(at, volumes[i]);
     }
     *at++ = '\n';
     return (int32_t)(at - answer);
@@ -414,9 +425,7 @@ int32_t plain_day(const uint8_t *line, size_t line_length, const uint64_t *deman
         return (int32_t)demand_count;
     }
     struct load load = load_of(&section, section.numbers[LANES]);
-    for (int i = 0; i < 5; i++) {
-        volumes[i] = service_volume(&curve, &load, limits[i]);
-    }
+    service_volumes(&curve, &load, volumes);
     for (size_t i = 0; i < demand_count; i++) {
         if (demands[i] > GREATEST_DEMAND) {
             put_refused(answers + DAY_FIGURES * i, DEMAND_TOO_LARGE);

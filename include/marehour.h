@@ -5,6 +5,7 @@
      marehour_answer       a section's letter, speed, density and service volumes
      marehour_lanes        the least lane count with which a section meets a letter
      marehour_day          a section's answers for up to 24 demands
+     marehour_tries        how many demands the search for a section's service volumes tries
      marehour_survey_mph   a surveyed speed, from miles per hour
      marehour_survey_kmh   a surveyed speed, from kilometres per hour
 
@@ -65,6 +66,9 @@ extern "C" {
 /* The most demands of a day, and how many numbers each of its answers has. */
 #define MAREHOUR_DAY_DEMANDS 24
 #define MAREHOUR_DAY_FIGURES 12
+
+/* The most demands that the search for a section's service volumes tries. */
+#define MAREHOUR_MOST_TRIES 80
 
 /* Numbers of the letters: marehour_lanes takes A to E, marehour_day answers A to F. */
 enum {
@@ -175,6 +179,19 @@ int32_t marehour_day(const uint8_t *line, size_t line_length, const uint64_t *de
 
    Afterwards the first MAREHOUR_DAY_FIGURES times demand_count numbers are the answers. Those past
    them keep their content. A refusal changes no number.
+*/
+
+int32_t marehour_tries(const uint8_t *line, size_t line_length);
+/* Counts what marehour_answer does for a section: the demands that its search for the five service
+   volumes tries, by halving, for E from 0 to the greatest demand and then for each better letter
+   from 0 to the volume found before. It is for tests and for whoever plans the time of many calls;
+   no answer depends on it.
+
+   The result is the count, 1 to MAREHOUR_MOST_TRIES; or minus the first of these refusals that
+   holds, in this order:
+
+     15  malformed line
+     1 to 6, 8, 9, 19, 10  in this order
 */
 
 int32_t marehour_survey_mph(float speed, uint32_t cars, uint32_t flow);

@@ -6,7 +6,7 @@
    Line, demands and buffer each lie between two pages that cannot be accessed: once they begin right behind the first, once they end right
    before the second. Line and demands are read-only while they are lent. The buffer and what is around it is filled with a pattern before a
    call and compared byte by byte after it. A day asks a line with its own demand, with one that 7 refuses, and with its own again; what it
-   must answer is had from the line's own answer. Each set of checks runs in a child. Where the library passes, the checks run over calls
+   must answer is had from the line's own answer, and so is how many demands are tried for the line. Each set of checks runs in a child. Where the library passes, the checks run over calls
    that are wrong on purpose (tests/overrun.c), and each of these must end as its fault says. */
 #define _DEFAULT_SOURCE
 #include "calls.h"
@@ -408,6 +408,50 @@ static void check_days(const struct calls *calls)
     }
 }
 
+/* Counts of tried demands */
+
+/* How many demands a halving tries that finds the volume from 0 to the end: the upper half of what is left begins at the one it tries. */
+static int32_t tries_up_to(uint64_t volume, uint64_t end)
+{
+    int32_t tries = 0;
+    for (uint64_t left = end + 1; left > 1; tries++) {
+        uint64_t lower = left / 2;
+        left = volume < lower ? lower : left - lower;
+        volume -= volume < lower ? 0 : lower;
+    }
+    return tries;
+}
+
+/* E up to the greatest demand, then each letter up to the volume of the one before. */
+static int32_t expect_tries(const struct vector *vector)
+{
+    uint64_t figures[MAREHOUR_DAY_FIGURES], end = GREATEST_DEMAND;
+    int32_t tries = 0;
+    if (vector->result < 0) {
+        return vector->result;
+    }
+    expect_position(vector, 0, figures);
+    for (int i = MAREHOUR_DAY_FIGURES - 1; i >= MAREHOUR_DAY_FIGURES - 5; i--) {
+        tries += tries_up_to(figures[i], end);
+        end = figures[i];
+    }
+    return tries;
+}
+
+static void check_tries(const struct calls *calls)
+{
+    for (size_t i = 0; i < answer_count; i++) {
+        const struct vector *vector = &answers[i];
+        int32_t expected = expect_tries(vector);
+        for (enum side side = AT_START; side <= AT_END; side++) {
+            int32_t result = calls->tries(lend(&line_fence, vector->line, vector->length, side), vector->length);
+            int width = vector->length < 80 ? (int)vector->length : 80;
+            check(result == expected, "result %d, not %d, for the tries of %.*s", result, expected, width, (const char *)vector->line);
+            check(result <= MAREHOUR_MOST_TRIES, "%d tries for %.*s", result, width, (const char *)vector->line);
+        }
+    }
+}
+
 static void check_surveys(const struct calls *calls)
 {
     for (size_t i = 0; i < survey_count; i++) {
@@ -439,6 +483,8 @@ static void check_edges(const struct calls *calls)
     check(calls->day(line, length, &demand, 1, NULL, 0) == -18, "day: no answers are not unfit");
     check(calls->day(NULL, 0, NULL, 0, NULL, 0) == -18, "day: no demand does not come before no line");
     check(calls->day(line, length + 1, &demand, 1, numbers, MAREHOUR_DAY_FIGURES) == -15, "day: a newline is not malformed");
+    check(calls->tries(NULL, 0) == -15, "tries: no line is not malformed");
+    check(calls->tries(line, length + 1) == -15, "tries: a newline is not malformed");
     check(calls->answer(line, length + 1, buffer, sizeof buffer) == -15, "answer: a newline is not malformed");
     check(calls->lanes(line, length + 1, 3, buffer, sizeof buffer) == -15, "lanes: a newline is not malformed");
     for (size_t i = 0; i < sizeof buffer; i++) {
@@ -563,7 +609,8 @@ static int run_fault(const struct fault *fault, const char *set, void (*checks)(
 /* The library; adds the checks made. */
 static int run_library(long *made)
 {
-    static const struct calls library = {marehour_answer, marehour_lanes, marehour_day, marehour_survey_mph, marehour_survey_kmh};
+    static const struct calls library = {marehour_answer, marehour_lanes,      marehour_day,
+                                         marehour_tries,  marehour_survey_mph, marehour_survey_kmh};
     static const struct {
         const char *name;
         void (*checks)(const struct calls *);
@@ -571,6 +618,7 @@ static int run_library(long *made)
         {"lines", check_answers},
         {"lanes questions", check_lanes},
         {"days", check_days},
+        {"tries", check_tries},
         {"surveys", check_surveys},
         {"edges", check_edges},
     };
@@ -583,19 +631,29 @@ static int run_library(long *made)
 }
 
 /* The calls that are wrong on purpose; adds how many were run. */
+static int run_each(const struct fault *faults, size_t count, const char *set, void (*checks)(const struct calls *), int *run)
+{
+    int failures = 0;
+    for (size_t i = 0; i < count; i++) {
+        failures += run_fault(&faults[i], set, checks);
+    }
+    *run += (int)count;
+    return failures;
+}
+
 static int run_faults(int *run)
 {
-    int failures = run_fault(&one_too_much, "surveys", check_surveys);
-    for (size_t i = 0; i < fault_count; i++) {
-        failures += run_fault(&faults[i], "lines", check_answers);
-        failures += run_fault(&faults[i], "lanes questions", check_lanes);
-        failures += run_fault(&faults[i], "days", check_days);
+    static const struct {
+        const char *name;
+        void (*checks)(const struct calls *);
+    } lending[] = {{"lines", check_answers}, {"lanes questions", check_lanes}, {"days", check_days}};
+    int failures = run_each(&one_too_much, 1, "surveys", check_surveys, run) + run_each(&one_too_much, 1, "tries", check_tries, run);
+    failures += run_each(line_faults, line_fault_count, "tries", check_tries, run);
+    for (size_t i = 0; i < sizeof lending / sizeof lending[0]; i++) {
+        failures += run_each(line_faults, line_fault_count, lending[i].name, lending[i].checks, run);
+        failures += run_each(buffer_faults, buffer_fault_count, lending[i].name, lending[i].checks, run);
     }
-    for (size_t i = 0; i < demand_fault_count; i++) {
-        failures += run_fault(&demand_faults[i], "days", check_days);
-    }
-    *run += 1 + 3 * (int)fault_count + (int)demand_fault_count;
-    return failures;
+    return failures + run_each(demand_faults, demand_fault_count, "days", check_days, run);
 }
 
 int main(void)
@@ -610,7 +668,7 @@ int main(void)
     if (failures == 0) {
         failures = run_faults(&run);
     }
-    printf("calls: %zu lines, each with its day, %zu lanes questions, %zu surveys: %ld checks; %d wrong calls tried; %d failures\n",
+    printf("calls: %zu lines, each with its day and its tries, %zu lanes questions, %zu surveys: %ld checks; %d wrong calls tried; %d failures\n",
            answer_count, lanes_count, survey_count, made, run, failures);
     return failures > 0;
 }

@@ -10,6 +10,7 @@ struct calls {
     int32_t (*lanes)(const uint8_t *line, size_t line_length, uint32_t letter, uint8_t *answer, size_t answer_length);
     int32_t (*day)(const uint8_t *line, size_t line_length, const uint64_t *demands, size_t demand_count, uint64_t *answers,
                    size_t answers_length);
+    int32_t (*tries)(const uint8_t *line, size_t line_length);
     int32_t (*survey_mph)(float speed, uint32_t cars, uint32_t flow);
     int32_t (*survey_kmh)(float speed, uint32_t cars, uint32_t flow);
 };
@@ -48,11 +49,13 @@ struct fault {
     enum outcome outcome;
 };
 
-extern const struct fault faults[];
-extern const size_t fault_count;
+extern const struct fault line_faults[];
+extern const size_t line_fault_count;
+extern const struct fault buffer_faults[]; /* for calls that lend a buffer only */
+extern const size_t buffer_fault_count;
 extern const struct fault demand_faults[]; /* for days only */
 extern const size_t demand_fault_count;
-extern const struct fault one_too_much; /* for surveys too, which lend no buffer */
+extern const struct fault one_too_much; /* for calls that lend no buffer */
 
 /* The library's calls with a fault, one at a time. */
 struct calls faulty_calls(const struct fault *fault);

@@ -1,7 +1,7 @@
-// Compares the engine, linked as an archive, with the second implementation of document 01 and of requests T-01 to T-03 (tests/second).
+// Compares the engine, linked as an archive, with the second implementation of document 01 and of requests T-01 to T-04 (tests/second).
 //
 //   compare quick         the documents' figures, the traps, the manual's examples, curves by a stride, random cases, floats, the laws,
-//                         whole days, the vectors
+//                         whole days, how many demands are tried, the vectors
 //   compare full-curves   every free-flow speed with every flow rate up to capacity and one more
 //   compare full-floats   every float in both units
 //   compare los PATH      random lines through the program los
@@ -21,6 +21,7 @@ mod compare {
     pub mod random;
     pub mod tally;
     pub mod traps;
+    pub mod tries;
     pub mod vectors;
 }
 mod second;
@@ -30,6 +31,7 @@ use compare::draw::Draw;
 use compare::paper::Paper;
 use compare::random::Random;
 use compare::tally::{Outcomes, Tally};
+use compare::tries::Tries;
 use compare::{curves, floats, laws, los, traps, vectors};
 use second::method::{Kind, Method};
 use second::survey::Unit;
@@ -41,6 +43,7 @@ const RANDOM_CASES: u64 = 1_000_000;
 const EVERY_DEMAND_CASES: u64 = 500;
 const LAW_CASES: u64 = 50_000;
 const RANDOM_DAYS: u64 = 100_000;
+const COUNTED_LINES: u64 = 200_000;
 
 // Runs a group and prints its count of checks and differences.
 fn group(total: &mut Tally, name: &str, run: impl FnOnce() -> Tally) {
@@ -80,6 +83,15 @@ fn whole_days(method: &Method) -> Tally {
     days.tally
 }
 
+fn tries(method: &Method) -> Tally {
+    let mut tries = Tries { method, tally: Tally::default(), most: 0, most_for: String::new(), counted: 0 };
+    tries.figures();
+    tries.wide_freeways();
+    tries.random(&mut Draw(SEED + 6), COUNTED_LINES);
+    tries.print();
+    tries.tally
+}
+
 fn boundary_sections(method: &Method) -> Tally {
     let mut paper = Paper { method, tally: Tally::default() };
     paper.boundary_sections();
@@ -106,6 +118,7 @@ fn quick(total: &mut Tally) {
     group(total, "floats", || filled(|tally| floats::by_stride(tally, &mut Draw(SEED + 2))));
     group(total, "laws", || filled(|tally| laws::sample(method, &mut Draw(SEED + 3), tally, LAW_CASES)));
     group(total, "days", || whole_days(method));
+    group(total, "demands tried", || tries(method));
     group(total, "vectors", || filled(|tally| vectors::check(method, tally)));
 }
 

@@ -113,10 +113,14 @@ static int32_t write_nothing(int32_t result, size_t written, const struct lent *
     return result;
 }
 
-const struct fault faults[] = {
+const struct fault line_faults[] = {
     {"reads a byte past the line", read_past_line, nothing_after, DIED_PAST_THE_LINE},
     {"reads a byte before the line", read_before_line, nothing_after, DIED_BEFORE_THE_LINE},
     {"writes into the line", write_line, nothing_after, DIED_IN_THE_LINE},
+};
+const size_t line_fault_count = sizeof line_faults / sizeof line_faults[0];
+
+const struct fault buffer_faults[] = {
     {"writes a byte past the buffer", write_past_buffer, nothing_after, DIED_PAST_THE_BUFFER},
     {"writes a byte before the buffer", write_before_buffer, nothing_after, DIED_BEFORE_THE_BUFFER},
     {"writes a byte and refuses", nothing_before, write_and_refuse, DIFFERED},
@@ -124,7 +128,7 @@ const struct fault faults[] = {
     {"counts one that it did not write", nothing_before, count_one_more, DIFFERED},
     {"counts what it wrote and writes nothing", keep_content, write_nothing, DIFFERED},
 };
-const size_t fault_count = sizeof faults / sizeof faults[0];
+const size_t buffer_fault_count = sizeof buffer_faults / sizeof buffer_faults[0];
 
 const struct fault demand_faults[] = {
     {"reads a byte past the demands", read_past_demands, nothing_after, DIED_PAST_THE_DEMANDS},
@@ -171,6 +175,13 @@ static int32_t faulty_day(const uint8_t *line, size_t line_length, const uint64_
     return active->after(result, bytes_written(result, MAREHOUR_DAY_FIGURES * sizeof *answers), &lent);
 }
 
+static int32_t faulty_tries(const uint8_t *line, size_t line_length)
+{
+    struct lent lent = {line, line_length, NULL, 0, NULL, 0};
+    active->before(&lent);
+    return active->after(marehour_tries(line, line_length), 0, &lent);
+}
+
 static int32_t faulty_survey_mph(float speed, uint32_t cars, uint32_t flow)
 {
     struct lent none = {NULL, 0, NULL, 0, NULL, 0};
@@ -186,5 +197,5 @@ static int32_t faulty_survey_kmh(float speed, uint32_t cars, uint32_t flow)
 struct calls faulty_calls(const struct fault *fault)
 {
     active = fault;
-    return (struct calls){faulty_answer, faulty_lanes, faulty_day, faulty_survey_mph, faulty_survey_kmh};
+    return (struct calls){faulty_answer, faulty_lanes, faulty_day, faulty_tries, faulty_survey_mph, faulty_survey_kmh};
 }

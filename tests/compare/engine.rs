@@ -1,10 +1,11 @@
-// The five calls of include/marehour.h.
+// The six calls of include/marehour.h.
 
 use crate::second::survey::Unit;
 
 extern "C" {
     fn marehour_answer(line: *const u8, line_length: usize, answer: *mut u8, answer_length: usize) -> i32;
     fn marehour_lanes(line: *const u8, line_length: usize, letter: u32, answer: *mut u8, answer_length: usize) -> i32;
+    fn marehour_tries(line: *const u8, line_length: usize) -> i32;
     fn marehour_survey_mph(speed: f32, cars: u32, flow: u32) -> i32;
     fn marehour_survey_kmh(speed: f32, cars: u32, flow: u32) -> i32;
     fn marehour_day(
@@ -25,6 +26,11 @@ pub fn answer(line: &[u8], buffer: &mut [u8]) -> i32 {
 pub fn lanes(line: &[u8], letter: u32, buffer: &mut [u8]) -> i32 {
     // Safety: as above.
     unsafe { marehour_lanes(line.as_ptr(), line.len(), letter, buffer.as_mut_ptr(), buffer.len()) }
+}
+
+pub fn tries(line: &[u8]) -> i32 {
+    // Safety: as above.
+    unsafe { marehour_tries(line.as_ptr(), line.len()) }
 }
 
 pub fn survey(bits: u32, unit: Unit, cars: u32, flow: u32) -> i32 {

@@ -4,7 +4,9 @@
 --   snow-accepted      so are the two cases in snow
 --   volumes, given-volumes, snow-volumes   the service volumes of the three
 --   example-answer, example-figures   the printed line's answer: its number and its eleven figures; the figures
+--   estimated-answer   the answer to the case that 10 refuses
 --   snow-answer, example-in-snow   the answers to the two cases in snow
+--   eight-lanes-accepted, eight-lanes-volumes   a case with 8 lanes, and its service volumes
 --   none-at-99999      with V = 99,999 no count of the printed case meets C
 --   boundary-shown     each figure of the list is what is to be shown
 -- Assumes nothing.
@@ -51,6 +53,7 @@ use Rattle.answer.specs.Answers as answers
 use Rattle.answer.specs.Answers.{graded, answerTo}
 use Rattle.answer.specs.Lanes.{lanesFound, lanesRefusals}
 use Rattle.answer.specs.Search.{demandMeets}
+use Rattle.answer.specs.SearchOrder.{eightLanes}
 use Rattle.answer.specs.Boundary.{exampleWith, exampleInSnow, estimated, givenInSnow, refusedBy19, answered, counted}
 use Rattle.answer.specs.Boundary.{addedFigures, boundaryFigures}
 use Rattle.answer.proofs.VolumeLaws.{demandMeets-down, serviceVolume-eq}
@@ -108,7 +111,7 @@ unfolding uncappedBy freeFlowSpeed capacity breakpoint adjustedSpeed adjustedCap
 snow-curves =
     let speed = example-speeds in ((refl, refl), (simp (speed .0), simp (speed .0)), (simp (speed .1), simp (speed .1)))
 
-abbrev VolumesOf : Case → (s₁ s₂ s₃ s₄ s₅ : ℕ) → Type 0
+abbrev pub VolumesOf : Case → (s₁ s₂ s₃ s₄ s₅ : ℕ) → Type 0
 VolumesOf case s₁ s₂ s₃ s₄ s₅ =
     (serviceVolume case 1 ≡ s₁) × (serviceVolume case 2 ≡ s₂) × (serviceVolume case 3 ≡ s₃) × (serviceVolume case 4 ≡ s₄)
     × (serviceVolume case 5 ≡ s₅)
@@ -153,6 +156,20 @@ snow-volumes =
     five (exampleInSnow 2000) (freeway 52273 173372 116148) (snow-accepted .1) (snow-curves .1 .0) 961 1572 2221 2636 2898 tt tt tt tt
     tt
 
+-- the case with 8 lanes of specs/SearchOrder
+pub eight-lanes-accepted : Accepted eightLanes
+unfolding uncappedBy freeFlowSpeed weatherUnfit roadRefusals loadRefusals fieldRefusals adjustedSpeed speedRefusals refusals
+eight-lanes-accepted = refl
+
+eight-lanes-curve : caseCurve eightLanes ≡ freeway 72500 240000 110000
+unfolding uncappedBy freeFlowSpeed capacity breakpoint adjustedSpeed adjustedCapacity adjustedBreakpoint curveUnder curveOf
+eight-lanes-curve = refl
+
+pub eight-lanes-volumes : VolumesOf eightLanes 6178 10054 13620 16449 18604
+unfolding divUp endsAt heavyFactor flowRate fallShareBy speed density meetsLimit densityLimit demandMeets ends
+eight-lanes-volumes =
+    five eightLanes (freeway 72500 240000 110000) eight-lanes-accepted eight-lanes-curve 6178 10054 13620 16449 18604 tt tt tt tt tt
+
 -- ---- the figures
 -- the printed line's eleven, a case that 10 refuses, and those of the two in snow
 answers-shown : (answered example ≡ 0 ∷ 3 ∷ 60783 ∷ 230783 ∷ 1196 ∷ 60783 ∷ 197 ∷ 1117 ∷ 1829 ∷ 2642 ∷ 3360 ∷ 3858 ∷ [])
@@ -173,6 +190,9 @@ answers-shown =
 
 pub example-answer : answered example ≡ 0 ∷ 3 ∷ 60783 ∷ 230783 ∷ 1196 ∷ 60783 ∷ 197 ∷ 1117 ∷ 1829 ∷ 2642 ∷ 3360 ∷ 3858 ∷ []
 example-answer = answers-shown .0
+
+pub estimated-answer : answered estimated ≡ 10 ∷ []
+estimated-answer = answers-shown .1
 
 pub snow-answer : answered (givenInSnow 2 3000)
     ≡ 0 ∷ 3 ∷ 71250 ∷ 216000 ∷ 1500 ∷ 66271 ∷ 227 ∷ 1566 ∷ 2506 ∷ 3294 ∷ 3884 ∷ 4320 ∷ []

@@ -2,10 +2,13 @@
 //   Volumes        the service volumes A to E
 //   Grade          letter, F, c, v, speed, density and the service volumes
 //   Answer         a grade or a refusal
+//   Found, FoundVolumes, CountedGrade   what is found, and how many demands were tried for it
+//   TriesAnswer    how many demands are tried for a case, or a refusal
 //   volumes_with   the service volumes, from the terms of an accepted case
 //   grade_of       the grade of what a case gets and its service volumes
 //   grade_values   its eleven figures, the letter by its number
 //   evaluate       for any case at all
+//   count_tries    how many demands that tries
 use curve::Curve;
 use curve::kind::Kind;
 use curve::service;
@@ -21,7 +24,7 @@ use method::flow::Load;
 use road::Case;
 use road::refusal;
 ghost use mathlib.Core.Path.{_≡_};
-ghost use Rattle.numbers.specs.Search.{greatest};
+ghost use Prim.Native.Nat.{_≤_};
 ghost use Rattle.curve.specs.Terms.{Ready};
 ghost use Rattle.curve.specs.Service.{densityLimit};
 ghost use Rattle.road.specs.Refusals.{greatestDemand};
@@ -31,7 +34,8 @@ ghost use Rattle.method.specs.Flow.{LoadFits};
 ghost use Rattle.method.specs.Assess.{CaseReady};
 ghost use Rattle.answer.specs.declared.evaluate.Answer.the-variants.{Graded};
 ghost use Rattle.answer.specs.Search.{demandMeets, searchedVolumes, Trying};
-ghost use Rattle.answer.specs.Answers.{gradeOf, graded, answerTo, values};
+ghost use Rattle.answer.specs.Answers.{gradeOf, answerTo, values};
+ghost use Rattle.answer.specs.Tries.{found, foundVolumes, countedGrade, triesAnswer};
 
 pub struct Volumes {
     pub a: u64,
@@ -60,6 +64,28 @@ pub enum Answer {
     Refused(u64),
 }
 
+// What a search finds, and how many demands it tries.
+pub struct Found {
+    pub demand: u64,
+    pub tries: u64,
+}
+
+// The same of the five searches together.
+pub struct FoundVolumes {
+    pub volumes: Volumes,
+    pub tries: u64,
+}
+
+pub struct CountedGrade {
+    pub grade: Grade,
+    pub tries: u64,
+}
+
+pub enum TriesAnswer {
+    Tried(u64),
+    Refused(u64),
+}
+
 // Whether a demand keeps to capacity and to a density.
 fn demand_meets(terms: CurveTerms, table: &[u32], load: Load, limit: u64, demand: u64) -> bool
     requires { ⌜ Trying terms (now table) load limit demand ⌝ }
@@ -68,36 +94,56 @@ fn demand_meets(terms: CurveTerms, table: &[u32], load: Load, limit: u64, demand
     service::meets_limit(terms, table, flow::flow_rate(load, demand), limit)
 }
 
-// The greatest demand up to the end that keeps to a density, by halving.
-fn greatest_meeting(terms: CurveTerms, table: &[u32], load: Load, limit: u64, end: u64) -> u64
+// The greatest demand up to the end that keeps to a density, by halving; 0 is known to.
+fn greatest_meeting(terms: CurveTerms, table: &[u32], load: Load, limit: u64, end: u64) -> Found
     requires { ⌜ Trying terms (now table) load limit end ⌝ }
-    ensures { λ r. ⌜ r ≡ greatest (demandMeets (terms .curve) load limit) end ⌝ }
+    ensures { λ r. ⌜ r ≡ found (demandMeets (terms .curve) load limit) end ⌝ }
 {
     let mut low = 0;
     let mut high = end + 1;
+    let mut tries = 0;
     while 1 < high - low {
         let middle = low + (high - low) / 2;
+        tries += 1;
         if demand_meets(terms, table, load, limit, middle) {
             low = middle;
         } else {
             high = middle;
         }
     }
-    low
+    Found { demand: low, tries }
 }
 
-// The service volume of a letter number.
-fn service_volume(terms: CurveTerms, table: &[u32], load: Load, letter: u64) -> u64
-    requires { ⌜ Ready terms (now table) × LoadFits load ⌝ }
-    ensures { λ r. ⌜ r ≡ greatest (demandMeets (terms .curve) load (densityLimit letter)) greatestDemand ⌝ }
+// The greatest demand up to the end that keeps to the density of a letter number.
+fn greatest_for(terms: CurveTerms, table: &[u32], load: Load, letter: u64, end: u64) -> Found
+    requires { ⌜ Ready terms (now table) × LoadFits load × (end ≤ greatestDemand) ⌝ }
+    ensures { λ r. ⌜ (r ≡ found (demandMeets (terms .curve) load (densityLimit letter)) end) × (r .demand ≤ end) × (r .tries ≤ end) ⌝ }
 {
-    greatest_meeting(
-        terms,
-        table,
-        load,
-        service::density_limit(letter),
-        refusal::GREATEST_DEMAND,
-    )
+    greatest_meeting(terms, table, load, service::density_limit(letter), end)
+}
+
+// E up to the greatest demand, then each better letter up to the volume found before: no volume is above that of the next worse letter.
+fn found_volumes(terms: CaseTerms, table: &[u32]) -> FoundVolumes
+    requires { ⌜ Ready (terms .«curve_terms») (now table) × LoadFits (terms .load) ⌝ }
+    ensures { λ r. ⌜ r ≡ foundVolumes terms ⌝ }
+{
+    let load = terms.load;
+    let curve_terms = terms.curve_terms;
+    let e = greatest_for(curve_terms, table, load, 5, refusal::GREATEST_DEMAND);
+    let d = greatest_for(curve_terms, table, load, 4, e.demand);
+    let c = greatest_for(curve_terms, table, load, 3, d.demand);
+    let b = greatest_for(curve_terms, table, load, 2, c.demand);
+    let a = greatest_for(curve_terms, table, load, 1, b.demand);
+    FoundVolumes {
+        volumes: Volumes {
+            a: a.demand,
+            b: b.demand,
+            c: c.demand,
+            d: d.demand,
+            e: e.demand,
+        },
+        tries: e.tries + d.tries + c.tries + b.tries + a.tries,
+    }
 }
 
 // With the table of powers that the kind reads.
@@ -105,15 +151,8 @@ pub fn volumes_with(terms: CaseTerms, table: &[u32]) -> Volumes
     requires { ⌜ Ready (terms .«curve_terms») (now table) × LoadFits (terms .load) ⌝ }
     ensures { λ r. ⌜ r ≡ searchedVolumes terms ⌝ }
 {
-    let load = terms.load;
-    let curve_terms = terms.curve_terms;
-    Volumes {
-        a: service_volume(curve_terms, table, load, 1),
-        b: service_volume(curve_terms, table, load, 2),
-        c: service_volume(curve_terms, table, load, 3),
-        d: service_volume(curve_terms, table, load, 4),
-        e: service_volume(curve_terms, table, load, 5),
-    }
+    let found = found_volumes(terms, table);
+    found.volumes
 }
 
 pub fn grade_of(measures: Measures, volumes: Volumes) -> Grade
@@ -156,20 +195,22 @@ pub fn grade_values(grade: Grade) -> [u64; 11]
     ]
 }
 
-fn graded_with(case: Case, terms: CaseTerms, table: &[u32]) -> Grade
+fn graded_with(case: Case, terms: CaseTerms, table: &[u32]) -> CountedGrade
     requires { ⌜ CaseReady case terms (now table) ⌝ }
-    ensures { λ r. ⌜ r ≡ graded case ⌝ }
+    ensures { λ r. ⌜ r ≡ countedGrade case ⌝ }
 {
-    grade_of(
-        assess::measures_with(case, terms, table),
-        volumes_with(terms, table),
-    )
+    let found = found_volumes(terms, table);
+    let volumes = found.volumes;
+    CountedGrade {
+        grade: grade_of(assess::measures_with(case, terms, table), volumes),
+        tries: found.tries,
+    }
 }
 
 // The terms of the case are worked out, and the table of powers is made where the kind reads it, once a case.
-fn graded(case: Case, curve: Curve) -> Grade
+fn graded(case: Case, curve: Curve) -> CountedGrade
     requires { ⌜ checked case ≡ Checked.Accepted curve ⌝ }
-    ensures { λ r. ⌜ r ≡ graded case ⌝ }
+    ensures { λ r. ⌜ r ≡ countedGrade case ⌝ }
 {
     let terms = assess::case_terms(case, curve);
     let kind = curve.kind;
@@ -187,7 +228,25 @@ pub fn evaluate(case: Case) -> Answer
 {
     let checked = checked::check(case);
     match checked {
-        Checked::Accepted(curve) => Answer::Graded(graded(case, curve)),
+        Checked::Accepted(curve) => {
+            let counted = graded(case, curve);
+            let grade = counted.grade;
+            Answer::Graded(grade)
+        }
         Checked::Refused(number) => Answer::Refused(number),
+    }
+}
+
+// How many demands the evaluation of a case tries.
+pub fn count_tries(case: Case) -> TriesAnswer
+    ensures { λ r. ⌜ r ≡ triesAnswer case ⌝ }
+{
+    let checked = checked::check(case);
+    match checked {
+        Checked::Accepted(curve) => {
+            let counted = graded(case, curve);
+            TriesAnswer::Tried(counted.tries)
+        }
+        Checked::Refused(number) => TriesAnswer::Refused(number),
     }
 }

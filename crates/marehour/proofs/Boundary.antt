@@ -1,4 +1,5 @@
 -- The boundary sections (specs/Boundary), shown, with those of the layers below.
+--   line-read        the printed line is the printed case
 --   boundary-shown   each figure of the list is what is to be shown
 -- Assumes nothing.
 use mathlib.Core.Path.{_≡_, refl, ap, _∙_}
@@ -33,7 +34,7 @@ use Rattle.marehour.specs.Calls.{dayCall, content}
 use Rattle.marehour.proofs.Laws.{day-call-is-the-day}
 use Rattle.marehour.specs.Boundary.{printedLine, printedAnswer, snowAnswer, longest, addedFigures, boundaryFigures}
 
-line-read : readLine (bytesOf printedLine) ≡ LineRead.Case example
+pub line-read : readLine (bytesOf printedLine) ≡ LineRead.Case example
 unfolding onFirst parts layout completed spelled number oneOf letter fieldAs valuesOf caseOf readValues readLine
 line-read = refl
 

@@ -2,3 +2,4 @@
 pub mod CallLaws
 pub mod Laws
 pub mod Boundary
+pub mod TriesLaws

@@ -2,6 +2,8 @@
 //   calls      evaluation and lanes question over a lent line and a lent buffer
 //   day_call   the answers to a day of demands over a lent line and lent numbers
 //   speed      the surveyed speed
+//   tries      how many demands the search for the service volumes tries
 mod calls;
 mod day_call;
 mod speed;
+mod tries;

@@ -3,6 +3,7 @@ pub mod BoolLaws
 pub mod DivisionLaws
 pub mod FractionLaws
 pub mod SearchLaws
+pub mod HalvingLaws
 pub mod TableLaws
 pub mod ProductLaws
 pub mod RowsLaws

@@ -9,6 +9,8 @@
 --   greatest-last     of a test that is downward closed: it is s where the test ends at s
 --   greatest-between  of a test that is downward closed: it is s where s passes and the next number, if the bound has it, fails
 --   greatest-cong     tests that agree up to the bound find the same
+--   greatest-mono     of a test that passes whatever another passes it is no less
+--   greatest-within   up to a lower bound that it is not above it is the same
 --   least-le          it is at most the bound
 --   least-passes      it passes, where it is below the bound
 --   least-le-of       it is at most what passes
@@ -114,6 +116,16 @@ unfolding greatest
 greatest-cong p q zero same = refl
 greatest-cong p q (suc n) same =
     rw (same (suc n) (le-refl (suc n)), greatest-cong p q n (λ k h. same k (omega arith)))
+
+pub greatest-mono : (p q : ℕ → Bool) (n : ℕ) → ((k : ℕ) → T (p k) → T (q k)) → greatest p n ≤ greatest q n
+greatest-mono p q n passes =
+    ⊎-elim (λ e. rw e zero-le) (λ t. le-greatest q n (greatest p n) (greatest-le p n) (passes (greatest p n) t)) (greatest-cases p n)
+
+pub greatest-within : (p : ℕ → Bool) (m n : ℕ) → T (p 0) → m ≤ n → greatest p n ≤ m → greatest p m ≡ greatest p n
+greatest-within p m n z h within =
+    sym
+    (greatest-eq p n (greatest p m) (le-trans (greatest-le p m) h) (greatest-passes p m z)
+    (λ k l u t. let below = le-greatest p n k u t in omega (arith, le-greatest p m k (le-trans below within) t)))
 
 -- what leastFrom p a n says of the n numbers from a on
 record First (p : ℕ → Bool) (a n r : ℕ) : Type 0 where

@@ -9,9 +9,10 @@ use Rattle.answer.proofs.evaluate.evaluate.Tie as tie
 
 returns : tie.Need-returns
 returns c =
-    ap Answer.Graded (c .graded .ensures)
-    ∙ by-accepted (c .before .before .before .before .before .args .case) _ Answer.Refused _
-    (sym (c .before .before .before .before .check .ensures) ∙ c .before .before .checked .given .1)
+    let g = c .before in
+    ap (λ counted. Answer.Graded (counted .grade)) (g .graded .ensures)
+    ∙ by-accepted (g .before .before .before .before .before .args .case) _ Answer.Refused _
+    (sym (g .before .before .before .before .check .ensures) ∙ g .before .before .checked .given .1)
 
 returns-2 : tie.Need-returns-2
 returns-2 c =

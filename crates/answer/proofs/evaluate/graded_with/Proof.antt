@@ -1,8 +1,9 @@
--- `answer::evaluate::graded_with` meets its contract: the volumes are the search's by proofs/VolumeLaws.
+-- `answer::evaluate::graded_with` meets its contract: the volumes and the count are the case's by proofs/TriesLaws.
 -- Assumes nothing.
 use mathlib.Core.Path.{_∙_}
 use Rattle.answer.specs.Answers.{graded}
-use Rattle.answer.proofs.VolumeLaws.{volume-ready, serviceVolumes-terms}
+use Rattle.answer.proofs.VolumeLaws.{volume-ready}
+use Rattle.answer.proofs.TriesLaws.{foundVolumes-terms}
 use borrow.Author.Needs.{needs}
 use Rattle.answer.proofs.evaluate.graded_with.Statement.{statement}
 use Rattle.answer.proofs.evaluate.graded_with.Tie as tie
@@ -10,14 +11,14 @@ use Rattle.answer.proofs.evaluate.graded_with.Tie as tie
 returns : tie.Need-returns
 unfolding graded
 returns c =
-    let s = c .before .before .before .before in
+    let found = c .before .before .before in
     simp (
       c .grade-of .ensures,
-      c .before .before .measures-with .ensures,
-      c .before .volumes-with .ensures ∙ serviceVolumes-terms _ _ _ (s .pre),
+      c .before .measures-with .ensures,
+      found .found-volumes .ensures ∙ foundVolumes-terms _ _ _ (found .before .before .pre),
     )
 
 pub graded-with-spec : {M : Type 1} → statement M
 graded-with-spec =
     tie.close
-    (tie.spec (λ c κs. search needs) (λ c κs. volume-ready _ _ _ (c .before .before .pre)) (λ c κs. search needs) returns)
+    (tie.spec (λ c κs. volume-ready _ _ _ (c .before .pre)) (λ c κs. search needs) (λ c κs. search needs) returns)

@@ -1,0 +1,36 @@
+-- The call that counts the tried demands (specs/Tries).
+--   tries-hand-back, tries-of-lines
+-- Assumes nothing.
+use mathlib.Core.Path.{_≡_, refl, ap, _∙_}
+use mathlib.Core.List.{[], _∷_}
+use Prim.Native.Nat.{ℕ, _<_}
+use lib.IntN.{pos}
+use Rattle.text.specs.Bytes.{bytesOf}
+use Rattle.text.specs.Parts.{onFirst, parts}
+use Rattle.method.specs.Boundary.{example}
+use Rattle.answer.specs.Tries.{triesAnswer, refusalNumber}
+use Rattle.answer.proofs.SearchOrder.{triesAnswer-accepted, triesAnswer-refused, example-tried}
+use Rattle.lines.specs.declared.read.LineRead.the-variants as LineRead
+use Rattle.lines.specs.Fields.{layout, completed, spelled, number, oneOf, letter, fieldAs, valuesOf}
+use Rattle.lines.specs.Reading.{readValues, readLine}
+use Rattle.lines.proofs.ReadingLaws.{readLine-refused}
+use Rattle.marehour.specs.Calls.{resultOf}
+use Rattle.marehour.specs.Tries.{triesResult, lineTries, TriesHandBack, TriesOfLines}
+use Rattle.marehour.specs.Boundary.{printedLine}
+use Rattle.marehour.proofs.Boundary.{line-read}
+
+pub tries-hand-back : TriesHandBack
+tries-hand-back line = (
+  λ n e. ap lineTries (e ∙ ap LineRead.Refused (readLine-refused line n e)),
+  λ case e. (
+    λ a. ap lineTries e ∙ ap triesResult (triesAnswer-accepted case a),
+    λ n r p. ap lineTries e ∙ ap triesResult (triesAnswer-refused case n r p),
+  ),
+)
+
+pub tries-of-lines : TriesOfLines
+unfolding onFirst parts layout completed spelled number oneOf letter fieldAs valuesOf readValues readLine
+tries-of-lines = (
+  ap lineTries line-read ∙ ap (resultOf (refusalNumber (triesAnswer example))) (example-tried .1),
+  tries-hand-back (bytesOf "F") .0 15 refl,
+)

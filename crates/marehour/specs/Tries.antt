@@ -1,0 +1,46 @@
+-- What the call that counts the tried demands hands back (document 02, T-04), and its laws, stated; proofs/TriesLaws proves
+-- them.
+--   triesResult a      the count, or minus the refusal's number
+--   lineTries r        the same for a line that was read: minus 15 where it is malformed
+--   triesCall line     the same for a line
+--   TriesHandBack      minus 15 where the line is malformed; else the count of the tried demands, or minus the refusal of its case
+--   TriesOfLines       64 for the printed line, and minus 15 for a line of one field
+-- Assumes nothing.
+use mathlib.Core.Path.{_≡_}
+use mathlib.Core.List.{List}
+use Prim.Native.Nat.{ℕ, _<_}
+use lib.IntN.{ℤ, pos, negℤ}
+use lib.ListN.{length}
+use Rattle.text.specs.Bytes.{bytesOf}
+use Rattle.road.specs.declared.Case.{Case}
+use Rattle.method.specs.Refusals.{refusal, Accepted}
+use Rattle.answer.specs.declared.evaluate.TriesAnswer.{TriesAnswer}
+use Rattle.answer.specs.Tries.{demandsTried, triesAnswer, refusalNumber, values}
+use Rattle.lines.specs.declared.read.LineRead.{LineRead}
+use Rattle.lines.specs.declared.read.LineRead.the-variants as LineRead
+use Rattle.lines.specs.Reading.{readLine}
+use Rattle.marehour.specs.Calls.{resultOf}
+use Rattle.marehour.specs.Boundary.{printedLine}
+
+abbrev pub triesResult : TriesAnswer → ℤ
+triesResult a = resultOf (refusalNumber a) (values a)
+
+-- "15 malformed line", before 1
+abbrev pub lineTries : LineRead → ℤ
+lineTries (LineRead.Case case) = triesResult (triesAnswer case)
+lineTries (LineRead.Refused number) = negℤ (pos number)
+
+abbrev pub triesCall : List ℕ → ℤ
+triesCall line = lineTries (readLine line)
+
+-- A line that is read gets what its case gets, one that is malformed minus 15. A count is from 1 to 80 by answer/SearchOrder
+abbrev pub TriesHandBack : Type 0
+TriesHandBack =
+    (line : List ℕ)
+    → ((n : ℕ) → readLine line ≡ LineRead.Refused n → triesCall line ≡ negℤ (pos 15))
+    × ((case : Case) → readLine line ≡ LineRead.Case case
+    → (Accepted case → triesCall line ≡ pos (length (demandsTried case)))
+    × ((n : ℕ) → refusal case ≡ n → 0 < n → triesCall line ≡ negℤ (pos n)))
+
+abbrev pub TriesOfLines : Type 0
+TriesOfLines = (triesCall (bytesOf printedLine) ≡ pos 64) × (triesCall (bytesOf "F") ≡ negℤ (pos 15))
