@@ -2,8 +2,8 @@
 --   volume-next         no volume is above that of the next worse letter
 --   searchEnd-le        no search goes past the greatest demand
 --   triedFrom-suc       how many demands are tried, letter by letter
---   found-le             a search finds nothing above its end, and tries no more demands than that
---   found-five           what the five searches hand back, each up to the volume found before
+--   Done, done-start, done-next, done-volumes   the searches so far: none, one more, all five
+--   done-end-le, done-tries-le   64 bits hold the end and the count
 --   foundVolumes-terms   what is found are the service volumes of the case, and the demands tried are the case's
 -- Assumes nothing.
 use mathlib.Core.Path.{_≡_, refl, sym, ap, subst, _∙_}
@@ -39,7 +39,7 @@ use Rattle.answer.specs.declared.evaluate.Found.{Found}
 use Rattle.answer.specs.declared.evaluate.FoundVolumes.{FoundVolumes}
 use Rattle.answer.specs.Volumes.{meets, serviceVolumes}
 use Rattle.answer.specs.Search.{demandMeets, searchedVolumes}
-use Rattle.answer.specs.Tries.{meetsWith, searchEnd, triedFor, triedFrom, demandsTried, found, foundVolumes}
+use Rattle.answer.specs.Tries.{meetsWith, meetsBy, searchEnd, triedFor, triedFrom, demandsTried, found, foundVolumes}
 use Rattle.answer.proofs.VolumeLaws.{demandMeets-zero, meets-demand, serviceVolumes-terms}
 
 -- ---- no volume is above that of the next worse letter
@@ -58,9 +58,6 @@ volume-next curve load n h k =
     (λ demand. demandMeets-worse curve load n demand h k)
 
 -- ---- the searches in turn
-pub found-le : (p : ℕ → Bool) (end : ℕ) → (found p end .demand ≤ end) × (found p end .tries ≤ end)
-found-le p end = (greatest-le p end, triedUpTo-steps p end)
-
 pub searchEnd-le : (test : ℕ → ℕ → Bool) (n : ℕ) → searchEnd test n ≤ greatestDemand
 unfolding searchEnd
 searchEnd-le test n = cond-le (ltb n 5) (greatest-le (test (suc n)) greatestDemand) (le-refl greatestDemand)
@@ -69,57 +66,112 @@ searchEnd-next : (test : ℕ → ℕ → Bool) (n : ℕ) → n ≤ 4 → searchE
 unfolding searchEnd
 searchEnd-next test n h = simp (lt-ltb n 5 (omega arith))
 
+searchEnd-last : (test : ℕ → ℕ → Bool) (n : ℕ) → 5 ≤ n → searchEnd test n ≡ greatestDemand
+unfolding searchEnd
+searchEnd-last test n h = simp (le-ltb n 5 h)
+
 pub triedFrom-suc : (test : ℕ → ℕ → Bool) (n : ℕ)
     → length (triedFrom test (suc n)) ≡ length (triedFor test (suc n)) + length (triedFrom test n)
 unfolding triedFrom
 triedFrom-suc test n = length-append (triedFor test (suc n)) (triedFrom test n)
 
-module _ (terms : CaseTerms) (ok : WellFormed (terms .«curve_terms» .curve)) (pos : 0 < terms .load .divisor) where
-  abbrev test : ℕ → ℕ → Bool
-  test n = demandMeets (terms .«curve_terms» .curve) (terms .load) (densityLimit n)
+triedFrom-le : (test : ℕ → ℕ → Bool) (n : ℕ) → length (triedFrom test n) ≤ n * greatestDemand
+unfolding triedFrom
+triedFrom-le test zero = zero-le
+triedFrom-le test (suc n) =
+    omega (arith, triedFrom-suc test n, triedFrom-le test n, triedUpTo-steps (test (suc n)) (searchEnd test (suc n)), searchEnd-le test (suc n))
 
-  -- a search up to the volume of the letter before finds what one up to the greatest demand would
-  up-to-the-one-before : (n : ℕ) → 1 ≤ n → n ≤ 4
-      → greatest (test n) (greatest (test (suc n)) greatestDemand) ≡ greatest (test n) greatestDemand
-  up-to-the-one-before n h k =
-      greatest-within (test n) (greatest (test (suc n)) greatestDemand) greatestDemand
-      (demandMeets-zero (terms .«curve_terms» .curve) (terms .load) (densityLimit n) ok pos) (greatest-le (test (suc n)) greatestDemand)
-      (volume-next (terms .«curve_terms» .curve) (terms .load) n h k)
+-- the letters above n are done: their volumes are found, and what is left to try makes up the rest
+pub record Done (terms : CaseTerms) (volumes : List ℕ) (end tries n : ℕ) : Type 0 where
+  pub letter-le : n ≤ 5
+  pub five : length volumes ≡ 5
+  pub end-is : end ≡ searchEnd (meetsBy terms) n
+  pub count : tries + length (triedFrom (meetsBy terms) n) ≡ length (triedFrom (meetsBy terms) 5)
+  pub found-above : (k : ℕ) → n ≤ k → k < 5 → getD volumes k 0 ≡ greatest (meetsBy terms (suc k)) greatestDemand
 
-  -- what was found is the service volume of letter number n, and the demands tried for it were counted
-  record FoundFor (n : ℕ) (r : Found) : Type 0 where
-    volume : r .demand ≡ greatest (test n) greatestDemand
-    count : r .tries ≡ length (triedFor test n)
+pub done-start : (terms : CaseTerms) → Done terms (0 ∷ 0 ∷ 0 ∷ 0 ∷ 0 ∷ []) greatestDemand 0 5
+unfolding searchEnd
+done-start terms =
+    record { letter-le = omega arith; five = refl; end-is = refl; count = omega arith; found-above = λ k h l. absurd (omega arith) }
 
-  first : (r : Found) → r ≡ found (test 5) greatestDemand → FoundFor 5 r
-  unfolding searchEnd
-  first r e = record { volume = ap (λ f. f .demand) e; count = ap (λ f. f .tries) e }
+module _ (terms : CaseTerms) (volumes : List ℕ) (end tries n : ℕ) (d : Done terms volumes end tries n) where
+  pub done-end-le : end ≤ greatestDemand
+  done-end-le = omega (arith, d .end-is, searchEnd-le (meetsBy terms) n)
 
-  next : (n : ℕ) (worse r : Found) → 1 ≤ n → n ≤ 4 → FoundFor (suc n) worse → r ≡ found (test n) (worse .demand) → FoundFor n r
-  next n worse r h k w e =
-      record {
-        volume = ap (λ f. f .demand) e ∙ rw (w .volume) (up-to-the-one-before n h k);
-        count = ap (λ f. f .tries) e ∙ rw (w .volume, searchEnd-next test n k);
-      }
-
-  pub found-five : (a b c d e : Found) → e ≡ found (test 5) greatestDemand → d ≡ found (test 4) (e .demand) → c ≡ found (test 3) (d .demand)
-      → b ≡ found (test 2) (c .demand) → a ≡ found (test 1) (b .demand)
+  pub done-volumes : n ≡ 0
       → record {
-        volumes = record { a = a .demand; b = b .demand; c = c .demand; d = d .demand; e = e .demand };
-        tries = e .tries + d .tries + c .tries + b .tries + a .tries;
+        volumes = record {
+          a = getD volumes 0 0;
+          b = getD volumes 1 0;
+          c = getD volumes 2 0;
+          d = getD volumes 3 0;
+          e = getD volumes 4 0;
+        };
+        tries = tries;
       }
       ≡ foundVolumes terms
   unfolding triedFrom
-  found-five a b c d e qe qd qc qb qa =
-      let fe = first e qe in
-      let fd = next 4 e d (omega arith) (omega arith) fe qd in
-      let fc = next 3 d c (omega arith) (omega arith) fd qc in
-      let fb = next 2 c b (omega arith) (omega arith) fc qb in
-      let fa = next 1 b a (omega arith) (omega arith) fb qa in
-      let rest = triedFrom-suc test in
-      let count : e .tries + d .tries + c .tries + b .tries + a .tries ≡ length (triedFrom test 5) =
-      omega (arith, fa .count, fb .count, fc .count, fd .count, fe .count, rest 4, rest 3, rest 2, rest 1, rest 0) in
-      simp (fa .volume, fb .volume, fc .volume, fd .volume, fe .volume, count)
+  done-volumes z =
+      let count : tries ≡ length (triedFrom (meetsBy terms) 5) = omega (arith, rw z at (d .count)) in
+      simp (
+        d .found-above 0 (omega arith) (omega arith),
+        d .found-above 1 (omega arith) (omega arith),
+        d .found-above 2 (omega arith) (omega arith),
+        d .found-above 3 (omega arith) (omega arith),
+        d .found-above 4 (omega arith) (omega arith),
+        count,
+      )
+
+  -- one search more, for letter number n
+  module _ (left : 0 < n) (r : Found) (e : r ≡ found (meetsBy terms n) end) where
+    one-less : n ≡ suc (n - 1)
+    one-less = omega arith
+
+    tries-is : r .tries ≡ length (triedFor (meetsBy terms) n)
+    tries-is = ap (λ f. f .tries) e ∙ ap (λ x. length (triedUpTo (meetsBy terms n) x)) (d .end-is)
+
+    rest : length (triedFrom (meetsBy terms) n) ≡ length (triedFor (meetsBy terms) n) + length (triedFrom (meetsBy terms) (n - 1))
+    rest =
+        ap (λ m. length (triedFrom (meetsBy terms) m)) one-less ∙ triedFrom-suc (meetsBy terms) (n - 1)
+        ∙ ap (λ m. length (triedFor (meetsBy terms) m) + length (triedFrom (meetsBy terms) (n - 1))) (sym one-less)
+
+    pub done-tries-le : tries + r .tries ≤ 5 * greatestDemand
+    done-tries-le = omega (arith, tries-is, rest, d .count, triedFrom-le (meetsBy terms) 5)
+
+    module _ (ok : WellFormed (terms .«curve_terms» .curve)) (pos : 0 < terms .load .divisor) where
+      -- a search up to the volume of the letter before finds what one up to the greatest demand would
+      volume-is : r .demand ≡ greatest (meetsBy terms n) greatestDemand
+      volume-is = ap (λ f. f .demand) e ∙ rw (d .end-is) (go (decLe (suc n) 5))
+        where
+          go : Dec (suc n ≤ 5) → greatest (meetsBy terms n) (searchEnd (meetsBy terms) n) ≡ greatest (meetsBy terms n) greatestDemand
+          go (no l) = rw (searchEnd-last (meetsBy terms) n (omega (arith, d .letter-le)))
+          go (yes l) =
+              rw (searchEnd-next (meetsBy terms) n (omega arith))
+              (greatest-within (meetsBy terms n) (greatest (meetsBy terms (suc n)) greatestDemand) greatestDemand
+              (demandMeets-zero (terms .«curve_terms» .curve) (terms .load) (densityLimit n) ok pos)
+              (greatest-le (meetsBy terms (suc n)) greatestDemand)
+              (volume-next (terms .«curve_terms» .curve) (terms .load) n left (omega arith)))
+
+      pub done-next : Done terms (set volumes (n - 1) (r .demand)) (r .demand) (tries + r .tries) (n - 1)
+      done-next =
+          record {
+            letter-le = omega (arith, d .letter-le);
+            five = length-set volumes (n - 1) (r .demand) ∙ d .five;
+            end-is =
+                volume-is ∙ ap (λ m. greatest (meetsBy terms m) greatestDemand) one-less
+                ∙ sym (searchEnd-next (meetsBy terms) (n - 1) (omega (arith, d .letter-le)));
+            count = omega (arith, tries-is, rest, d .count);
+            found-above = λ k h l. go k h l (decLe n k);
+          }
+        where
+          go : (k : ℕ) → n - 1 ≤ k → k < 5 → Dec (n ≤ k)
+              → getD (set volumes (n - 1) (r .demand)) k 0 ≡ greatest (meetsBy terms (suc k)) greatestDemand
+          go k h l (yes u) = getD-set-other volumes (n - 1) k (r .demand) 0 (λ q. omega arith) ∙ d .found-above k u l
+          go k h l (no u) =
+              let same : k ≡ n - 1 = omega arith in
+              rw same
+              (getD-set-same volumes (n - 1) (r .demand) 0 (omega (arith, d .five, d .letter-le)) ∙ volume-is
+              ∙ ap (λ m. greatest (meetsBy terms m) greatestDemand) one-less)
 
 -- ---- from the terms of a case to the case
 module _ (t u : ℕ → ℕ → Bool) (same : (n demand : ℕ) → 1 ≤ n → n ≤ 5 → demand ≤ greatestDemand → t n demand ≡ u n demand) where
@@ -148,7 +200,6 @@ unfolding curveTerms
 foundVolumes-terms case terms table r =
     simp (
       serviceVolumes-terms case terms table r,
-      triedFrom-cong (λ n. demandMeets (terms .«curve_terms» .curve) (terms .load) (densityLimit n))
-          (meetsWith case)
+      triedFrom-cong (meetsBy terms) (meetsWith case)
           (λ n demand h k l. rw (r .own-terms) (sym (meets-demand case n (r .accepted) h k demand l))) 5 (omega arith),
     )

@@ -1,6 +1,7 @@
 -- Which demands the searches for the five service volumes try, and how many (document 02, T-04). It is no part of the method. Letter numbers:
 -- A is 1.
 --   meetsWith case n demand   the case with that demand meets letter number n
+--   meetsBy terms n demand    what is tried of it, from the terms of the case
 --   searchEnd test n     up to where letter number n is searched for, if test n tells whether a demand meets it
 --   triedFor test n      the demands that are tried for it
 --   triedFrom test n     those for letter number n and then for each better one
@@ -39,6 +40,9 @@ use Rattle.answer.specs.Search.{demandMeets, searchedVolumes}
 abbrev pub meetsWith : Case → ℕ → ℕ → Bool
 meetsWith case n demand = meets (withDemand case demand) n
 
+abbrev pub meetsBy : CaseTerms → ℕ → ℕ → Bool
+meetsBy terms n = demandMeets (terms .«curve_terms» .curve) (terms .load) (densityLimit n)
+
 -- "E first, then each letter from zero up to the volume found for the one before"
 unfoldable pub searchEnd : (ℕ → ℕ → Bool) → ℕ → ℕ
 searchEnd test n = cond (ltb n 5) (greatest (test (suc n)) greatestDemand) greatestDemand
@@ -57,11 +61,7 @@ abbrev pub found : (ℕ → Bool) → ℕ → Found
 found p end = record { demand = greatest p end; tries = length (triedUpTo p end) }
 
 abbrev pub foundVolumes : CaseTerms → FoundVolumes
-foundVolumes terms =
-    record {
-      volumes = searchedVolumes terms;
-      tries = length (triedFrom (λ n. demandMeets (terms .«curve_terms» .curve) (terms .load) (densityLimit n)) 5);
-    }
+foundVolumes terms = record { volumes = searchedVolumes terms; tries = length (triedFrom (meetsBy terms) 5) }
 
 abbrev pub countedGrade : Case → CountedGrade
 countedGrade case = record { grade = graded case; tries = length (demandsTried case) }

@@ -26,7 +26,6 @@ use road::refusal;
 ghost use mathlib.Core.Path.{_≡_};
 ghost use Prim.Native.Nat.{_≤_};
 ghost use Rattle.curve.specs.Terms.{Ready};
-ghost use Rattle.curve.specs.Service.{densityLimit};
 ghost use Rattle.road.specs.Refusals.{greatestDemand};
 ghost use Rattle.method.specs.declared.checked.Checked.the-variants as Checked;
 ghost use Rattle.method.specs.Checked.{checked};
@@ -35,7 +34,7 @@ ghost use Rattle.method.specs.Assess.{CaseReady};
 ghost use Rattle.answer.specs.declared.evaluate.Answer.the-variants.{Graded};
 ghost use Rattle.answer.specs.Search.{demandMeets, searchedVolumes, Trying};
 ghost use Rattle.answer.specs.Answers.{gradeOf, answerTo, values};
-ghost use Rattle.answer.specs.Tries.{found, foundVolumes, countedGrade, triesAnswer};
+ghost use Rattle.answer.specs.Tries.{meetsBy, found, foundVolumes, countedGrade, triesAnswer};
 
 pub struct Volumes {
     pub a: u64,
@@ -115,34 +114,46 @@ fn greatest_meeting(terms: CurveTerms, table: &[u32], load: Load, limit: u64, en
 }
 
 // The greatest demand up to the end that keeps to the density of a letter number.
-fn greatest_for(terms: CurveTerms, table: &[u32], load: Load, letter: u64, end: u64) -> Found
-    requires { ⌜ Ready terms (now table) × LoadFits load × (end ≤ greatestDemand) ⌝ }
-    ensures { λ r. ⌜ (r ≡ found (demandMeets (terms .curve) load (densityLimit letter)) end) × (r .demand ≤ end) × (r .tries ≤ end) ⌝ }
+fn greatest_for(terms: CaseTerms, table: &[u32], letter: u64, end: u64) -> Found
+    requires { ⌜ Ready (terms .«curve_terms») (now table) × LoadFits (terms .load) × (end ≤ greatestDemand) ⌝ }
+    ensures { λ r. ⌜ r ≡ found (meetsBy terms letter) end ⌝ }
 {
-    greatest_meeting(terms, table, load, service::density_limit(letter), end)
+    let load = terms.load;
+    let curve_terms = terms.curve_terms;
+    greatest_meeting(
+        curve_terms,
+        table,
+        load,
+        service::density_limit(letter),
+        end,
+    )
 }
 
-// E up to the greatest demand, then each better letter up to the volume found before: no volume is above that of the next worse letter.
+// E first, then each better letter up to the volume found before: no volume is above that of the next worse letter.
 fn found_volumes(terms: CaseTerms, table: &[u32]) -> FoundVolumes
     requires { ⌜ Ready (terms .«curve_terms») (now table) × LoadFits (terms .load) ⌝ }
     ensures { λ r. ⌜ r ≡ foundVolumes terms ⌝ }
 {
-    let load = terms.load;
-    let curve_terms = terms.curve_terms;
-    let e = greatest_for(curve_terms, table, load, 5, refusal::GREATEST_DEMAND);
-    let d = greatest_for(curve_terms, table, load, 4, e.demand);
-    let c = greatest_for(curve_terms, table, load, 3, d.demand);
-    let b = greatest_for(curve_terms, table, load, 2, c.demand);
-    let a = greatest_for(curve_terms, table, load, 1, b.demand);
+    let mut volumes = [0; 5];
+    let mut end = refusal::GREATEST_DEMAND;
+    let mut tries = 0;
+    let mut letter: usize = 5;
+    while 0 < letter {
+        let found = greatest_for(terms, table, letter as u64, end);
+        letter -= 1;
+        volumes[letter] = found.demand;
+        end = found.demand;
+        tries += found.tries;
+    }
     FoundVolumes {
         volumes: Volumes {
-            a: a.demand,
-            b: b.demand,
-            c: c.demand,
-            d: d.demand,
-            e: e.demand,
+            a: volumes[0],
+            b: volumes[1],
+            c: volumes[2],
+            d: volumes[3],
+            e: volumes[4],
         },
-        tries: e.tries + d.tries + c.tries + b.tries + a.tries,
+        tries,
     }
 }
 

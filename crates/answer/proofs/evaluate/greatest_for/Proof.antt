@@ -1,18 +1,14 @@
--- `answer::evaluate::greatest_for` meets its contract: no letter has a density above 450, and nothing is found above the end.
+-- `answer::evaluate::greatest_for` meets its contract: no letter has a density above 450.
 -- Assumes nothing.
-use mathlib.Core.Path.{refl}
 use native.Mathlib.Omega.{arith}
-use Rattle.curve.specs.Service.{densityLimit}
 use Rattle.curve.proofs.ServiceLaws.{densityLimit-le}
-use Rattle.answer.specs.Search.{demandMeets}
-use Rattle.answer.proofs.TriesLaws.{found-le}
 use borrow.Author.Needs.{needs}
 use Rattle.answer.proofs.evaluate.greatest_for.Statement.{statement}
 use Rattle.answer.proofs.evaluate.greatest_for.Tie as tie
 
 greatest-meeting-requires : tie.Need-greatest-meeting-requires
 greatest-meeting-requires c κs =
-    let s = c .before .before in
+    let s = c .before .before .before .before in
     record {
       ready = s .pre .0;
       load-fits = s .pre .1;
@@ -20,11 +16,8 @@ greatest-meeting-requires c κs =
       demand-le = omega (arith, s .pre .2);
     }
 
-returns : tie.Need-returns
-returns c =
-    let a = c .before .before .before .args in
-    let ends = found-le (demandMeets (a .terms .curve) (a .load) (densityLimit (a .letter))) (a .end) in
-    rw (c .greatest-meeting .ensures, c .before .density-limit .ensures) (refl, ends .0, ends .1)
-
 pub greatest-for-spec : {M : Type 1} → statement M
-greatest-for-spec = tie.close (tie.spec (λ c κs. search needs) greatest-meeting-requires returns)
+greatest-for-spec =
+    tie.close
+    (tie.spec (λ c κs. search needs) greatest-meeting-requires
+    (λ c. simp (c .greatest-meeting .ensures, c .before .density-limit .ensures)))
