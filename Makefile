@@ -3,7 +3,7 @@
 # make full     compares every curve of clear weather and every float with the second implementation
 # make tables   writes the constant tables anew
 # make vectors  writes the answers of the vectors anew, as the second implementation has them
-# make bench    times los and the calls against plain C on a million made lines; RUNS=n sets how often
+# make bench    times los and the calls against plain C on a million made lines; RUNS=n sets how often, BEFORE=path adds another los
 SHELL = /bin/bash
 .SHELLFLAGS = -o pipefail -c
 BUILD = build

@@ -4,6 +4,7 @@ set -eu
 build=$1 los=$2
 shift 2
 runs=${RUNS:-7}
+before=${BEFORE:-} # another los to run beside this one, as that of the landing before
 lines=$build/lines.tsv
 few=$build/few.tsv
 count=$(wc -l <"$lines")
@@ -21,14 +22,14 @@ instructions() { # PROGRAM
 }
 
 "$los" <"$lines" >"$build/answers.tsv"
-for program in "$los" "$@"; do check "$program"; done
+for program in "$los" "$@" ${before:+"$before"}; do check "$program"; done
 # Plain C's calls are compared on the vectors too, which have weather; the made lines have none.
 "$build/calls" crates/los/stdin 1 >"$build/vectors.out"
 "$build/days" crates/los/stdin 1 >>"$build/vectors.out"
 echo "$count lines: los and plain C print the same bytes. Best of $runs runs, in turn; ratio: the first over the row's."
 for program in "$@"; do echo "$program: $("${program##*-}" --version | head -n 1), -O3"; done
 echo
-"$build/race" "$lines" "$count" "$runs" "$los" "$@"
+"$build/race" "$lines" "$count" "$runs" "$los" "$@" ${before:+"$before"}
 echo
 "$build/calls" "$lines" "$runs"
 echo
