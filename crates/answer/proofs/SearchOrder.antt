@@ -1,5 +1,4 @@
 -- The order of the searches (specs/SearchOrder), proved.
---   serviceVolume-next   no service volume is above that of the next worse letter
 --   triesAnswer-accepted, triesAnswer-refused   an accepted case gets its count, a refused one its number
 --   triesAnswer-number   the number is the case's refusal
 --   no-volume-above-the-next, tries-of-a-letter, at-most-80-tried
@@ -7,12 +6,11 @@
 --   example-tried, eight-lanes-tried, refused-tried
 -- Assumes nothing.
 use mathlib.Core.Path.{_≡_, refl, sym, ap, _∙_}
-use mathlib.Core.Bool.{Bool, cond}
 use mathlib.Core.List.{List, [], _∷_, _++_}
 use Prim.Native.Nat.{ℕ, zero, suc, _*_, _≤_, _<_, zero-le}
 use native.Mathlib.Omega.{arith}
-use native.Mathlib.Nat.{le-refl, le-trans}
-use lib.Dec.{T, leb, eqb, leb→le, le→leb}
+use native.Mathlib.Nat.{le-trans}
+use lib.Dec.{leb}
 use lib.ListN.{length, getD}
 use borrow.Author.Tests.{lt-ltb}
 use Rattle.numbers.specs.Halving.{middle, triedBetween, triedUpTo}
@@ -20,17 +18,18 @@ use Rattle.numbers.proofs.BoolLaws.{leb-test}
 use Rattle.numbers.proofs.HalvingLaws.{triedUpTo-doublings, triedUpTo-some, triedUpTo-cong}
 use Rattle.checks.proofs.RefusalLaws.{unlessRefused-none, unlessRefused-some, unlessRefused-number, unlessRefused-found}
 use Rattle.road.specs.declared.Case.{Case}
-use Rattle.road.specs.Cases.{withDemand}
 use Rattle.road.specs.Refusals.{greatestDemand}
 use Rattle.method.specs.Refusals.{refusal, Accepted}
 use Rattle.method.specs.Checked.{caseCurve}
 use Rattle.method.specs.Flow.{loadOf}
 use Rattle.method.specs.Boundary.{example}
-use Rattle.answer.specs.Volumes.{meets, serviceVolume}
+use Rattle.answer.specs.Volumes.{serviceVolume}
+use Rattle.answer.specs.declared.evaluate.TriesAnswer.{TriesAnswer}
 use Rattle.answer.specs.declared.evaluate.TriesAnswer.the-variants as TriesAnswer
 use Rattle.answer.specs.Tries.{meetsWith, searchEnd, triedFor, triedFrom, demandsTried, triesAnswer, refusalNumber, values}
 use Rattle.answer.specs.Boundary.{estimated}
-use Rattle.answer.specs.SearchOrder.{NoVolumeAboveTheNext, TriesOfALetter, AtMost80Tried, eightLanes, ExampleTried, EightLanesTried, RefusedTried}
+use Rattle.answer.specs.SearchOrder.{NoVolumeAboveTheNext, TriesOfALetter, AtMost80Tried}
+use Rattle.answer.specs.SearchOrder.{exampleTried, eightLanes, ExampleTried, EightLanesTried, RefusedTried}
 use Rattle.answer.proofs.VolumeLaws.{serviceVolume-eq, serviceVolume-iff}
 use Rattle.answer.proofs.AnswerLaws.{answerTo-number}
 use Rattle.answer.proofs.Laws.{serviceVolume-le}
@@ -39,26 +38,29 @@ use Rattle.answer.proofs.TriesLaws.{volume-next, triedFrom-suc, searchE
 use Rattle.answer.proofs.Boundary.{VolumesOf, example-accepted, volumes, estimated-answer, eight-lanes-accepted, eight-lanes-volumes}
 
 -- ---- no volume is above that of the next worse letter
-pub serviceVolume-next : (case : Case) → Accepted case → (n : ℕ) → 1 ≤ n → n ≤ 4 → serviceVolume case n ≤ serviceVolume case (suc n)
-serviceVolume-next case a n h k =
-    rw (serviceVolume-eq case n a h (omega arith), serviceVolume-eq case (suc n) a (omega arith) (omega arith))
-    (volume-next (caseCurve case) (loadOf case (case .lanes)) n h k)
-
 pub no-volume-above-the-next : NoVolumeAboveTheNext
 no-volume-above-the-next case a n h k =
-    rw (volumeIn-accepted case n a h (omega arith), volumeIn-accepted case (suc n) a (omega arith) (omega arith)) (serviceVolume-next case a n h k)
+    let own : n ≤ 5 = omega arith in
+    let worse : 1 ≤ suc n = omega arith in
+    let last : suc n ≤ 5 = omega arith in
+    rw (volumeIn-accepted case n a h own, volumeIn-accepted case (suc n) a worse last)
+    (rw (serviceVolume-eq case n a h own, serviceVolume-eq case (suc n) a worse last)
+    (volume-next (caseCurve case) (loadOf case (case .lanes)) n h k))
 
 -- ---- how many demands are tried
 module _ (case : Case) where
   tried-for-e : (0 < length (triedFor (meetsWith case) 5)) × (length (triedFor (meetsWith case) 5) ≤ 20)
   unfolding searchEnd
-  tried-for-e = (triedUpTo-some (meetsWith case 5) greatestDemand (omega arith), triedUpTo-doublings (meetsWith case 5) greatestDemand 20 (omega arith))
+  tried-for-e = (
+    triedUpTo-some (meetsWith case 5) greatestDemand (omega arith),
+    triedUpTo-doublings (meetsWith case 5) greatestDemand 20 (omega arith),
+  )
 
   tried-for : Accepted case → (n : ℕ) → 1 ≤ n → n ≤ 4 → length (triedFor (meetsWith case) n) ≤ 15
   unfolding searchEnd serviceVolume
   tried-for a n h k =
-      simp (lt-ltb n 5 (omega arith))
-      (triedUpTo-doublings (meetsWith case n) (serviceVolume case (suc n)) 15 (omega (arith, serviceVolume-le case (suc n) a (omega arith) (omega arith))))
+      let end = serviceVolume-le case (suc n) a (omega arith) (omega arith) in
+      simp (lt-ltb n 5 (omega arith)) (triedUpTo-doublings (meetsWith case n) (serviceVolume case (suc n)) 15 (omega (arith, end)))
 
   tried-from : Accepted case → (n : ℕ) → n ≤ 4 → length (triedFrom (meetsWith case) n) ≤ 15 * n
   unfolding triedFrom
@@ -77,29 +79,32 @@ at-most-80-tried case a =
 
 -- ---- the answer
 module _ (case : Case) where
-  pub triesAnswer-accepted : Accepted case → triesAnswer case ≡ TriesAnswer.Tried (length (demandsTried case))
-  triesAnswer-accepted a = unlessRefused-none (refusal case) (TriesAnswer.Tried (length (demandsTried case))) TriesAnswer.Refused a
+  abbrev counted : TriesAnswer
+  counted = TriesAnswer.Tried (length (demandsTried case))
+
+  pub triesAnswer-accepted : Accepted case → triesAnswer case ≡ counted
+  triesAnswer-accepted a = unlessRefused-none (refusal case) counted TriesAnswer.Refused a
 
   pub triesAnswer-refused : (n : ℕ) → refusal case ≡ n → 0 < n → triesAnswer case ≡ TriesAnswer.Refused n
-  triesAnswer-refused n e p =
-      rw e (unlessRefused-some n (TriesAnswer.Tried (length (demandsTried case))) TriesAnswer.Refused p)
+  triesAnswer-refused n e p = rw e (unlessRefused-some n counted TriesAnswer.Refused p)
 
   pub triesAnswer-number : refusalNumber (triesAnswer case) ≡ refusal case
-  triesAnswer-number =
-      unlessRefused-number (refusal case) (TriesAnswer.Tried (length (demandsTried case))) TriesAnswer.Refused refusalNumber refl (λ k. refl)
+  triesAnswer-number = unlessRefused-number (refusal case) counted TriesAnswer.Refused refusalNumber refl (λ k. refl)
 
   pub tries-ends : (n : ℕ) → triesAnswer case ≡ TriesAnswer.Tried n → (1 ≤ n) × (n ≤ 80)
   tries-ends n e =
-      let found = unlessRefused-found (refusal case) (TriesAnswer.Tried (length (demandsTried case))) TriesAnswer.Refused refusalNumber refl
-      (λ k. refl) (TriesAnswer.Tried n) e refl in
+      let found = unlessRefused-found (refusal case) counted TriesAnswer.Refused refusalNumber refl (λ k. refl) (TriesAnswer.Tried n) e refl in
       let ends = at-most-80-tried case (found .0) in
       let count : n ≡ length (demandsTried case) = ap (λ a. getD (values a) 0 0) (found .1) in
       (omega (arith, ends .0), omega (arith, ends .1))
 
 -- ---- instances
--- what is tried for a letter goes by the service volumes alone
+-- what is tried goes by the service volumes alone
 upTo : ℕ → ℕ → List ℕ
 upTo volume end = triedUpTo (λ demand. leb demand volume) end
+
+allUpTo : (s₁ s₂ s₃ s₄ s₅ : ℕ) → List ℕ
+allUpTo s₁ s₂ s₃ s₄ s₅ = upTo s₅ greatestDemand ++ (upTo s₄ s₅ ++ (upTo s₃ s₄ ++ (upTo s₂ s₃ ++ (upTo s₁ s₂ ++ []))))
 
 module _ (case : Case) (a : Accepted case) where
   by-volume : (n s end : ℕ) → 1 ≤ n → n ≤ 5 → serviceVolume case n ≡ s → searchEnd (meetsWith case) n ≡ end
@@ -112,9 +117,8 @@ module _ (case : Case) (a : Accepted case) where
       sym (leb-test demand s (meetsWith case n demand) (λ d. iff .1 (rw e d), λ t. rw (sym e) (iff .0 t))))
       ∙ ap (triedUpTo (λ demand. leb demand s)) f
 
-  by-volumes : (s₁ s₂ s₃ s₄ s₅ : ℕ) → VolumesOf case s₁ s₂ s₃ s₄ s₅
-      → demandsTried case ≡ upTo s₅ greatestDemand ++ (upTo s₄ s₅ ++ (upTo s₃ s₄ ++ (upTo s₂ s₃ ++ (upTo s₁ s₂ ++ []))))
-  unfolding triedFrom searchEnd serviceVolume
+  by-volumes : (s₁ s₂ s₃ s₄ s₅ : ℕ) → VolumesOf case s₁ s₂ s₃ s₄ s₅ → demandsTried case ≡ allUpTo s₁ s₂ s₃ s₄ s₅
+  unfolding triedFrom searchEnd serviceVolume allUpTo
   by-volumes s₁ s₂ s₃ s₄ s₅ v =
       simp (
         by-volume 5 s₅ greatestDemand (omega arith) (omega arith) (v .4) refl,
@@ -124,22 +128,20 @@ module _ (case : Case) (a : Accepted case) where
         by-volume 1 s₁ s₂ (omega arith) (omega arith) (v .0) (v .1),
       )
 
-  -- and so does the count
-  count-by-volumes : (s₁ s₂ s₃ s₄ s₅ : ℕ) → VolumesOf case s₁ s₂ s₃ s₄ s₅
-      → values (triesAnswer case) ≡ length (upTo s₅ greatestDemand ++ (upTo s₄ s₅ ++ (upTo s₃ s₄ ++ (upTo s₂ s₃ ++ (upTo s₁ s₂ ++ []))))) ∷ []
-  count-by-volumes s₁ s₂ s₃ s₄ s₅ v =
-      ap values (triesAnswer-accepted case a) ∙ ap (λ tried. length tried ∷ []) (by-volumes s₁ s₂ s₃ s₄ s₅ v)
+  count-of : (tried : List ℕ) → demandsTried case ≡ tried → values (triesAnswer case) ≡ length tried ∷ []
+  count-of tried e = ap values (triesAnswer-accepted case a) ∙ ap (λ l. length l ∷ []) e
 
 pub example-tried : ExampleTried
-unfolding middle triedBetween triedUpTo upTo
-example-tried = (
-  by-volumes example example-accepted 1117 1829 2642 3360 3858 volumes,
-  count-by-volumes example example-accepted 1117 1829 2642 3360 3858 volumes,
-)
+unfolding middle triedBetween triedUpTo upTo allUpTo
+example-tried =
+    let tried : demandsTried example ≡ exampleTried = by-volumes example example-accepted 1117 1829 2642 3360 3858 volumes in
+    (tried, count-of example example-accepted exampleTried tried)
 
 pub eight-lanes-tried : EightLanesTried
-unfolding middle triedBetween triedUpTo upTo
-eight-lanes-tried = count-by-volumes eightLanes eight-lanes-accepted 6178 10054 13620 16449 18604 eight-lanes-volumes
+unfolding middle triedBetween triedUpTo upTo allUpTo
+eight-lanes-tried =
+    count-of eightLanes eight-lanes-accepted (allUpTo 6178 10054 13620 16449 18604)
+    (by-volumes eightLanes eight-lanes-accepted 6178 10054 13620 16449 18604 eight-lanes-volumes)
 
 pub refused-tried : RefusedTried
 refused-tried =

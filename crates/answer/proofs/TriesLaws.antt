@@ -6,14 +6,14 @@
 --   done-end-le, done-tries-le   64 bits hold the end and the count
 --   foundVolumes-terms   what is found are the service volumes of the case, and the demands tried are the case's
 -- Assumes nothing.
-use mathlib.Core.Path.{_≡_, refl, sym, ap, subst, _∙_}
-use mathlib.Core.Bool.{Bool, _&&_}
-use mathlib.Core.List.{List, [], _∷_, _++_}
+use mathlib.Core.Path.{_≡_, refl, sym, ap, _∙_}
+use mathlib.Core.Bool.{Bool}
+use mathlib.Core.List.{List, [], _∷_}
 use Prim.Native.Nat.{ℕ, zero, suc, _+_, _-_, _*_, _≤_, _<_, zero-le}
 use native.Mathlib.Omega.{arith}
 use native.Mathlib.Nat.{le-refl, le-trans}
 use native.Mathlib.Decide.{decLe}
-use lib.Dec.{T, leb, leb→le, le→leb, ltb}
+use lib.Dec.{T, ltb}
 use lib.ListN.{length, length-append, set, length-set, getD}
 use lib.Seq.{getD-set-same, getD-set-other}
 use borrow.Author.Tests.{lt-ltb, le-ltb}
@@ -23,22 +23,19 @@ use Rattle.numbers.proofs.SearchLaws.{greatest-le, greatest-mono, greatest-cong
 use Rattle.numbers.proofs.HalvingLaws.{triedUpTo-steps, triedUpTo-cong}
 use Rattle.numbers.proofs.BoolLaws.{cond-le}
 use Rattle.curve.specs.declared.Curve.{Curve}
-use Rattle.curve.specs.declared.speed.CurveTerms.{CurveTerms}
 use Rattle.curve.specs.Curves.{WellFormed}
 use Rattle.curve.specs.Terms.{curveTerms}
 use Rattle.curve.specs.Service.{densityLimit}
 use Rattle.curve.proofs.ServiceLaws.{letterAt-le-iff}
 use Rattle.road.specs.declared.Case.{Case}
-use Rattle.road.specs.Cases.{withDemand}
 use Rattle.road.specs.Refusals.{greatestDemand}
 use Rattle.method.specs.declared.flow.Load.{Load}
 use Rattle.method.specs.declared.assess.CaseTerms.{CaseTerms}
 use Rattle.method.specs.Flow.{flowRate}
 use Rattle.method.specs.Assess.{CaseReady}
 use Rattle.answer.specs.declared.evaluate.Found.{Found}
-use Rattle.answer.specs.declared.evaluate.FoundVolumes.{FoundVolumes}
-use Rattle.answer.specs.Volumes.{meets, serviceVolumes}
-use Rattle.answer.specs.Search.{demandMeets, searchedVolumes}
+use Rattle.answer.specs.Volumes.{serviceVolumes}
+use Rattle.answer.specs.Search.{demandMeets}
 use Rattle.answer.specs.Tries.{meetsWith, meetsBy, searchEnd, triedFor, triedFrom, demandsTried, found, foundVolumes}
 use Rattle.answer.proofs.VolumeLaws.{demandMeets-zero, meets-demand, serviceVolumes-terms}
 
@@ -79,7 +76,8 @@ triedFrom-le : (test : ℕ → ℕ → Bool) (n : ℕ) → length (triedFrom tes
 unfolding triedFrom
 triedFrom-le test zero = zero-le
 triedFrom-le test (suc n) =
-    omega (arith, triedFrom-suc test n, triedFrom-le test n, triedUpTo-steps (test (suc n)) (searchEnd test (suc n)), searchEnd-le test (suc n))
+    let steps = triedUpTo-steps (test (suc n)) (searchEnd test (suc n)) in
+    omega (arith, steps, searchEnd-le test (suc n), triedFrom-suc test n, triedFrom-le test n)
 
 -- the letters above n are done: their volumes are found, and what is left to try makes up the rest
 pub record Done (terms : CaseTerms) (volumes : List ℕ) (end tries n : ℕ) : Type 0 where

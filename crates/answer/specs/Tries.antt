@@ -1,5 +1,5 @@
--- Which demands the searches for the five service volumes try, and how many (document 02, T-04). It is no part of the method. Letter numbers:
--- A is 1.
+-- Which demands the searches for the five service volumes try, and how many (document 02, T-04). It is no part of the method.
+-- Letter numbers: A is 1.
 --   meetsWith case n demand   the case with that demand meets letter number n
 --   meetsBy terms n demand    what is tried of it, from the terms of the case
 --   searchEnd test n     up to where letter number n is searched for, if test n tells whether a demand meets it

@@ -1,10 +1,8 @@
 -- The call that counts the tried demands (specs/Tries).
 --   tries-hand-back, tries-of-lines
 -- Assumes nothing.
-use mathlib.Core.Path.{_≡_, refl, ap, _∙_}
-use mathlib.Core.List.{[], _∷_}
-use Prim.Native.Nat.{ℕ, _<_}
-use lib.IntN.{pos}
+use mathlib.Core.Path.{refl, ap, _∙_}
+use mathlib.Core.List.{[]}
 use Rattle.text.specs.Bytes.{bytesOf}
 use Rattle.text.specs.Parts.{onFirst, parts}
 use Rattle.method.specs.Boundary.{example}
@@ -16,7 +14,6 @@ use Rattle.lines.specs.Reading.{readValues, readLine}
 use Rattle.lines.proofs.ReadingLaws.{readLine-refused}
 use Rattle.marehour.specs.Calls.{resultOf}
 use Rattle.marehour.specs.Tries.{triesResult, lineTries, TriesHandBack, TriesOfLines}
-use Rattle.marehour.specs.Boundary.{printedLine}
 use Rattle.marehour.proofs.Boundary.{line-read}
 
 pub tries-hand-back : TriesHandBack

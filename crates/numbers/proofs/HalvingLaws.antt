@@ -1,6 +1,7 @@
 -- What halving tries (specs/Halving).
---   Counted p end low high tries   so many were tried on the way to low and high; what is left to try makes up the rest
---   counted-start, counted-passes, counted-fails, counted-done   a search counts what it tries: at its start, at a step, at its end
+--   Halved p end low high tries   how far a search has come
+--   halved-start, halved-passes, halved-fails   at its start, and after a try that passes or fails
+--   halved-done            at its end it has found the greatest number that passes, and has counted what it tried
 --   triedUpTo-some         at least one number, where the end is above 0
 --   triedUpTo-steps        no more numbers than the end counts
 --   triedUpTo-doublings    at most k numbers, where the end is below the k-th power of 2
@@ -9,7 +10,7 @@
 use mathlib.Core.Path.{_≡_, refl, sym, ap, _∙_}
 use mathlib.Core.Bool.{Bool, true, false, cond}
 use mathlib.Core.List.{List, [], _∷_}
-use lib.Dec.{ltb}
+use lib.Dec.{T}
 use lib.ListN.{length}
 use Prim.Native.Nat.{ℕ, zero, suc, _+_, _-_, _*_, _^_, _≤_, _<_, zero-le}
 use native.Mathlib.Omega.{arith}
@@ -17,7 +18,9 @@ use native.Mathlib.Nat.{le-refl}
 use native.Mathlib.Numerals.{unary-clauses}
 use native.Mathlib.Decide.{decLe}
 use borrow.Author.Tests.{lt-ltb, le-ltb}
-use Rattle.numbers.proofs.BoolLaws.{cond-all}
+use Rattle.numbers.proofs.BoolLaws.{T-true, T-false, cond-all}
+use Rattle.numbers.proofs.SearchLaws.{greatest-between}
+use Rattle.numbers.specs.Search.{greatest, DownwardClosed}
 use Rattle.numbers.specs.Halving.{middle, triedBetween, triedUpTo}
 
 -- a step brings the two nearer
@@ -86,41 +89,67 @@ module _ (p : ℕ → Bool) where
   triedUpTo-some (suc end) h = rw (next end 0 (suc (suc end)) (omega arith)) (omega arith)
 
 -- ---- a search that counts
-pub record Counted (p : ℕ → Bool) (end low high tries : ℕ) : Type 0 where
-  pub within : tries ≤ end
+-- so many were tried on the way to low, which passes, and high, which fails or is past the end; what is left to try makes up the rest
+pub record Halved (p : ℕ → Bool) (end low high tries : ℕ) : Type 0 where
+  pub apart : low < high
+  pub inside : high ≤ end + 1
+  pub passes : T (p low)
+  pub fails : high ≤ end → T (p high) → ⊥
   pub near : high - low ≤ suc (end - tries)
   pub count : tries + length (triedBetween p (end - tries) low high) ≡ length (triedUpTo p end)
 
 module _ (p : ℕ → Bool) (end : ℕ) where
-  pub counted-start : Counted p end 0 (end + 1) 0
+  pub halved-start : T (p 0) → Halved p end 0 (end + 1) 0
   unfolding triedUpTo
-  counted-start = record { within = zero-le; near = omega arith; count = simp unary-clauses (omega arith) }
+  halved-start z =
+      record {
+        apart = omega arith;
+        inside = omega arith;
+        passes = z;
+        fails = λ h t. omega arith;
+        near = omega arith;
+        count = simp unary-clauses (omega arith);
+      }
 
-  module _ (low high tries : ℕ) (c : Counted p end low high tries) where
-    -- a step to nearer numbers, of which what is left to try is the rest
-    counted-step : (low′ high′ : ℕ) → 1 < high - low → high′ - low′ < high - low
+  module _ (low high tries : ℕ) (c : Halved p end low high tries) where
+    -- of a step to nearer numbers, what is left to try is the rest
+    left-after : (low′ high′ : ℕ) → 1 < high - low
         → ((steps : ℕ) → triedBetween p (suc steps) low high ≡ middle low high ∷ triedBetween p steps low′ high′)
-        → Counted p end low′ high′ (tries + 1)
-    counted-step low′ high′ far nearer rest =
+        → tries + 1 + length (triedBetween p (end - (tries + 1)) low′ high′) ≡ length (triedUpTo p end)
+    left-after low′ high′ far rest =
         let left : end - tries ≡ suc (end - (tries + 1)) = omega (arith, c .near) in
+        omega (arith, rw left at (c .count), ap length (rest (end - (tries + 1))))
+
+    pub halved-passes : 1 < high - low → p (middle low high) ≡ true → Halved p end (middle low high) high (tries + 1)
+    unfolding middle
+    halved-passes far e =
         record {
-          within = omega (arith, c .near);
+          apart = omega arith;
+          inside = c .inside;
+          passes = T-true _ e;
+          fails = c .fails;
           near = omega (arith, c .near);
-          count = omega (arith, rw left at (c .count), ap length (rest (end - (tries + 1))));
+          count = left-after (middle low high) high far (λ steps. next p steps low high far ∙ simp e);
         }
 
-    pub counted-passes : 1 < high - low → p (middle low high) ≡ true → Counted p end (middle low high) high (tries + 1)
+    pub halved-fails : 1 < high - low → p (middle low high) ≡ false → Halved p end low (middle low high) (tries + 1)
     unfolding middle
-    counted-passes far e =
-        counted-step (middle low high) high far (omega arith) (λ steps. next p steps low high far ∙ simp e)
+    halved-fails far e =
+        record {
+          apart = omega arith;
+          inside = omega (arith, c .inside);
+          passes = c .passes;
+          fails = λ h. T-false _ e;
+          near = omega (arith, c .near);
+          count = left-after low (middle low high) far (λ steps. next p steps low high far ∙ simp e);
+        }
 
-    pub counted-fails : 1 < high - low → p (middle low high) ≡ false → Counted p end low (middle low high) (tries + 1)
-    unfolding middle
-    counted-fails far e =
-        counted-step low (middle low high) far (omega arith) (λ steps. next p steps low high far ∙ simp e)
-
-    pub counted-done : high - low ≤ 1 → tries ≡ length (triedUpTo p end)
-    counted-done near = omega (arith, c .count, ap length (done p (end - tries) low high near))
+    pub halved-done : DownwardClosed p → high - low ≤ 1 → (greatest p end ≡ low) × (length (triedUpTo p end) ≡ tries)
+    halved-done down near =
+        let neighbours : high ≡ suc low = omega (arith, c .apart) in (
+          greatest-between p end low down (omega (arith, c .apart, c .inside)) (c .passes) (rw neighbours at (c .fails)),
+          omega (arith, c .count, ap length (done p (end - tries) low high near)),
+        )
 
 module _ (p q : ℕ → Bool) (end : ℕ) (same : (k : ℕ) → k ≤ end → p k ≡ q k) where
   between-cong : (steps low high : ℕ) → high ≤ suc end → triedBetween p steps low high ≡ triedBetween q steps low high

@@ -1,5 +1,5 @@
--- Halving: which numbers a search tries for the greatest number up to an end that passes a test. 0 is known to pass, and the number after the
--- end stands for one that fails; neither is tried.
+-- Halving: which numbers a search tries for the greatest number up to an end that passes a test. 0 is known to pass, and the number
+-- after the end stands for one that fails; neither is tried.
 --   middle low high                 the number in the middle, rounded down
 --   triedBetween p steps low high   what is tried between a number that passes and one that fails, in at most so many steps
 --   triedUpTo p end                 what is tried for the greatest number up to the end

@@ -1,8 +1,6 @@
 -- `answer::evaluate::found_volumes` meets its contract: each search hands back what it would up to the greatest demand, and the counts are
 -- added.
 -- Assumes nothing.
-use mathlib.Core.Path.{_≡_}
-use Prim.Native.Nat.{suc, _-_, _<_}
 use native.Mathlib.Omega.{arith}
 use Rattle.answer.proofs.TriesLaws.{Done, done-start, done-next, done-volumes, done-end-le, done-tries-le}
 use borrow.Author.Needs.{needs}

@@ -26,4 +26,5 @@ returns-2 c =
 pub marehour-tries-spec : {M : Type 1} → statement M
 marehour-tries-spec =
     tie.close
-    (tie.spec (λ c κs. search needs) (λ c. search needs) (λ c. search needs) (λ c κs. search needs) returns (λ c κs. search needs) returns-2)
+    (tie.spec (λ c κs. search needs) (λ c. search needs) (λ c. search needs) (λ c κs. search needs) returns (λ c κs. search needs)
+    returns-2)
