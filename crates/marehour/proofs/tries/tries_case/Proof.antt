@@ -26,8 +26,9 @@ returns-2 : tie.Need-returns-2
 returns-2 c =
     let a = c .before .before .before .before .before .args in
     let e = sym (c .before .before .before .before .count-tries .ensures) ∙ c .before .before .found2 .given .1 in
-    let few = omega (arith, ap refusalNumber e, triesAnswer-number (a .case), refusal-le (a .case)) in
-    handed-back (c .refused .result) (c .before .before .found2 .given .0 .0) few (c .refused .ensures) ∙ sym (ap triesResult e)
+    handed-back (c .refused .result) (c .before .before .found2 .given .0 .0)
+    (omega (arith, ap refusalNumber e, triesAnswer-number (a .case), refusal-le (a .case))) (c .refused .ensures)
+    ∙ sym (ap triesResult e)
 
 pub tries-case-spec : {M : Type 1} → statement M
 tries-case-spec =
