@@ -67,7 +67,7 @@ extern "C" {
 #define MAREHOUR_DAY_DEMANDS 24
 #define MAREHOUR_DAY_FIGURES 12
 
-/* The most demands that the search for a section's service volumes tries. */
+/* No search for a section's service volumes tries more demands. */
 #define MAREHOUR_MOST_TRIES 80
 
 /* Numbers of the letters: marehour_lanes takes A to E, marehour_day answers A to F. */

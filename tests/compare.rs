@@ -1,4 +1,5 @@
-// Compares the engine, linked as an archive, with the second implementation of document 01 and of requests T-01 to T-04 (tests/second).
+// Compares the engine, linked as an archive, with the second implementation of document 01 and of requests T-01 to T-03 (tests/second).
+// What it must count of T-04 is had from that one's service volumes (tests/compare/tries.rs).
 //
 //   compare quick         the documents' figures, the traps, the manual's examples, curves by a stride, random cases, floats, the laws,
 //                         whole days, how many demands are tried, the vectors
@@ -86,6 +87,7 @@ fn whole_days(method: &Method) -> Tally {
 fn tries(method: &Method) -> Tally {
     let mut tries = Tries { method, tally: Tally::default(), most: 0, most_for: String::new(), counted: 0 };
     tries.figures();
+    tries.vectors();
     tries.wide_freeways();
     tries.random(&mut Draw(SEED + 6), COUNTED_LINES);
     tries.print();

@@ -1,17 +1,19 @@
 // How many demands the shipped search for the five service volumes tries, as the call that counts them tells (request T-04): some cases
-// with their figures, wide freeways, and random lines. What it must count is had from the second implementation's service volumes.
+// with their figures, the vectors, wide freeways, and random lines. What it must count is had from the second implementation's service
+// volumes.
 
 use super::draw::{append_line, draw_line, Draw};
 use super::engine;
 use super::tally::Tally;
+use super::vectors;
 use crate::second::lines;
 use crate::second::method::{Case, Kind, Median, Method, Terrain, Way, Weather, GREATEST_DEMAND};
 
 // "at most 80 demands tried for the five together"
 const MOST: i32 = 80;
 
-// Lines and what the call hands back. Blanks stand for tabs. The volumes of the first are 1117 1829 2642 3360 3858, those of the second
-// 6178 10054 13620 16449 18604; 17 for E, of which 0 to 99,999 hold 100,000 numbers, and 12 to 15 for each other letter.
+// Lines and what the call hands back, the sum of what is tried for E, D, C, B and A. Blanks stand for tabs. The volumes of the first are
+// 1117 1829 2642 3360 3858, those of the second 6178 10054 13620 16449 18604.
 const FIGURES: &[(&str, i32)] = &[
     ("F E 75400 110 20 0 D 24 2 2000 920 50 R", 17 + 12 + 12 + 12 + 11),
     ("F G 72500 120 60 60 D 0 8 0 969 0 L", 17 + 15 + 15 + 14 + 14),
@@ -77,6 +79,13 @@ impl Tries<'_> {
             let line = line.replace(' ', "\t");
             self.tally.equal(engine::tries(line.as_bytes()), figure, || format!("figure of {line:?}"));
             self.line(line.as_bytes());
+        }
+    }
+
+    pub fn vectors(&mut self) {
+        let input = vectors::read(vectors::INPUT);
+        for line in lines::input_lines(&input) {
+            self.line(line);
         }
     }
 

@@ -11,7 +11,7 @@ use crate::second::method::Method;
 use crate::second::survey::{self, Unit};
 use std::process::exit;
 
-const INPUT: &str = "crates/los/stdin";
+pub const INPUT: &str = "crates/los/stdin";
 const FILES: [(&str, fn(&Method) -> Vec<u8>); 3] =
     [("crates/los/stdout", answers), ("tests/lanes.tsv", lanes), ("tests/surveys.tsv", surveys)];
 
@@ -20,7 +20,7 @@ fn fail(what: &str) -> ! {
     exit(1);
 }
 
-fn read(path: &str) -> Vec<u8> {
+pub fn read(path: &str) -> Vec<u8> {
     std::fs::read(path).unwrap_or_else(|error| fail(&format!("{path}: {error}")))
 }
 

@@ -1,7 +1,7 @@
 -- The order of the searches (specs/SearchOrder), proved.
 --   triesAnswer-accepted, triesAnswer-refused   an accepted case gets its count, a refused one its number
 --   triesAnswer-number   the number is the case's refusal
---   no-volume-above-the-next, tries-of-a-letter, at-most-80-tried
+--   no-volume-above-the-next, example-volumes-rise, tries-of-a-letter, at-most-80-tried
 --   tries-ends           the count of an answer is from 1 to 80
 --   example-tried, eight-lanes-tried, refused-tried
 -- Assumes nothing.
@@ -28,7 +28,7 @@ use Rattle.answer.specs.declared.evaluate.TriesAnswer.{TriesAnswer}
 use Rattle.answer.specs.declared.evaluate.TriesAnswer.the-variants as TriesAnswer
 use Rattle.answer.specs.Tries.{meetsWith, searchEnd, triedFor, triedFrom, demandsTried, triesAnswer, refusalNumber, values}
 use Rattle.answer.specs.Boundary.{estimated}
-use Rattle.answer.specs.SearchOrder.{NoVolumeAboveTheNext, TriesOfALetter, AtMost80Tried}
+use Rattle.answer.specs.SearchOrder.{NoVolumeAboveTheNext, ExampleVolumesRise, TriesOfALetter, AtMost80Tried}
 use Rattle.answer.specs.SearchOrder.{exampleTried, eightLanes, ExampleTried, EightLanesTried, RefusedTried}
 use Rattle.answer.proofs.VolumeLaws.{serviceVolume-eq, serviceVolume-iff}
 use Rattle.answer.proofs.AnswerLaws.{answerTo-number}
@@ -47,35 +47,35 @@ no-volume-above-the-next case a n h k =
     (rw (serviceVolume-eq case n a h own, serviceVolume-eq case (suc n) a worse last)
     (volume-next (caseCurve case) (loadOf case (case .lanes)) n h k))
 
+pub example-volumes-rise : ExampleVolumesRise
+example-volumes-rise = (
+  no-volume-above-the-next example example-accepted 1 (omega arith) (omega arith),
+  no-volume-above-the-next example example-accepted 4 (omega arith) (omega arith),
+)
+
 -- ---- how many demands are tried
-module _ (case : Case) where
-  tried-for-e : (0 < length (triedFor (meetsWith case) 5)) × (length (triedFor (meetsWith case) 5) ≤ 20)
-  unfolding searchEnd
-  tried-for-e = (
-    triedUpTo-some (meetsWith case 5) greatestDemand (omega arith),
-    triedUpTo-doublings (meetsWith case 5) greatestDemand 20 (omega arith),
-  )
-
-  tried-for : Accepted case → (n : ℕ) → 1 ≤ n → n ≤ 4 → length (triedFor (meetsWith case) n) ≤ 15
-  unfolding searchEnd serviceVolume
-  tried-for a n h k =
-      let end = serviceVolume-le case (suc n) a (omega arith) (omega arith) in
-      simp (lt-ltb n 5 (omega arith)) (triedUpTo-doublings (meetsWith case n) (serviceVolume case (suc n)) 15 (omega (arith, end)))
-
-  tried-from : Accepted case → (n : ℕ) → n ≤ 4 → length (triedFrom (meetsWith case) n) ≤ 15 * n
-  unfolding triedFrom
-  tried-from a zero k = zero-le
-  tried-from a (suc n) k =
-      omega (arith, triedFrom-suc (meetsWith case) n, tried-for a (suc n) (omega arith) k, tried-from a n (omega arith))
-
 pub tries-of-a-letter : TriesOfALetter
-tries-of-a-letter case a = (tried-for-e case .1, tried-for case a)
+unfolding searchEnd serviceVolume
+tries-of-a-letter case a = (
+  triedUpTo-doublings (meetsWith case 5) greatestDemand 20 (omega arith),
+  λ n h k.
+      let end = serviceVolume-le case (suc n) a (omega arith) (omega arith) in
+      simp (lt-ltb n 5 (omega arith)) (triedUpTo-doublings (meetsWith case n) (serviceVolume case (suc n)) 15 (omega (arith, end))),
+)
+
+tried-from : (case : Case) → Accepted case → (n : ℕ) → n ≤ 4 → length (triedFrom (meetsWith case) n) ≤ 15 * n
+unfolding triedFrom
+tried-from case a zero k = zero-le
+tried-from case a (suc n) k =
+    omega (arith, triedFrom-suc (meetsWith case) n, tries-of-a-letter case a .1 (suc n) (omega arith) k, tried-from case a n (omega arith))
 
 pub at-most-80-tried : AtMost80Tried
+unfolding searchEnd
 at-most-80-tried case a =
-    let all = triedFrom-suc (meetsWith case) 4 in
-    let e = tried-for-e case in
-    (omega (arith, all, e .0), omega (arith, all, e .1, tried-from case a 4 (omega arith)))
+    let all = triedFrom-suc (meetsWith case) 4 in (
+      omega (arith, all, triedUpTo-some (meetsWith case 5) greatestDemand (omega arith)),
+      omega (arith, all, tries-of-a-letter case a .0, tried-from case a 4 (omega arith)),
+    )
 
 -- ---- the answer
 module _ (case : Case) where

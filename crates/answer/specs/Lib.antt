@@ -2,8 +2,8 @@
 --   Volumes    meeting a letter, and service volumes
 --   Answers    the answer to a case
 --   Lanes      the lanes question
---   Search     what the searches try
---   Tries      which demands they try, and how many
+--   Search     the test that a search puts to a demand, and what it needs
+--   Tries      which demands the searches try, and how many
 --   Promises   demand 3, stated
 --   Boundary   the boundary sections that this layer adds
 --   Laws       laws of the answers

@@ -1,12 +1,13 @@
 -- The order of the searches for the service volumes (document 02, T-04): the law that it rests on, and how many demands they try, stated;
 -- proofs/SearchOrder proves it.
 --   NoVolumeAboveTheNext   no service volume is above that of the next worse letter
+--   ExampleVolumesRise     so it is with A and B, and with D and E, of the printed line
 --   TriesOfALetter         at most 20 demands are tried for E, and at most 15 for each other letter
 --   AtMost80Tried          at most 80 are tried for the five together, and at least one
 --   exampleTried           the 64 that are tried for the printed line, a row for each of E, D, C, B and A
---   ExampleTried           they are those, and the evaluation counts them
+--   ExampleTried           they are those, and their count is 64
 --   eightLanes             F G 72500 120 60 60 D 0 8 0 969 0 L
---   EightLanesTried        75 are tried for it, more than for most
+--   EightLanesTried        75 are tried for it
 --   RefusedTried           a case that 10 refuses has its number
 -- Assumes nothing.
 use mathlib.Core.Path.{_≡_}
@@ -28,6 +29,10 @@ use Rattle.answer.specs.Tries.{meetsWith, triedFor, demandsTried, triesA
 abbrev pub NoVolumeAboveTheNext : Type 0
 NoVolumeAboveTheNext =
     (case : Case) → Accepted case → (n : ℕ) → 1 ≤ n → n ≤ 4 → volumeIn (answerTo case) n ≤ volumeIn (answerTo case) (suc n)
+
+abbrev pub ExampleVolumesRise : Type 0
+ExampleVolumesRise =
+    (volumeIn (answerTo example) 1 ≤ volumeIn (answerTo example) 2) × (volumeIn (answerTo example) 4 ≤ volumeIn (answerTo example) 5)
 
 -- 2 to the power 20 is above the greatest demand, and 2 to the power 15 above any service volume
 abbrev pub TriesOfALetter : Type 0

@@ -43,7 +43,8 @@ meetsWith case n demand = meets (withDemand case demand) n
 abbrev pub meetsBy : CaseTerms → ℕ → ℕ → Bool
 meetsBy terms n = demandMeets (terms .«curve_terms» .curve) (terms .load) (densityLimit n)
 
--- "E first, then each letter from zero up to the volume found for the one before"
+-- "E first, then each letter from zero up to the volume found for the one before": what is found for it is the greatest demand of all that
+-- meets it, by proofs/TriesLaws
 unfoldable pub searchEnd : (ℕ → ℕ → Bool) → ℕ → ℕ
 searchEnd test n = cond (ltb n 5) (greatest (test (suc n)) greatestDemand) greatestDemand
 

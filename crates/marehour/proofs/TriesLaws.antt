@@ -7,7 +7,7 @@ use Rattle.text.specs.Bytes.{bytesOf}
 use Rattle.text.specs.Parts.{onFirst, parts}
 use Rattle.method.specs.Boundary.{example}
 use Rattle.answer.specs.Tries.{triesAnswer, refusalNumber}
-use Rattle.answer.proofs.SearchOrder.{triesAnswer-accepted, triesAnswer-refused, example-tried}
+use Rattle.answer.proofs.SearchOrder.{at-most-80-tried, triesAnswer-accepted, triesAnswer-refused, example-tried}
 use Rattle.lines.specs.declared.read.LineRead.the-variants as LineRead
 use Rattle.lines.specs.Fields.{layout, completed, spelled, number, oneOf, letter, fieldAs, valuesOf}
 use Rattle.lines.specs.Reading.{readValues, readLine}
@@ -20,7 +20,7 @@ pub tries-hand-back : TriesHandBack
 tries-hand-back line = (
   λ n e. ap lineTries (e ∙ ap LineRead.Refused (readLine-refused line n e)),
   λ case e. (
-    λ a. ap lineTries e ∙ ap triesResult (triesAnswer-accepted case a),
+    λ a. let ends = at-most-80-tried case a in (ap lineTries e ∙ ap triesResult (triesAnswer-accepted case a), ends .0, ends .1),
     λ n r p. ap lineTries e ∙ ap triesResult (triesAnswer-refused case n r p),
   ),
 )

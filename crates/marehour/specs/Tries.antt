@@ -3,12 +3,13 @@
 --   triesResult a      the count, or minus the refusal's number
 --   lineTries r        the same for a line that was read: minus 15 where it is malformed
 --   triesCall line     the same for a line
---   TriesHandBack      minus 15 where the line is malformed; else the count of the tried demands, or minus the refusal of its case
+--   TriesHandBack      minus 15 where the line is malformed; else the count of the tried demands, from 1 to 80, or minus the refusal
+--                      of its case
 --   TriesOfLines       64 for the printed line, and minus 15 for a line of one field
 -- Assumes nothing.
 use mathlib.Core.Path.{_≡_}
 use mathlib.Core.List.{List}
-use Prim.Native.Nat.{ℕ, _<_}
+use Prim.Native.Nat.{ℕ, _≤_, _<_}
 use lib.IntN.{ℤ, pos, negℤ}
 use lib.ListN.{length}
 use Rattle.text.specs.Bytes.{bytesOf}
@@ -33,13 +34,13 @@ lineTries (LineRead.Refused number) = negℤ (pos number)
 abbrev pub triesCall : List ℕ → ℤ
 triesCall line = lineTries (readLine line)
 
--- A line that is read gets what its case gets, one that is malformed minus 15. A count is from 1 to 80 by answer/SearchOrder
 abbrev pub TriesHandBack : Type 0
 TriesHandBack =
     (line : List ℕ)
     → ((n : ℕ) → readLine line ≡ LineRead.Refused n → triesCall line ≡ negℤ (pos 15))
     × ((case : Case) → readLine line ≡ LineRead.Case case
-    → (Accepted case → triesCall line ≡ pos (length (demandsTried case)))
+    → (Accepted case
+    → (triesCall line ≡ pos (length (demandsTried case))) × (1 ≤ length (demandsTried case)) × (length (demandsTried case) ≤ 80))
     × ((n : ℕ) → refusal case ≡ n → 0 < n → triesCall line ≡ negℤ (pos n)))
 
 abbrev pub TriesOfLines : Type 0
