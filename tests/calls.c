@@ -408,7 +408,7 @@ static void check_days(const struct calls *calls)
     }
 }
 
-/* Counts of tried demands: 64 for the first line, the printed one, and the others within their ends; tests/compare/tries.rs works each out. */
+/* Counts of tried demands: 64 for the first line, the printed one; the others within their ends. tests/compare/tries.rs works each out. */
 static void check_tries(const struct calls *calls)
 {
     check(calls->tries(answers[0].line, answers[0].length) == 64, "not 64 tries for the first line");

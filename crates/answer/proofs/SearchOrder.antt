@@ -1,13 +1,11 @@
 -- The order of the searches (specs/SearchOrder), proved.
---   triesAnswer-accepted, triesAnswer-refused   an accepted case gets its count, a refused one its number
---   triesAnswer-number   the number is the case's refusal
 --   no-volume-above-the-next, example-volumes-rise, tries-of-a-letter, at-most-80-tried
---   tries-ends           the count of an answer is from 1 to 80
+--   tries-le   80 are counted at most, for any case
 --   example-tried, eight-lanes-tried, refused-tried
 -- Assumes nothing.
 use mathlib.Core.Path.{_≡_, refl, sym, ap, _∙_}
-use mathlib.Core.List.{List, [], _∷_, _++_}
-use Prim.Native.Nat.{ℕ, zero, suc, _*_, _≤_, _<_, zero-le}
+use mathlib.Core.List.{List, [], _++_}
+use Prim.Native.Nat.{ℕ, zero, suc, _*_, _≤_, zero-le}
 use native.Mathlib.Omega.{arith}
 use native.Mathlib.Nat.{le-trans}
 use lib.Dec.{leb}
@@ -16,7 +14,7 @@ use borrow.Author.Tests.{lt-ltb}
 use Rattle.numbers.specs.Halving.{middle, triedBetween, triedUpTo}
 use Rattle.numbers.proofs.BoolLaws.{leb-test}
 use Rattle.numbers.proofs.HalvingLaws.{triedUpTo-doublings, triedUpTo-some, triedUpTo-cong}
-use Rattle.checks.proofs.RefusalLaws.{unlessRefused-none, unlessRefused-some, unlessRefused-number, unlessRefused-found}
+use Rattle.checks.proofs.RefusalLaws.{unlessRefused-by}
 use Rattle.road.specs.declared.Case.{Case}
 use Rattle.road.specs.Refusals.{greatestDemand}
 use Rattle.method.specs.Refusals.{refusal, Accepted}
@@ -24,9 +22,7 @@ use Rattle.method.specs.Checked.{caseCurve}
 use Rattle.method.specs.Flow.{loadOf}
 use Rattle.method.specs.Boundary.{example}
 use Rattle.answer.specs.Volumes.{serviceVolume}
-use Rattle.answer.specs.declared.evaluate.TriesAnswer.{TriesAnswer}
-use Rattle.answer.specs.declared.evaluate.TriesAnswer.the-variants as TriesAnswer
-use Rattle.answer.specs.Tries.{meetsWith, searchEnd, triedFor, triedFrom, demandsTried, triesAnswer, refusalNumber, values}
+use Rattle.answer.specs.Tries.{meetsWith, searchEnd, triedFor, triedFrom, demandsTried, countedAnswer}
 use Rattle.answer.specs.Boundary.{estimated}
 use Rattle.answer.specs.SearchOrder.{NoVolumeAboveTheNext, ExampleVolumesRise, TriesOfALetter, AtMost80Tried}
 use Rattle.answer.specs.SearchOrder.{exampleTried, eightLanes, ExampleTried, EightLanesTried, RefusedTried}
@@ -34,7 +30,7 @@ use Rattle.answer.proofs.VolumeLaws.{serviceVolume-eq, serviceVolume-if
 use Rattle.answer.proofs.AnswerLaws.{answerTo-number}
 use Rattle.answer.proofs.Laws.{serviceVolume-le}
 use Rattle.answer.proofs.Promises.{volumeIn-accepted}
-use Rattle.answer.proofs.TriesLaws.{volume-next, triedFrom-suc, searchEnd-le}
+use Rattle.answer.proofs.TriesLaws.{volume-next, triedFrom-suc, searchEnd-le, tries-accepted, tries-refused}
 use Rattle.answer.proofs.Boundary.{VolumesOf, example-accepted, volumes, estimated-answer, eight-lanes-accepted, eight-lanes-volumes}
 
 -- ---- no volume is above that of the next worse letter
@@ -77,26 +73,11 @@ at-most-80-tried case a =
       omega (arith, all, tries-of-a-letter case a .0, tried-from case a 4 (omega arith)),
     )
 
--- ---- the answer
-module _ (case : Case) where
-  abbrev counted : TriesAnswer
-  counted = TriesAnswer.Tried (length (demandsTried case))
-
-  pub triesAnswer-accepted : Accepted case → triesAnswer case ≡ counted
-  triesAnswer-accepted a = unlessRefused-none (refusal case) counted TriesAnswer.Refused a
-
-  pub triesAnswer-refused : (n : ℕ) → refusal case ≡ n → 0 < n → triesAnswer case ≡ TriesAnswer.Refused n
-  triesAnswer-refused n e p = rw e (unlessRefused-some n counted TriesAnswer.Refused p)
-
-  pub triesAnswer-number : refusalNumber (triesAnswer case) ≡ refusal case
-  triesAnswer-number = unlessRefused-number (refusal case) counted TriesAnswer.Refused refusalNumber refl (λ k. refl)
-
-  pub tries-ends : (n : ℕ) → triesAnswer case ≡ TriesAnswer.Tried n → (1 ≤ n) × (n ≤ 80)
-  tries-ends n e =
-      let found = unlessRefused-found (refusal case) counted TriesAnswer.Refused refusalNumber refl (λ k. refl) (TriesAnswer.Tried n) e refl in
-      let ends = at-most-80-tried case (found .0) in
-      let count : n ≡ length (demandsTried case) = ap (λ a. getD (values a) 0 0) (found .1) in
-      (omega (arith, ends .0), omega (arith, ends .1))
+-- ---- the count
+pub tries-le : (case : Case) → countedAnswer case .tries ≤ 80
+tries-le case =
+    unlessRefused-by (refusal case) (length (demandsTried case)) (λ number. 0) (λ n. n ≤ 80) (λ a. at-most-80-tried case a .1)
+    (λ p. zero-le)
 
 -- ---- instances
 -- what is tried goes by the service volumes alone
@@ -128,8 +109,8 @@ module _ (case : Case) (a : Accepted case) where
         by-volume 1 s₁ s₂ (omega arith) (omega arith) (v .0) (v .1),
       )
 
-  count-of : (tried : List ℕ) → demandsTried case ≡ tried → values (triesAnswer case) ≡ length tried ∷ []
-  count-of tried e = ap values (triesAnswer-accepted case a) ∙ ap (λ l. length l ∷ []) e
+  count-of : (tried : List ℕ) → demandsTried case ≡ tried → countedAnswer case .tries ≡ length tried
+  count-of tried e = tries-accepted case a ∙ ap length e
 
 pub example-tried : ExampleTried
 unfolding middle triedBetween triedUpTo upTo allUpTo
@@ -145,6 +126,4 @@ eight-lanes-tried =
 
 pub refused-tried : RefusedTried
 refused-tried =
-    let number : refusal estimated ≡ 10 = sym (answerTo-number estimated) ∙ ap (λ ns. getD ns 0 0) estimated-answer in
-    let answer = triesAnswer-refused estimated 10 number (omega arith) in
-    (ap refusalNumber answer, ap values answer)
+    tries-refused estimated (omega (arith, answerTo-number estimated, ap (λ ns. getD ns 0 0) estimated-answer))

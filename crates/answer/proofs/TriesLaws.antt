@@ -5,6 +5,7 @@
 --   Done, done-start, done-next, done-volumes   the searches so far: none, one more, all five
 --   done-end-le, done-tries-le   64 bits hold the end and the count
 --   foundVolumes-terms   what is found are the service volumes of the case, and the demands tried are the case's
+--   tries-accepted, tries-refused   the count of an accepted case, and of a refused one
 -- Assumes nothing.
 use mathlib.Core.Path.{_≡_, refl, sym, ap, _∙_}
 use mathlib.Core.Bool.{Bool}
@@ -22,6 +23,7 @@ use Rattle.numbers.specs.Halving.{triedUpTo}
 use Rattle.numbers.proofs.SearchLaws.{greatest-le, greatest-mono, greatest-cong, greatest-within}
 use Rattle.numbers.proofs.HalvingLaws.{triedUpTo-steps, triedUpTo-cong}
 use Rattle.numbers.proofs.BoolLaws.{cond-le}
+use Rattle.checks.proofs.RefusalLaws.{unlessRefused-none, unlessRefused-some}
 use Rattle.curve.specs.declared.Curve.{Curve}
 use Rattle.curve.specs.Curves.{WellFormed}
 use Rattle.curve.specs.Terms.{curveTerms}
@@ -31,12 +33,13 @@ use Rattle.road.specs.declared.Case.{Case}
 use Rattle.road.specs.Refusals.{greatestDemand}
 use Rattle.method.specs.declared.flow.Load.{Load}
 use Rattle.method.specs.declared.assess.CaseTerms.{CaseTerms}
+use Rattle.method.specs.Refusals.{refusal, Accepted}
 use Rattle.method.specs.Flow.{flowRate}
 use Rattle.method.specs.Assess.{CaseReady}
 use Rattle.answer.specs.declared.evaluate.Found.{Found}
 use Rattle.answer.specs.Volumes.{serviceVolumes}
 use Rattle.answer.specs.Search.{demandMeets}
-use Rattle.answer.specs.Tries.{meetsWith, meetsBy, searchEnd, triedFor, triedFrom, demandsTried, found, foundVolumes}
+use Rattle.answer.specs.Tries.{meetsWith, meetsBy, searchEnd, triedFor, triedFrom, demandsTried, found, foundVolumes, countedAnswer}
 use Rattle.answer.proofs.VolumeLaws.{demandMeets-zero, meets-demand, serviceVolumes-terms}
 
 -- ---- no volume is above that of the next worse letter
@@ -201,3 +204,11 @@ foundVolumes-terms case terms table r =
       triedFrom-cong (meetsBy terms) (meetsWith case)
           (λ n demand h k l. rw (r .own-terms) (sym (meets-demand case n (r .accepted) h k demand l))) 5 (omega arith),
     )
+
+-- ---- the count of an answer
+module _ (case : Case) where
+  pub tries-accepted : Accepted case → countedAnswer case .tries ≡ length (demandsTried case)
+  tries-accepted a = unlessRefused-none (refusal case) (length (demandsTried case)) (λ number. 0) a
+
+  pub tries-refused : 0 < refusal case → countedAnswer case .tries ≡ 0
+  tries-refused p = unlessRefused-some (refusal case) (length (demandsTried case)) (λ number. 0) p

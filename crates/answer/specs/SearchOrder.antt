@@ -5,10 +5,10 @@
 --   TriesOfALetter         at most 20 demands are tried for E, and at most 15 for each other letter
 --   AtMost80Tried          at most 80 are tried for the five together, and at least one
 --   exampleTried           the 64 that are tried for the printed line, a row for each of E, D, C, B and A
---   ExampleTried           they are those, and their count is 64
+--   ExampleTried           they are those, and 64 are counted
 --   eightLanes             F G 72500 120 60 60 D 0 8 0 969 0 L
---   EightLanesTried        75 are tried for it
---   RefusedTried           a case that 10 refuses has its number
+--   EightLanesTried        75 are counted for it
+--   RefusedTried           none is counted for a case that 10 refuses
 -- Assumes nothing.
 use mathlib.Core.Path.{_≡_}
 use mathlib.Core.List.{List, [], _∷_}
@@ -24,7 +24,7 @@ use Rattle.method.specs.Refusals.{Accepted}
 use Rattle.answer.specs.Answers.{answerTo}
 use Rattle.answer.specs.Promises.{volumeIn}
 use Rattle.answer.specs.Boundary.{estimated}
-use Rattle.answer.specs.Tries.{meetsWith, triedFor, demandsTried, triesAnswer, refusalNumber, values}
+use Rattle.answer.specs.Tries.{meetsWith, triedFor, demandsTried, countedAnswer}
 
 abbrev pub NoVolumeAboveTheNext : Type 0
 NoVolumeAboveTheNext =
@@ -53,13 +53,13 @@ exampleTried =
     ∷ 915 ∷ 1372 ∷ 1143 ∷ 1029 ∷ 1086 ∷ 1114 ∷ 1128 ∷ 1121 ∷ 1117 ∷ 1119 ∷ 1118 ∷ []
 
 abbrev pub ExampleTried : Type 0
-ExampleTried = (demandsTried example ≡ exampleTried) × (values (triesAnswer example) ≡ 64 ∷ [])
+ExampleTried = (demandsTried example ≡ exampleTried) × (countedAnswer example .tries ≡ 64)
 
 abbrev pub eightLanes : Case
 eightLanes = loaded (given Kind.Freeway 72500 120) 8 0 969 0 Terrain.Level clear
 
 abbrev pub EightLanesTried : Type 0
-EightLanesTried = values (triesAnswer eightLanes) ≡ 75 ∷ []
+EightLanesTried = countedAnswer eightLanes .tries ≡ 75
 
 abbrev pub RefusedTried : Type 0
-RefusedTried = (refusalNumber (triesAnswer estimated) ≡ 10) × (values (triesAnswer estimated) ≡ [])
+RefusedTried = countedAnswer estimated .tries ≡ 0

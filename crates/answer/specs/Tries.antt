@@ -8,14 +8,11 @@
 --   demandsTried case    those for E, D, C, B and A, of a case
 --   found p end          what the search for the greatest demand up to an end hands back: the demand, and how many were tried
 --   foundVolumes terms   what the five searches hand back together
---   countedGrade case    the grade of a case, and how many demands were tried for it
---   triesAnswer case     how many, or the number of the first of 1 to 9, 19 and 10 that refuses the case
---   refusalNumber a      the number of the refusal, 0 where there is none
---   values a             the count; of a refusal no value
+--   countedAnswer case   the answer to a case, and how many demands were tried for it: none for a refused one
 -- Assumes nothing.
 use Prim.Native.Nat.{ℕ, zero, suc}
 use mathlib.Core.Bool.{Bool, cond}
-use mathlib.Core.List.{List, [], _∷_, _++_}
+use mathlib.Core.List.{List, [], _++_}
 use lib.Dec.{ltb}
 use lib.ListN.{length}
 use Rattle.numbers.specs.Search.{greatest}
@@ -29,11 +26,9 @@ use Rattle.method.specs.declared.assess.CaseTerms.{CaseTerms}
 use Rattle.method.specs.Refusals.{refusal}
 use Rattle.answer.specs.declared.evaluate.Found.{Found}
 use Rattle.answer.specs.declared.evaluate.FoundVolumes.{FoundVolumes}
-use Rattle.answer.specs.declared.evaluate.CountedGrade.{CountedGrade}
-use Rattle.answer.specs.declared.evaluate.TriesAnswer.{TriesAnswer}
-use Rattle.answer.specs.declared.evaluate.TriesAnswer.the-variants as TriesAnswer
+use Rattle.answer.specs.declared.evaluate.CountedAnswer.{CountedAnswer}
 use Rattle.answer.specs.Volumes.{meets}
-use Rattle.answer.specs.Answers.{graded}
+use Rattle.answer.specs.Answers.{answerTo}
 use Rattle.answer.specs.Search.{demandMeets, searchedVolumes}
 
 -- "A demand meets a letter when the case with that demand, all other fields kept, gets it or a better one"
@@ -64,16 +59,6 @@ found p end = record { demand = greatest p end; tries = length (triedUpTo p end)
 abbrev pub foundVolumes : CaseTerms → FoundVolumes
 foundVolumes terms = record { volumes = searchedVolumes terms; tries = length (triedFrom (meetsBy terms) 5) }
 
-abbrev pub countedGrade : Case → CountedGrade
-countedGrade case = record { grade = graded case; tries = length (demandsTried case) }
-
-abbrev pub triesAnswer : Case → TriesAnswer
-triesAnswer case = unlessRefused (refusal case) (TriesAnswer.Tried (length (demandsTried case))) TriesAnswer.Refused
-
-abbrev pub refusalNumber : TriesAnswer → ℕ
-refusalNumber (TriesAnswer.Tried n) = 0
-refusalNumber (TriesAnswer.Refused n) = n
-
-abbrev pub values : TriesAnswer → List ℕ
-values (TriesAnswer.Tried n) = n ∷ []
-values (TriesAnswer.Refused n) = []
+abbrev pub countedAnswer : Case → CountedAnswer
+countedAnswer case =
+    record { answer = answerTo case; tries = unlessRefused (refusal case) (length (demandsTried case)) (λ number. 0) }

@@ -2,13 +2,12 @@
 //   Volumes        the service volumes A to E
 //   Grade          letter, F, c, v, speed, density and the service volumes
 //   Answer         a grade or a refusal
-//   Found, FoundVolumes, CountedGrade   what is found, and how many demands were tried for it
-//   TriesAnswer    how many demands are tried for a case, or a refusal
+//   Found, FoundVolumes, CountedAnswer   what is found, and how many demands were tried for it
 //   volumes_with   the service volumes, from the terms of an accepted case
 //   grade_of       the grade of what a case gets and its service volumes
 //   grade_values   its eleven figures, the letter by its number
-//   evaluate       for any case at all
-//   count_tries    how many demands that tries
+//   evaluate_counted   for any case at all, with how many demands were tried
+//   evaluate       without the count
 use curve::Curve;
 use curve::kind::Kind;
 use curve::service;
@@ -34,7 +33,7 @@ ghost use Rattle.method.specs.Assess.{CaseReady};
 ghost use Rattle.answer.specs.declared.evaluate.Answer.the-variants.{Graded};
 ghost use Rattle.answer.specs.Search.{demandMeets, searchedVolumes, Trying};
 ghost use Rattle.answer.specs.Answers.{gradeOf, answerTo, values};
-ghost use Rattle.answer.specs.Tries.{meetsBy, found, foundVolumes, countedGrade, triesAnswer};
+ghost use Rattle.answer.specs.Tries.{meetsBy, found, foundVolumes, countedAnswer};
 
 pub struct Volumes {
     pub a: u64,
@@ -75,14 +74,9 @@ pub struct FoundVolumes {
     pub tries: u64,
 }
 
-pub struct CountedGrade {
-    pub grade: Grade,
+pub struct CountedAnswer {
+    pub answer: Answer,
     pub tries: u64,
-}
-
-pub enum TriesAnswer {
-    Tried(u64),
-    Refused(u64),
 }
 
 // Whether a demand keeps to capacity and to a density.
@@ -206,22 +200,23 @@ pub fn grade_values(grade: Grade) -> [u64; 11]
     ]
 }
 
-fn graded_with(case: Case, terms: CaseTerms, table: &[u32]) -> CountedGrade
+fn graded_with(case: Case, terms: CaseTerms, table: &[u32]) -> CountedAnswer
     requires { ⌜ CaseReady case terms (now table) ⌝ }
-    ensures { λ r. ⌜ r ≡ countedGrade case ⌝ }
+    ensures { λ r. ⌜ r ≡ countedAnswer case ⌝ }
 {
     let found = found_volumes(terms, table);
     let volumes = found.volumes;
-    CountedGrade {
-        grade: grade_of(assess::measures_with(case, terms, table), volumes),
+    let grade = grade_of(assess::measures_with(case, terms, table), volumes);
+    CountedAnswer {
+        answer: Answer::Graded(grade),
         tries: found.tries,
     }
 }
 
 // The terms of the case are worked out, and the table of powers is made where the kind reads it, once a case.
-fn graded(case: Case, curve: Curve) -> CountedGrade
+fn graded(case: Case, curve: Curve) -> CountedAnswer
     requires { ⌜ checked case ≡ Checked.Accepted curve ⌝ }
-    ensures { λ r. ⌜ r ≡ countedGrade case ⌝ }
+    ensures { λ r. ⌜ r ≡ countedAnswer case ⌝ }
 {
     let terms = assess::case_terms(case, curve);
     let kind = curve.kind;
@@ -234,30 +229,23 @@ fn graded(case: Case, curve: Curve) -> CountedGrade
     }
 }
 
-pub fn evaluate(case: Case) -> Answer
-    ensures { λ r. ⌜ r ≡ answerTo case ⌝ }
+// No demand is tried for a case that is refused.
+pub fn evaluate_counted(case: Case) -> CountedAnswer
+    ensures { λ r. ⌜ r ≡ countedAnswer case ⌝ }
 {
     let checked = checked::check(case);
     match checked {
-        Checked::Accepted(curve) => {
-            let counted = graded(case, curve);
-            let grade = counted.grade;
-            Answer::Graded(grade)
-        }
-        Checked::Refused(number) => Answer::Refused(number),
+        Checked::Accepted(curve) => graded(case, curve),
+        Checked::Refused(number) => CountedAnswer {
+            answer: Answer::Refused(number),
+            tries: 0,
+        },
     }
 }
 
-// How many demands the evaluation of a case tries.
-pub fn count_tries(case: Case) -> TriesAnswer
-    ensures { λ r. ⌜ r ≡ triesAnswer case ⌝ }
+pub fn evaluate(case: Case) -> Answer
+    ensures { λ r. ⌜ r ≡ answerTo case ⌝ }
 {
-    let checked = checked::check(case);
-    match checked {
-        Checked::Accepted(curve) => {
-            let counted = graded(case, curve);
-            TriesAnswer::Tried(counted.tries)
-        }
-        Checked::Refused(number) => TriesAnswer::Refused(number),
-    }
+    let counted = evaluate_counted(case);
+    counted.answer
 }

@@ -1,6 +1,6 @@
 -- What the call that counts the tried demands hands back (document 02, T-04), and its laws, stated; proofs/TriesLaws proves
 -- them.
---   triesResult a      the count, or minus the refusal's number
+--   triesResult a n    the count n of an answer with a grade, or minus the refusal's number
 --   lineTries r        the same for a line that was read: minus 15 where it is malformed
 --   triesCall line     the same for a line
 --   TriesHandBack      minus 15 where the line is malformed; else the count of the tried demands, from 1 to 80, or minus the refusal
@@ -15,20 +15,22 @@ use lib.ListN.{length}
 use Rattle.text.specs.Bytes.{bytesOf}
 use Rattle.road.specs.declared.Case.{Case}
 use Rattle.method.specs.Refusals.{refusal, Accepted}
-use Rattle.answer.specs.declared.evaluate.TriesAnswer.{TriesAnswer}
-use Rattle.answer.specs.Tries.{demandsTried, triesAnswer, refusalNumber, values}
+use Rattle.answer.specs.declared.evaluate.Answer.{Answer}
+use Rattle.answer.specs.declared.evaluate.Answer.the-variants as Answer
+use Rattle.answer.specs.Answers.{answerTo}
+use Rattle.answer.specs.Tries.{demandsTried, countedAnswer}
 use Rattle.lines.specs.declared.read.LineRead.{LineRead}
 use Rattle.lines.specs.declared.read.LineRead.the-variants as LineRead
 use Rattle.lines.specs.Reading.{readLine}
-use Rattle.marehour.specs.Calls.{resultOf}
 use Rattle.marehour.specs.Boundary.{printedLine}
 
-abbrev pub triesResult : TriesAnswer → ℤ
-triesResult a = resultOf (refusalNumber a) (values a)
+abbrev pub triesResult : Answer → ℕ → ℤ
+triesResult (Answer.Graded grade) tries = pos tries
+triesResult (Answer.Refused number) tries = negℤ (pos number)
 
 -- "15 malformed line", before 1
 abbrev pub lineTries : LineRead → ℤ
-lineTries (LineRead.Case case) = triesResult (triesAnswer case)
+lineTries (LineRead.Case case) = triesResult (answerTo case) (countedAnswer case .tries)
 lineTries (LineRead.Refused number) = negℤ (pos number)
 
 abbrev pub triesCall : List ℕ → ℤ

@@ -2,21 +2,23 @@
 //   marehour_tries   for the case of a lent line
 use crate::calls::refused;
 use answer::evaluate;
-use answer::evaluate::TriesAnswer;
+use answer::evaluate::Answer;
 use lines::read;
 use lines::read::LineRead;
 use road::Case;
 ghost use mathlib.Core.Path.{_≡_};
-ghost use Rattle.answer.specs.Tries.{triesAnswer};
+ghost use Rattle.answer.specs.Answers.{answerTo};
+ghost use Rattle.answer.specs.Tries.{countedAnswer};
 ghost use Rattle.marehour.specs.Tries.{triesResult, triesCall};
 
 fn tries_case(case: Case) -> i32
-    ensures { λ r. ⌜ r ≡ triesResult (triesAnswer case) ⌝ }
+    ensures { λ r. ⌜ r ≡ triesResult (answerTo case) (countedAnswer case .tries) ⌝ }
 {
-    let found = evaluate::count_tries(case);
-    match found {
-        TriesAnswer::Tried(count) => count as i32,
-        TriesAnswer::Refused(number) => refused(number),
+    let counted = evaluate::evaluate_counted(case);
+    let answer = counted.answer;
+    match answer {
+        Answer::Graded(_) => counted.tries as i32,
+        Answer::Refused(number) => refused(number),
     }
 }
 

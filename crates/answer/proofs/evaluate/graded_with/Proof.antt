@@ -16,6 +16,7 @@ returns c =
       c .grade-of .ensures,
       c .before .measures-with .ensures,
       found .found-volumes .ensures ∙ foundVolumes-terms _ _ _ (found .before .before .pre),
+      found .before .before .pre .accepted,
     )
 
 pub graded-with-spec : {M : Type 1} → statement M
