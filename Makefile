@@ -1,6 +1,6 @@
 # make run      answers the lines of examples/sections.tsv with the program los
 # make test     proves everything and tries every must-fail edit (rt ci), then tests the library and the program that were proved
-# make full     compares every curve of clear weather and every float with the second implementation
+# make full     compares every curve of clear weather, every float and every multilane speed with the second implementation
 # make tables   writes the constant tables anew
 # make vectors  writes the answers of the vectors anew, as the second implementation has them
 # make bench    times los and the calls against plain C on a million made lines; RUNS=n sets how often, BEFORE=path adds another los
@@ -49,6 +49,7 @@ tests: $(addprefix $(BUILD)/,tables references calls widening widening-test stre
 full: $(BUILD)/compare
 	$(BUILD)/compare full-curves
 	$(BUILD)/compare full-floats
+	$(BUILD)/compare full-distances
 
 tables: $(BUILD)/tables
 	$(BUILD)/tables write

@@ -116,10 +116,11 @@ int32_t marehour_answer(const uint8_t *line, size_t line_length, uint8_t *answer
 
    A free-flow speed above 75,000 (kind F) or 70,000 (kind M) is taken as that end. Free-flow speed
    and capacity are those after the weather's factors: the speed times the speed factor, rounded
-   down; the capacity worked from that speed, times the capacity factor, rounded down. Flow rate and
-   density are rounded up, speed down; the letter rests on the speed before it is rounded. Above
-   capacity the letter is F, and speed and density are 0. A service volume is the greatest demand
-   from 0 to 99,999 that gets its letter or a better one.
+   down; the capacity worked from that speed, times the capacity factor, rounded down. Flow rate
+   and density are rounded up, speed down; the letter rests on the speed before it is rounded. Up
+   to capacity the speed on kind M is never above the manual's curve and less than 26 below it.
+   Above capacity the letter is F, and speed and density are 0. A service volume is the greatest
+   demand from 0 to 99,999 that gets its letter or a better one.
 
    The result is the count of bytes written, newline included, at most MAREHOUR_ANSWER_SIZE; or
    minus the first of these refusals that holds, in this order:

@@ -1,10 +1,11 @@
-// Compares the engine, linked as an archive, with the second implementation of document 01 and of requests T-01 to T-03 (tests/second).
-// What it must count of T-04 is had from that one's service volumes (tests/compare/tries.rs).
+// Compares the engine, linked as an archive, with the second implementation of document 01 and of requests T-01 to T-03 and T-05
+// (tests/second). What it must count of T-04 is had from that one's service volumes (tests/compare/tries.rs).
 //
 //   compare quick         the documents' figures, the traps, the manual's examples, curves by a stride, random cases, floats, the laws,
-//                         whole days, how many demands are tried, the vectors
+//                         whole days, how many demands are tried, how far multilane speeds are below the manual's curve, the vectors
 //   compare full-curves   every free-flow speed with every flow rate up to capacity and one more
 //   compare full-floats   every float in both units
+//   compare full-distances   every multilane speed past the breakpoint beside the manual's curve, by whole powers
 //   compare los PATH      random lines through the program los
 //   compare write-vectors writes the vectors anew, as the second implementation answers them, at the project's root
 //
@@ -13,6 +14,7 @@
 mod compare {
     pub mod curves;
     pub mod days;
+    pub mod distances;
     pub mod draw;
     pub mod engine;
     pub mod floats;
@@ -28,12 +30,13 @@ mod compare {
 mod second;
 
 use compare::days::Days;
+use compare::distances::Distances;
 use compare::draw::Draw;
 use compare::paper::Paper;
 use compare::random::Random;
 use compare::tally::{Outcomes, Tally};
 use compare::tries::Tries;
-use compare::{curves, floats, laws, los, traps, vectors};
+use compare::{curves, distances, floats, laws, los, traps, vectors};
 use second::method::{Kind, Method};
 use second::survey::Unit;
 use std::process::exit;
@@ -45,6 +48,8 @@ const EVERY_DEMAND_CASES: u64 = 500;
 const LAW_CASES: u64 = 50_000;
 const RANDOM_DAYS: u64 = 100_000;
 const COUNTED_LINES: u64 = 200_000;
+const CURVE_POINTS: u64 = 10_000;
+const CURVE_CASES: u64 = 20_000;
 
 // Runs a group and prints its count of checks and differences.
 fn group(total: &mut Tally, name: &str, run: impl FnOnce() -> Tally) {
@@ -94,6 +99,16 @@ fn tries(method: &Method) -> Tally {
     tries.tally
 }
 
+fn distances(method: &Method) -> Tally {
+    let mut distances = Distances::new(method);
+    distances.figures();
+    distances.random_points(&mut Draw(SEED + 7), CURVE_POINTS);
+    distances.random_cases(&mut Draw(SEED + 8), CURVE_CASES);
+    distances.worst_points();
+    distances.print();
+    distances.tally
+}
+
 fn boundary_sections(method: &Method) -> Tally {
     let mut paper = Paper { method, tally: Tally::default() };
     paper.boundary_sections();
@@ -121,6 +136,7 @@ fn quick(total: &mut Tally) {
     group(total, "laws", || filled(|tally| laws::sample(method, &mut Draw(SEED + 3), tally, LAW_CASES)));
     group(total, "days", || whole_days(method));
     group(total, "demands tried", || tries(method));
+    group(total, "distances from the curve", || distances(method));
     group(total, "vectors", || filled(|tally| vectors::check(method, tally)));
 }
 
@@ -148,13 +164,14 @@ fn main() {
         ["quick"] => quick(&mut total),
         ["full-curves"] => full_curves(&mut total),
         ["full-floats"] => full_floats(&mut total),
+        ["full-distances"] => group(&mut total, "distances", || distances::full(&Method::new())),
         ["los", path] => {
             let method = &Method::new();
             group(&mut total, "lines through los", || filled(|tally| los::random_lines(method, &mut Draw(SEED + 4), tally, path)));
         }
         ["write-vectors"] => return vectors::write(&Method::new()),
         _ => {
-            println!("usage: compare quick | full-curves | full-floats | los PATH | write-vectors");
+            println!("usage: compare quick | full-curves | full-floats | full-distances | los PATH | write-vectors");
             exit(2);
         }
     }

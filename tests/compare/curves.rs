@@ -3,18 +3,16 @@
 
 use super::draw::append_line;
 use super::engine;
-use super::tally::Tally;
+use super::tally::{in_parts, Tally, PARTS};
 use crate::second::lines;
 use crate::second::method::{
     density, millionths, speed_at_weight, Case, Curve, Kind, Median, Method, Service, Terrain, Way, Weather,
 };
 use std::fmt::Write;
-use std::thread;
 
 // Strides that share no factor with 10, 45 or the steps of the tables.
 const SPEED_STRIDE: usize = 97;
 const FLOW_STRIDE: usize = 7;
-const THREADS: u64 = 2;
 
 fn road(kind: Kind, free_flow_speed: u64, weather: Weather) -> Case {
     Case {
@@ -35,7 +33,7 @@ fn road(kind: Kind, free_flow_speed: u64, weather: Weather) -> Case {
     }
 }
 
-fn clear_road(kind: Kind, free_flow_speed: u64) -> Case {
+pub fn clear_road(kind: Kind, free_flow_speed: u64) -> Case {
     road(kind, free_flow_speed, Weather::CLEAR)
 }
 
@@ -127,19 +125,11 @@ pub fn table_entries(method: &Method, tally: &mut Tally) {
 
 // Every speed of a kind with every flow rate up to capacity and the first above it.
 pub fn full(method: &Method, kind: Kind) -> Tally {
-    let part = |remainder: u64| {
+    in_parts(|part| {
         let mut tally = Tally::default();
-        for speed in kind.free_flow_speeds().filter(|speed| speed % THREADS == remainder) {
+        for speed in kind.free_flow_speeds().filter(|speed| speed % PARTS == part) {
             curve(method, &mut tally, &clear_road(kind, speed), 0..=kind.capacity(speed) / 100 + 1);
         }
         tally
-    };
-    thread::scope(|scope| {
-        let threads: Vec<_> = (0..THREADS).map(|remainder| scope.spawn(move || part(remainder))).collect();
-        let mut total = Tally::default();
-        for thread in threads {
-            total.add(thread.join().expect("a part ends"));
-        }
-        total
     })
 }

@@ -1,10 +1,13 @@
-// Counts of checks, and the differences found, of which the first 20 of a run are printed; counts of what came up.
+// Counts of checks, and the differences found, of which the first 20 of a run are printed; a run in parts; counts of what came up.
 
 use std::collections::BTreeMap;
 use std::fmt::Debug;
 use std::sync::atomic::{AtomicU64, Ordering};
+use std::thread;
 
 const SHOWN: u64 = 20;
+// How many parts a long run has.
+pub const PARTS: u64 = 2;
 static DIFFERENCES: AtomicU64 = AtomicU64::new(0);
 
 #[derive(Default)]
@@ -33,6 +36,18 @@ impl Tally {
         self.checks += other.checks;
         self.differences += other.differences;
     }
+}
+
+// The parts of a run, told by their numbers from 0 on, each on a thread of its own.
+pub fn in_parts(part: impl Fn(u64) -> Tally + Copy + Send) -> Tally {
+    thread::scope(|scope| {
+        let threads: Vec<_> = (0..PARTS).map(|number| scope.spawn(move || part(number))).collect();
+        let mut total = Tally::default();
+        for thread in threads {
+            total.add(thread.join().expect("a part ends"));
+        }
+        total
+    })
 }
 
 // How often each outcome came up in a random run.
