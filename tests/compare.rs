@@ -5,7 +5,7 @@
 //                         whole days, how many demands are tried, how far multilane speeds are below the manual's curve, the vectors
 //   compare full-curves   every free-flow speed with every flow rate up to capacity and one more
 //   compare full-floats   every float in both units
-//   compare full-distances   every multilane speed past the breakpoint beside the manual's curve, by whole powers
+//   compare full-distances  every multilane speed past the breakpoint beside the manual's curve, by whole powers
 //   compare los PATH      random lines through the program los
 //   compare write-vectors writes the vectors anew, as the second implementation answers them, at the project's root
 //
@@ -49,7 +49,7 @@ const LAW_CASES: u64 = 50_000;
 const RANDOM_DAYS: u64 = 100_000;
 const COUNTED_LINES: u64 = 200_000;
 const CURVE_POINTS: u64 = 10_000;
-const CURVE_CASES: u64 = 20_000;
+const CURVE_CASES: u64 = 40_000;
 
 // Runs a group and prints its count of checks and differences.
 fn group(total: &mut Tally, name: &str, run: impl FnOnce() -> Tally) {
@@ -164,7 +164,7 @@ fn main() {
         ["quick"] => quick(&mut total),
         ["full-curves"] => full_curves(&mut total),
         ["full-floats"] => full_floats(&mut total),
-        ["full-distances"] => group(&mut total, "distances", || distances::full(&Method::new())),
+        ["full-distances"] => group(&mut total, "distances from the curve", distances::full),
         ["los", path] => {
             let method = &Method::new();
             group(&mut total, "lines through los", || filled(|tally| los::random_lines(method, &mut Draw(SEED + 4), tally, path)));

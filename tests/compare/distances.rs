@@ -1,6 +1,7 @@
 // How far the shown multilane speed is below the manual's curve (request T-05): never above it, and less than 26 thousandths of mi/h below.
-// The engine's speeds, beside the curve that the second implementation has by whole powers: points with their figures, random points,
-// random cases, and the points that are farthest from the curve and nearest to it, which floats pick out of all.
+// The engine's speeds are judged by the second implementation's curve, which is by whole powers: points with their figures, random points,
+// random cases, and the points that are farthest from the curve and nearest to it. Floats pick those out of all, by the second
+// implementation's speeds, which the engine's must equal.
 
 use super::curves::clear_road;
 use super::draw::{draw_accepted_case, line_of, Draw};
@@ -25,18 +26,30 @@ const FIGURES: &[(u64, u64, u64, u64)] = &[
     (60_000, 1_800, 55_518, 0),
     (65_000, 2_300, 51_111, 0),
     (45_000, 1_900, 42_222, 0),
+    (63_462, 1_822, 58_396, 7),
+    (64_634, 1_714, 61_148, 4),
     (45_000, 0, 45_000, 0),
 ];
 
-// A figure of the engine's answer to a case, by its place; none where the case is refused.
-fn figure(case: &Case, place: usize) -> Option<u64> {
-    engine::answer_text(&line_of(case)).split('\t').nth(place)?.parse().ok()
+// F, c, v and speed of the engine's answer to a case; none where the case is refused.
+fn figures_of(case: &Case) -> Option<[u64; 4]> {
+    let text = engine::answer_text(&line_of(case));
+    let figures: Vec<u64> = text.split('\t').skip(1).take(4).map_while(|field| field.parse().ok()).collect();
+    figures.try_into().ok()
 }
 
 // The speed that the engine shows at a point: on two lanes with H = 1,000 and P = 0 the demand 2v has the flow rate v.
-fn shown_speed(free_flow_speed: u64, flow_rate: u64) -> u64 {
+fn shown_speed(free_flow_speed: u64, flow_rate: u64) -> Option<u64> {
     let case = Case { demand: 2 * flow_rate, ..clear_road(Kind::Multilane, free_flow_speed) };
-    figure(&case, 4).expect("the road is accepted")
+    figures_of(&case).map(|[_, _, _, speed]| speed)
+}
+
+// How many whole thousandths a shown speed is below the curve; none where it is above, or by 26 or more below.
+fn below_curve(free_flow_speed: u64, flow_rate: u64, shown: u64) -> Option<u64> {
+    if at_most_curve(free_flow_speed, flow_rate, shown + TOLERANCE) {
+        return None;
+    }
+    whole_thousandths_below(free_flow_speed, flow_rate, shown)
 }
 
 // Every free-flow speed with every flow rate past the breakpoint and up to capacity.
@@ -56,27 +69,27 @@ fn roughly_below(method: &Method, free_flow_speed: u64, flow_rate: u64) -> f64 {
 pub struct Distances<'a> {
     pub method: &'a Method,
     pub tally: Tally,
-    // The most whole thousandths below the curve, where, and how many points were worked out by whole powers.
-    most: u64,
-    most_at: (u64, u64),
+    // The most whole thousandths below the curve, with F and v, and how many points were worked out by whole powers.
+    most: Option<(u64, u64, u64)>,
     worked_out: u64,
 }
 
 impl Distances<'_> {
     pub fn new(method: &Method) -> Distances<'_> {
-        Distances { method, tally: Tally::default(), most: 0, most_at: (0, 0), worked_out: 0 }
+        Distances { method, tally: Tally::default(), most: None, worked_out: 0 }
     }
 
     // A point by whole powers, with the speed that the engine shows there.
     fn point(&mut self, free_flow_speed: u64, flow_rate: u64) -> Option<u64> {
+        let place = || format!("F = {free_flow_speed}, v = {flow_rate}");
+        let expected = self.method.service(&Curve::clear(Kind::Multilane, free_flow_speed), flow_rate).speed;
         let shown = shown_speed(free_flow_speed, flow_rate);
-        let below = whole_thousandths_below(free_flow_speed, flow_rate, shown);
-        let within = below.is_some_and(|below| below < TOLERANCE);
-        self.tally.check(within, || format!("F = {free_flow_speed}, v = {flow_rate}: {shown} is {below:?} below the curve"));
+        self.tally.equal(shown, Some(expected), || format!("{}, shown speed", place()));
+        let below = below_curve(free_flow_speed, flow_rate, shown?);
+        self.tally.check(below.is_some(), || format!("{}: {shown:?} is above the curve, or {TOLERANCE} or more below it", place()));
         self.worked_out += 1;
-        if below > Some(self.most) {
-            self.most = below.unwrap_or_default();
-            self.most_at = (free_flow_speed, flow_rate);
+        if below > self.most.map(|(most, ..)| most) {
+            self.most = below.map(|below| (below, free_flow_speed, flow_rate));
         }
         below
     }
@@ -84,7 +97,7 @@ impl Distances<'_> {
     pub fn figures(&mut self) {
         for &(free_flow_speed, flow_rate, shown, below) in FIGURES {
             let place = || format!("F = {free_flow_speed}, v = {flow_rate}");
-            self.tally.equal(shown_speed(free_flow_speed, flow_rate), shown, || format!("{}, shown speed", place()));
+            self.tally.equal(shown_speed(free_flow_speed, flow_rate), Some(shown), || format!("{}, shown speed", place()));
             let got = self.point(free_flow_speed, flow_rate);
             self.tally.equal(got, Some(below), || format!("{}, thousandths below the curve", place()));
         }
@@ -99,23 +112,29 @@ impl Distances<'_> {
         }
     }
 
-    // Accepted multilane cases, by the figures of their answers: F, c, v and the speed.
+    // Accepted multilane cases, by the figures of their answers.
     pub fn random_cases(&mut self, draw: &mut Draw, count: u64) {
-        let mut judged = 0;
-        while judged < count {
+        let mut past_breakpoint = 0;
+        for _ in 0..count {
             let case = draw_accepted_case(draw, self.method);
             if case.kind != Kind::Multilane {
                 continue;
             }
-            let [f, c, v, speed] = [1, 2, 3, 4].map(|place| figure(&case, place).expect("the case is accepted"));
+            let answer = self.method.answer(&case).expect("the case is accepted");
+            let (f, c, v) = (answer.free_flow_speed, answer.capacity, answer.flow_rate);
+            let Some([.., speed]) = figures_of(&case).filter(|figures| figures[..3] == [f, c, v]) else {
+                self.tally.check(false, || format!("{case:?}: F, c and v are {f}, {c} and {v}"));
+                continue;
+            };
             if 100 * v > c {
                 self.tally.equal(speed, 0, || format!("above capacity: {case:?}"));
                 continue;
             }
-            let within = at_most_curve(f, v, speed) && !at_most_curve(f, v, speed + TOLERANCE);
-            self.tally.check(within, || format!("{case:?}: {speed} is not within {TOLERANCE} of the curve"));
-            judged += 1;
+            let below = below_curve(f, v, speed);
+            self.tally.check(below.is_some(), || format!("{case:?}: {speed} is above the curve, or {TOLERANCE} or more below it"));
+            past_breakpoint += u64::from(100 * v > Kind::Multilane.breakpoint(f));
         }
+        self.tally.check(past_breakpoint > count / 10, || format!("{past_breakpoint} cases only past the breakpoint"));
     }
 
     // Of all points those that floats have farthest below the curve, and those that they have on it.
@@ -128,28 +147,29 @@ impl Distances<'_> {
                 self.point(free_flow_speed, flow_rate);
             }
         }
+        self.tally.equal(self.most.map(|(most, ..)| most), Some(MOST), || "most whole thousandths below the curve".to_string());
         self.tally.equal(all, POINTS, || "points past the breakpoint".to_string());
-        self.tally.check(least > -1e-6 && most < (MOST + 1) as f64, || format!("floats have speeds from {least} to {most} below the curve"));
+        let near = least > -1e-6 && most < (MOST + 1) as f64;
+        self.tally.check(near, || format!("floats have speeds from {least} to {most} below the curve"));
     }
 
     pub fn print(&self) {
-        let (free_flow_speed, flow_rate) = self.most_at;
-        let rough = roughly_below(self.method, free_flow_speed, flow_rate);
-        println!(
-            "most below the curve, of {} points by whole powers: {} whole thousandths ({rough:.4}), at F = {free_flow_speed}, v = {flow_rate}",
-            self.worked_out, self.most
-        );
+        if let Some((most, f, v)) = self.most {
+            let rough = roughly_below(self.method, f, v);
+            let points = self.worked_out;
+            println!("most below the curve, of {points} points by whole powers: {most} whole thousandths ({rough:.4}), at F = {f}, v = {v}");
+        }
     }
 }
 
-// Every point by whole powers: at most the curve, and 23 more are not.
-pub fn full(method: &Method) -> Tally {
+// Every point by whole powers: the engine's speed is at most the curve, and 23 more are not.
+pub fn full() -> Tally {
     in_parts(|part| {
         let mut tally = Tally::default();
         for (f, v) in points(Kind::Multilane.free_flow_speeds().filter(|speed| speed % PARTS == part)) {
-            let shown = method.service(&Curve::clear(Kind::Multilane, f), v).speed;
-            let within = at_most_curve(f, v, shown) && !at_most_curve(f, v, shown + MOST + 1);
-            tally.check(within, || format!("F = {f}, v = {v}: {shown} is above the curve, or more than {MOST} below it"));
+            let shown = shown_speed(f, v);
+            let near = shown.is_some_and(|shown| at_most_curve(f, v, shown) && !at_most_curve(f, v, shown + MOST + 1));
+            tally.check(near, || format!("F = {f}, v = {v}: {shown:?} is above the curve, or more than {MOST} below it"));
         }
         tally
     })

@@ -1,5 +1,5 @@
 -- The points of specs/Distances, worked out by whole powers.
---   distances-shown, farthest-within-tolerance
+--   distances-shown, farthest-just-below
 -- Assumes nothing.
 use mathlib.Core.Path.{_≡_, refl}
 use native.Mathlib.Omega.{arith}
@@ -11,7 +11,7 @@ use Rattle.powers.proofs.PowerLaws.{powerTable-at}
 use Rattle.curve.specs.Curves.{capacity, breakpoint, curveAt}
 use Rattle.curve.specs.Speed.{fallShareBy, speed, shownSpeed}
 use Rattle.accuracy.specs.ManualCurve.{AtMostManualCurve}
-use Rattle.accuracy.specs.Distances.{DistancesShown, FarthestWithinTolerance}
+use Rattle.accuracy.specs.Distances.{DistancesShown, FarthestJustBelow}
 
 pub distances-shown : DistancesShown
 unfolding powerTable divUp capacity breakpoint curveAt fallShareBy speed shownSpeed AtMostManualCurve
@@ -23,8 +23,10 @@ distances-shown = (
   (simp (powerTable-at 500 (omega arith)), (lit≤ tt, lit≤ tt), λ h. not-le-of-lt (lit< tt) (h .1)),
   (simp (powerTable-at 1000 (omega arith)), (lit≤ tt, lit≤ tt), λ h. not-le-of-lt (lit< tt) (h .1)),
   (simp (powerTable-at 1000 (omega arith)), (lit≤ tt, lit≤ tt), λ h. not-le-of-lt (lit< tt) (h .1)),
+  (simp (powerTable-at 486 (omega arith)), (lit≤ tt, lit≤ tt), λ h. not-le-of-lt (lit< tt) (h .1)),
+  (simp (powerTable-at 352 (omega arith)), (lit≤ tt, lit≤ tt), λ h. not-le-of-lt (lit< tt) (h .1)),
 )
 
-pub farthest-within-tolerance : FarthestWithinTolerance
+pub farthest-just-below : FarthestJustBelow
 unfolding capacity breakpoint curveAt AtMostManualCurve
-farthest-within-tolerance = ((lit≤ tt, lit≤ tt), λ h. not-le-of-lt (lit< tt) (h .1))
+farthest-just-below = ((lit≤ tt, lit≤ tt), λ h. not-le-of-lt (lit< tt) (h .1))

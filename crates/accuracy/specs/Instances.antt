@@ -1,29 +1,45 @@
--- Two cases with their answers; proofs/Instances proves them by the promises.
---   farthest              M G 69923 120 60 60 D 0 2 4584 1000 0 L, which gets E
---   AnswerToFarthest      its F, c, v and speed, and that the speed is within 26
---   beyondCapacity        M G 60000 120 60 60 D 0 2 4402 1000 0 L, which gets F
---   AnswerBeyondCapacity  its speed is 0
+-- Three cases with their answers; proofs/Instances works the figures out, and that the speed is just below the curve is by the promises.
+--   firstFigures a        letter, F, c, v and speed of an answer
+--   farthest              M G 69923 120 60 60 D 0 2 4584 1000 0 L
+--   AnswerToFarthest      it gets E
+--   atCapacity            M G 65000 120 60 60 D 0 2 4600 1000 0 L
+--   AnswerAtCapacity      it gets E, and the demand is the last that does
+--   aboveCapacity         M G 65000 120 60 60 D 0 2 4601 1000 0 L
+--   AnswerAboveCapacity   it gets F, and its speed is 0
 -- Assumes nothing.
 use mathlib.Core.Path.{_≡_}
+use mathlib.Core.List.{List, [], _∷_}
+use Prim.Native.Nat.{ℕ}
 use Rattle.curve.specs.declared.kind.Kind.the-variants as Kind
 use Rattle.road.specs.declared.Case.{Case}
 use Rattle.method.specs.Boundary.{given, twoLanes}
+use Rattle.answer.specs.declared.evaluate.Answer.{Answer}
 use Rattle.answer.specs.Answers.{answerTo}
 use Rattle.answer.specs.Promises.{letterIn}
-use Rattle.accuracy.specs.Promises.{WithinTolerance, freeFlowSpeedIn, capacityIn, flowRateIn, speedIn}
+use Rattle.accuracy.specs.Promises.{freeFlowSpeedIn, capacityIn, flowRateIn, speedIn, JustBelowIn, UpToCapacity}
+
+abbrev pub firstFigures : Answer → List ℕ
+firstFigures answer = letterIn answer ∷ freeFlowSpeedIn answer ∷ capacityIn answer ∷ flowRateIn answer ∷ speedIn answer ∷ []
 
 abbrev pub farthest : Case
 farthest = twoLanes (given Kind.Multilane 69923 120) 4584
 
 abbrev pub AnswerToFarthest : Type 0
 AnswerToFarthest =
-    (letterIn (answerTo farthest) ≡ 5) × (freeFlowSpeedIn (answerTo farthest) ≡ 69923) × (capacityIn (answerTo farthest) ≡ 230000)
-    × (flowRateIn (answerTo farthest) ≡ 2292)
-    × (speedIn (answerTo farthest) ≡ 51307)
-    × WithinTolerance (freeFlowSpeedIn (answerTo farthest)) (flowRateIn (answerTo farthest)) (speedIn (answerTo farthest))
+    (firstFigures (answerTo farthest) ≡ 5 ∷ 69923 ∷ 230000 ∷ 2292 ∷ 51307 ∷ []) × UpToCapacity (answerTo farthest)
+    × JustBelowIn (answerTo farthest)
 
-abbrev pub beyondCapacity : Case
-beyondCapacity = twoLanes (given Kind.Multilane 60000 120) 4402
+abbrev pub atCapacity : Case
+atCapacity = twoLanes (given Kind.Multilane 65000 120) 4600
 
-abbrev pub AnswerBeyondCapacity : Type 0
-AnswerBeyondCapacity = (letterIn (answerTo beyondCapacity) ≡ 6) × (speedIn (answerTo beyondCapacity) ≡ 0)
+abbrev pub AnswerAtCapacity : Type 0
+AnswerAtCapacity =
+    (firstFigures (answerTo atCapacity) ≡ 5 ∷ 65000 ∷ 230000 ∷ 2300 ∷ 51111 ∷ []) × UpToCapacity (answerTo atCapacity)
+    × JustBelowIn (answerTo atCapacity)
+
+abbrev pub aboveCapacity : Case
+aboveCapacity = twoLanes (given Kind.Multilane 65000 120) 4601
+
+abbrev pub AnswerAboveCapacity : Type 0
+AnswerAboveCapacity =
+    (firstFigures (answerTo aboveCapacity) ≡ 6 ∷ 65000 ∷ 230000 ∷ 2301 ∷ 0 ∷ []) × (UpToCapacity (answerTo aboveCapacity) → ⊥)

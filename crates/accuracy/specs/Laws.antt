@@ -1,5 +1,5 @@
--- What it is to be at most the manual's curve, said without powers where that can be: below a speed, at the curve's two ends, and with more
--- flow; and the step of the table of powers. proofs/Laws proves each.
+-- What it is to be at most the manual's curve, said without powers where that can be: for lower speeds, at the curve's two ends, and with
+-- more flow; and the step of the table of powers. proofs/Laws proves each.
 --   LowerSpeedsAtMost, FreeFlowSpeedUpToBreakpoint, CapacitySpeedAtCapacity, NoFasterWithMoreFlow
 --   TableStepAtMost1310, TableStepReaches1310
 -- Assumes nothing.
@@ -22,7 +22,7 @@ abbrev pub FreeFlowSpeedUpToBreakpoint : Type 0
 FreeFlowSpeedUpToBreakpoint =
     (f v s : ℕ) → 100 * v ≤ breakpoint Kind.Multilane f → AtMostManualCurve f v s ↔ (s ≤ f)
 
--- At capacity the curve is at 10c/45, where the density is 45.
+-- Where a whole v is at capacity, F being a multiple of 50 or at least 65,000, the curve is at 10c/45.
 abbrev pub CapacitySpeedAtCapacity : Type 0
 CapacitySpeedAtCapacity =
     (f v s : ℕ) → lowestSpeed Kind.Multilane ≤ f → f ≤ highestSpeed Kind.Multilane → 100 * v ≡ capacity Kind.Multilane f
@@ -32,7 +32,7 @@ CapacitySpeedAtCapacity =
 abbrev pub NoFasterWithMoreFlow : Type 0
 NoFasterWithMoreFlow = (f v₁ v₂ s : ℕ) → v₁ ≤ v₂ → AtMostManualCurve f v₂ s → AtMostManualCurve f v₁ s
 
--- From one entry of the table of powers to the next is at most 1,310 millionths: what 26 rests on.
+-- From one entry of the table of powers to the next is at most 1,310 millionths. With 9F − 2c ≤ 170,000 and the rounding this makes 26.
 abbrev pub TableStepAtMost1310 : Type 0
 TableStepAtMost1310 = (i : ℕ) → suc i ≤ 1000 → power (suc i) ≤ power i + 1310
 

@@ -1,16 +1,19 @@
 -- How far the shown multilane speed is below the manual's curve, stated over the definitions that the contracts cite; proofs/Promises
 -- proves it.
---   tolerance                 26 thousandths of mi/h
---   WithinTolerance f v s     s is at most the manual's curve at f and v, and s and 26 more are not
---   ShownSpeedWithinTolerance   the theorem, for every free-flow speed and every flow rate up to capacity
+--   tolerance                     26 thousandths of mi/h
+--   JustBelowManualCurve f v s    s is at most the manual's curve at f and v, and less than 26 below it
+--   ShownSpeedJustBelow           the theorem, for every F from 45,000 to 70,000 and every flow rate up to capacity
 --   freeFlowSpeedIn a, capacityIn a, flowRateIn a, speedIn a   these figures of a graded answer
---   AnswerWithinTolerance     the same of the speed in the answer to an accepted multilane case, up to capacity
---   AToEUpToCapacity          up to capacity is: letters A to E
---   NoSpeedAboveCapacity      above capacity the speed in the answer is 0, and nothing is claimed of it
+--   JustBelowIn a                 the speed in it is just below the manual's curve at the F and the v in it
+--   UpToCapacity a                the v in it is at most the c in it
+--   AnswerJustBelow               the theorem of the answer to an accepted multilane case, up to capacity
+--   AToEUpToCapacity              an accepted case gets one of A to E exactly up to capacity
+--   AToEJustBelow                 so it holds with a letter from A to E
+--   NoSpeedAboveCapacity          above capacity the speed in the answer is 0; nothing is said of the curve there
 -- Assumes nothing.
 use mathlib.Core.Path.{_≡_}
 use mathlib.Core.Logic.{_↔_}
-use Prim.Native.Nat.{ℕ, _+_, _*_, _≤_, _<_}
+use Prim.Native.Nat.{ℕ, _+_, _*_, _≤_}
 use lib.ListN.{getD}
 use Rattle.curve.specs.declared.kind.Kind.the-variants as Kind
 use Rattle.curve.specs.Kinds.{lowestSpeed, highestSpeed}
@@ -27,15 +30,15 @@ use Rattle.accuracy.specs.ManualCurve.{AtMostManualCurve}
 abbrev pub tolerance : ℕ
 tolerance = 26
 
--- "never above the manual's curve", "less than 26 thousandths of mi/h below it": the curve is at least s and below s + 26
-abbrev pub WithinTolerance : (f v s : ℕ) → Type 0
-WithinTolerance f v s = AtMostManualCurve f v s × (AtMostManualCurve f v (s + tolerance) → ⊥)
+-- "never above the manual's curve", "less than 26 thousandths of mi/h below it": s is at most the curve, and s + 26 is not
+abbrev pub JustBelowManualCurve : (f v s : ℕ) → Type 0
+JustBelowManualCurve f v s = AtMostManualCurve f v s × (AtMostManualCurve f v (s + tolerance) → ⊥)
 
 -- "for every accepted F and every v up to capacity": F from 45,000 to 70,000 and 100v ≤ c
-abbrev pub ShownSpeedWithinTolerance : Type 0
-ShownSpeedWithinTolerance =
+abbrev pub ShownSpeedJustBelow : Type 0
+ShownSpeedJustBelow =
     (f v : ℕ) → lowestSpeed Kind.Multilane ≤ f → f ≤ highestSpeed Kind.Multilane → 100 * v ≤ capacity Kind.Multilane f
-    → WithinTolerance f v (shownSpeed (curveAt Kind.Multilane f) v)
+    → JustBelowManualCurve f v (shownSpeed (curveAt Kind.Multilane f) v)
 
 -- of the eleven figures of an answer F is the second, c the third, v the fourth and the speed the fifth
 abbrev pub freeFlowSpeedIn : Answer → ℕ
@@ -50,18 +53,24 @@ flowRateIn answer = getD (values answer) 3 0
 abbrev pub speedIn : Answer → ℕ
 speedIn answer = getD (values answer) 4 0
 
--- The speed in the answer is within 26 of the manual's curve at the F and v in the answer.
-abbrev pub AnswerWithinTolerance : Type 0
-AnswerWithinTolerance =
-    (case : Case) → Accepted case → case .road .kind ≡ Kind.Multilane
-    → 100 * flowRateIn (answerTo case) ≤ capacityIn (answerTo case)
-    → WithinTolerance (freeFlowSpeedIn (answerTo case)) (flowRateIn (answerTo case)) (speedIn (answerTo case))
+-- of the speed in an answer, at the F and the v in it
+abbrev pub JustBelowIn : Answer → Type 0
+JustBelowIn answer = JustBelowManualCurve (freeFlowSpeedIn answer) (flowRateIn answer) (speedIn answer)
 
--- An accepted case, of either kind, gets one of A to E exactly up to capacity.
+abbrev pub UpToCapacity : Answer → Type 0
+UpToCapacity answer = 100 * flowRateIn answer ≤ capacityIn answer
+
+abbrev pub AnswerJustBelow : Type 0
+AnswerJustBelow =
+    (case : Case) → Accepted case → case .road .kind ≡ Kind.Multilane → UpToCapacity (answerTo case) → JustBelowIn (answerTo case)
+
+-- of either kind
 abbrev pub AToEUpToCapacity : Type 0
-AToEUpToCapacity =
-    (case : Case) → Accepted case → (100 * flowRateIn (answerTo case) ≤ capacityIn (answerTo case)) ↔ (letterIn (answerTo case) ≤ 5)
+AToEUpToCapacity = (case : Case) → Accepted case → UpToCapacity (answerTo case) ↔ (letterIn (answerTo case) ≤ 5)
+
+abbrev pub AToEJustBelow : Type 0
+AToEJustBelow =
+    (case : Case) → Accepted case → case .road .kind ≡ Kind.Multilane → letterIn (answerTo case) ≤ 5 → JustBelowIn (answerTo case)
 
 abbrev pub NoSpeedAboveCapacity : Type 0
-NoSpeedAboveCapacity =
-    (case : Case) → Accepted case → capacityIn (answerTo case) < 100 * flowRateIn (answerTo case) → speedIn (answerTo case) ≡ 0
+NoSpeedAboveCapacity = (case : Case) → Accepted case → (UpToCapacity (answerTo case) → ⊥) → speedIn (answerTo case) ≡ 0
