@@ -1,5 +1,6 @@
 -- Three cases with their answers; proofs/Instances works the figures out, and that the speed is just below the curve is by the promises.
 --   firstFigures a        letter, F, c, v and speed of an answer
+--   AnsweredJustBelow case figures   these five in the answer to a case, up to capacity, and the speed just below the curve
 --   farthest              M G 69923 120 60 60 D 0 2 4584 1000 0 L
 --   AnswerToFarthest      it gets E
 --   atCapacity            M G 65000 120 60 60 D 0 2 4600 1000 0 L
@@ -21,21 +22,20 @@ use Rattle.accuracy.specs.Promises.{freeFlowSpeedIn, capacityIn, flowRat
 abbrev pub firstFigures : Answer → List ℕ
 firstFigures answer = letterIn answer ∷ freeFlowSpeedIn answer ∷ capacityIn answer ∷ flowRateIn answer ∷ speedIn answer ∷ []
 
+abbrev pub AnsweredJustBelow : Case → List ℕ → Type 0
+AnsweredJustBelow case figures = (firstFigures (answerTo case) ≡ figures) × UpToCapacity (answerTo case) × JustBelowIn (answerTo case)
+
 abbrev pub farthest : Case
 farthest = twoLanes (given Kind.Multilane 69923 120) 4584
 
 abbrev pub AnswerToFarthest : Type 0
-AnswerToFarthest =
-    (firstFigures (answerTo farthest) ≡ 5 ∷ 69923 ∷ 230000 ∷ 2292 ∷ 51307 ∷ []) × UpToCapacity (answerTo farthest)
-    × JustBelowIn (answerTo farthest)
+AnswerToFarthest = AnsweredJustBelow farthest (5 ∷ 69923 ∷ 230000 ∷ 2292 ∷ 51307 ∷ [])
 
 abbrev pub atCapacity : Case
 atCapacity = twoLanes (given Kind.Multilane 65000 120) 4600
 
 abbrev pub AnswerAtCapacity : Type 0
-AnswerAtCapacity =
-    (firstFigures (answerTo atCapacity) ≡ 5 ∷ 65000 ∷ 230000 ∷ 2300 ∷ 51111 ∷ []) × UpToCapacity (answerTo atCapacity)
-    × JustBelowIn (answerTo atCapacity)
+AnswerAtCapacity = AnsweredJustBelow atCapacity (5 ∷ 65000 ∷ 230000 ∷ 2300 ∷ 51111 ∷ [])
 
 abbrev pub aboveCapacity : Case
 aboveCapacity = twoLanes (given Kind.Multilane 65000 120) 4601
