@@ -2,7 +2,7 @@
 --   ShownBelow f v s k   at F and v the shown speed is s, k whole thousandths of mi/h below the manual's curve
 --   DistancesShown       the farthest that the comparison finds, and the same flow rate at the highest F; just past the breakpoint, and at
 --                        it; halfway from there to capacity; at capacity, with the highest c and with the lowest; and two points at which
---                        the curve is all but a whole number: with the exponent 1.3101 or 1.3099 they would be 8 and 3 below
+--                        the curve is all but a whole number: with the exponent 1.3101 the first would be 8 below, with 1.3099 the second 3
 --   FarthestJustBelow    the farthest of them is less than 26 below, worked out without the theorem; less than 22 it is not
 -- Assumes nothing.
 use mathlib.Core.Path.{_≡_}
