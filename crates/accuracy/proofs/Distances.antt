@@ -1,7 +1,7 @@
 -- The points of specs/Distances, worked out by whole powers.
 --   distances-shown, farthest-just-below
 -- Assumes nothing.
-use mathlib.Core.Path.{_≡_, refl}
+use mathlib.Core.Path.{refl}
 use native.Mathlib.Omega.{arith}
 use native.Mathlib.Nat.{not-le-of-lt}
 use lib.Dec.{lit<, lit≤}

@@ -3,8 +3,7 @@
 --   table-step-at-most-1310, table-step-reaches-1310
 -- Assumes nothing.
 use mathlib.Core.Path.{_≡_}
-use mathlib.Core.Logic.{_↔_}
-use Prim.Native.Nat.{ℕ, _*_, _-_, _^_, _≤_, _<_, zero-le}
+use Prim.Native.Nat.{ℕ, _*_, _-_, _^_, _<_, zero-le}
 use native.Mathlib.Omega.{arith}
 use native.Mathlib.Nat.{mul-le-mul-left, mul-le-mul-right, mul-zero, pow-le-pow-left, le-trans, le-of-mul-le-mul-right, one-le-pow}
 use Rattle.curve.specs.declared.kind.Kind.the-variants as Kind

@@ -34,10 +34,8 @@ use Rattle.curve.proofs.WeatherLaws.{adjustedSpeed-clear, curveUnder-clear}
 use Rattle.curve.proofs.SpeedLaws.{place, place-le, reducedNumerator, reducedSpeed, reducedSpeed-denominator-pos, speed-reduced}
 use Rattle.curve.proofs.SpeedLaws.{speed-denominator-pos}
 use Rattle.curve.proofs.ServiceLaws.{density-le, letterAt-le-iff}
-use Rattle.road.specs.declared.Case.{Case}
 use Rattle.road.specs.FreeFlowSpeed.{freeFlowSpeed}
 use Rattle.road.proofs.FreeFlowSpeedLaws.{freeFlowSpeed-le}
-use Rattle.method.specs.Refusals.{Accepted}
 use Rattle.method.specs.Checked.{curveOf, caseCurve}
 use Rattle.method.specs.Flow.{caseFlowRate}
 use Rattle.method.specs.Assess.{measures}
@@ -164,9 +162,8 @@ clear-just-below kind weather f v e w slow fast =
 pub answer-just-below : AnswerJustBelow
 unfolding graded measures performance curveOf
 answer-just-below case accepted e within =
-    let v = caseFlowRate case in
     rw (answerTo-accepted case accepted)
-    (clear-just-below (case .road .kind) (case .weather) (freeFlowSpeed (case .road) (case .lanes)) v e
+    (clear-just-below (case .road .kind) (case .weather) (freeFlowSpeed (case .road) (case .lanes)) (caseFlowRate case) e
     (multilane-is-in-clear-weather case accepted e) (accepted-adjusted case accepted) (freeFlowSpeed-le (case .road) (case .lanes))
     (rw (answerTo-accepted case accepted) at within))
 

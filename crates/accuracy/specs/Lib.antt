@@ -3,7 +3,7 @@
 --   Promises      the theorem: at most the curve, and less than 26 thousandths of mi/h below it
 --   Laws          the ends and the shape of the curve, and the step of the table of powers
 --   Distances     points with their distances
---   Instances     two cases with their answers
+--   Instances     three cases with their answers
 pub mod ManualCurve
 pub mod Promises
 pub mod Laws
