@@ -5,7 +5,7 @@
 --   ShownSpeedJustBelow           the theorem, for every F from 45,000 to 70,000 and every flow rate up to capacity
 --   freeFlowSpeedIn a, capacityIn a, flowRateIn a, speedIn a   these figures of a graded answer
 --   JustBelowIn a                 the speed in it is just below the manual's curve at the F and the v in it
---   UpToCapacity a                the v in it is at most the c in it
+--   UpToCapacity a                100v ≤ c, of the v and the c in it
 --   AnswerJustBelow               the theorem of the answer to an accepted multilane case, up to capacity
 --   AToEUpToCapacity              an accepted case gets one of A to E exactly up to capacity
 --   AToEJustBelow                 so it holds with a letter from A to E
