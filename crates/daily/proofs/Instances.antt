@@ -1,0 +1,151 @@
+-- Instances of the promises (specs/Instances), shown.
+--   printed-figures    the printed road with 40,404 a day
+--   refusals-shown, instances-shown   each instance is what is to be shown
+-- Assumes nothing.
+use mathlib.Core.Path.{_≡_, refl, ap, _∙_}
+use mathlib.Core.Logic.{_↔_}
+use mathlib.Core.List.{List, [], _∷_, _++_, map}
+use Prim.Native.Nat.{ℕ, suc, _+_, _≤_, _<_}
+use native.Mathlib.Omega.{arith}
+use native.Mathlib.Decide.{decLe}
+use lib.Dec.{T, leb, leb→le, le→leb, lit≤}
+use lib.ListN.{drop, getD}
+use Rattle.numbers.specs.Division.{divUp}
+use Rattle.checks.specs.Figures.{Shown}
+use Rattle.curve.specs.Curves.{capacity, breakpoint}
+use Rattle.curve.specs.Weather.{adjustedSpeed, adjustedCapacity, adjustedBreakpoint, curveUnder}
+use Rattle.curve.specs.Speed.{fallShareBy, speed, shownSpeed}
+use Rattle.curve.specs.Service.{density, shownDensity, densityLimit, densityLetter, letterAt, performance, letterNumber}
+use Rattle.curve.specs.declared.service.Letter.{Letter}
+use Rattle.curve.specs.declared.service.Letter.the-variants as Letter
+use Rattle.road.specs.declared.Case.{Case}
+use Rattle.road.specs.FreeFlowSpeed.{uncappedBy, freeFlowSpeed}
+use Rattle.road.specs.Refusals.{weatherUnfit, roadRefusals, loadRefusals, fieldRefusals}
+use Rattle.method.specs.Refusals.{speedRefusals, refusals, Accepted}
+use Rattle.method.specs.Checked.{curveOf}
+use Rattle.method.specs.Flow.{heavyFactor, flowRate}
+use Rattle.method.specs.Assess.{measures}
+use Rattle.method.specs.Boundary.{example}
+use Rattle.answer.specs.Answers.{graded}
+use Rattle.answer.proofs.Boundary.{example-accepted, example-figures}
+use Rattle.daily.specs.declared.Shares.{Shares}
+use Rattle.daily.specs.Daily.{greatestDailyTraffic, sharesUnfit, trafficRefusals, hourlyDemand, hourlyCase, dailyAnswer, values}
+use Rattle.daily.specs.Promises.{AcceptedTraffic, letterIn, dailyVolumeIn, MeetsByDay, byTheDay}
+use Rattle.daily.specs.Instances.{sharesOf, urban, eightLanes, volumesIn, printedFigures, refusalInstances, dailyInstances}
+use Rattle.daily.proofs.DailyLaws.{accepted-of, answer-accepted}
+use Rattle.daily.proofs.Promises.{figures-of-the-hour, divided, meets-up-to-the-daily-volume}
+
+pub refusals-shown : Shown refusalInstances
+unfolding divUp weatherUnfit roadRefusals loadRefusals fieldRefusals refusals sharesUnfit trafficRefusals hourlyDemand refusalInstances
+refusals-shown = (refl, (refl, (refl, (refl, (refl, (refl, (refl, (refl, (refl, (refl, (refl, tt)))))))))))
+
+-- ---- the printed road
+printed-accepted : AcceptedTraffic example urban 40404
+unfolding divUp sharesUnfit trafficRefusals hourlyDemand
+printed-accepted = accepted-of example urban 40404 refl example-accepted
+
+pub printed-figures : values (dailyAnswer example urban 40404) ≡ printedFigures
+unfolding divUp hourlyDemand
+printed-figures =
+    figures-of-the-hour example urban 40404 printed-accepted .0
+    ∙ ap (λ figures. figures ++ map (byTheDay urban) (drop 6 figures)) example-figures
+
+-- a daily traffic meets a letter of the printed road exactly when it is at most the figure above
+printed-meets : (n daily : ℕ) → 1 ≤ n → n ≤ 5 → daily ≤ greatestDailyTraffic
+    → MeetsByDay example urban daily n ↔ (daily ≤ getD printedFigures (10 + n) 0)
+printed-meets n daily h k most =
+    rw (ap (λ ns. getD ns (10 + n) 0) printed-figures)
+    at (meets-up-to-the-daily-volume example urban 40404 printed-accepted n h k daily most)
+
+-- a letter by what is met: it, and not the next better one
+letter-is : (daily n : ℕ) → MeetsByDay example urban daily (suc n) → (MeetsByDay example urban daily n → ⊥)
+    → letterIn (dailyAnswer example urban daily) ≡ suc n
+letter-is daily n met fails = go (decLe (letterIn (dailyAnswer example urban daily)) n)
+  where
+    go : Dec (letterIn (dailyAnswer example urban daily) ≤ n) → letterIn (dailyAnswer example urban daily) ≡ suc n
+    go (yes l) = absurd (fails (met .0, l))
+    go (no l) = omega (arith, met .1)
+
+-- A is 1, and no letter is before it
+letterNumber-ge : (l : Letter) → 1 ≤ letterNumber l
+letterNumber-ge Letter.A = omega arith
+letterNumber-ge Letter.B = omega arith
+letterNumber-ge Letter.C = omega arith
+letterNumber-ge Letter.D = omega arith
+letterNumber-ge Letter.E = omega arith
+letterNumber-ge Letter.F = omega arith
+
+letter-ge : (daily : ℕ) → AcceptedTraffic example urban daily → 1 ≤ letterIn (dailyAnswer example urban daily)
+letter-ge daily z = rw (answer-accepted example urban daily z) (letterNumber-ge (graded (hourlyCase example urban daily) .letter))
+
+printed-letters : map (λ daily. letterIn (dailyAnswer example urban daily)) (53373 ∷ 53374 ∷ 0 ∷ []) ≡ 3 ∷ 4 ∷ 1 ∷ []
+printed-letters =
+    rw (
+      letter-is 53373 2 (printed-meets 3 53373 (omega arith) (omega arith) (omega arith) .1 (lit≤ tt))
+          (λ m. le→leb 53373 36949 (printed-meets 2 53373 (omega arith) (omega arith) (omega arith) .0 m)),
+      letter-is 53374 3 (printed-meets 4 53374 (omega arith) (omega arith) (omega arith) .1 (lit≤ tt))
+          (λ m. le→leb 53374 53373 (printed-meets 3 53374 (omega arith) (omega arith) (omega arith) .0 m)),
+      letter-is 0 0 (printed-meets 1 0 (omega arith) (omega arith) (omega arith) .1 (lit≤ tt))
+          (λ m. omega (arith, m .1, letter-ge 0 (m .0))),
+    )
+
+-- ---- 8 lanes at 75,000
+-- a daily service volume by letters: it gets the letter or a better one, and one more, up to the end, a worse one
+volume-is : (shares : Shares) (n daily : ℕ) → AcceptedTraffic eightLanes shares 0 → T (leb 1 n) → T (leb n 5)
+    → T (leb daily greatestDailyTraffic) → MeetsByDay eightLanes shares daily n
+    → (suc daily ≤ greatestDailyTraffic → T (leb (letterIn (dailyAnswer eightLanes shares (suc daily))) n) → ⊥)
+    → dailyVolumeIn (dailyAnswer eightLanes shares 0) n ≡ daily
+volume-is shares n daily z h k most met worse = go (decLe volume daily)
+  where
+    volume : ℕ
+    volume = dailyVolumeIn (dailyAnswer eightLanes shares 0) n
+
+    up-to : (daily : ℕ) → daily ≤ greatestDailyTraffic → MeetsByDay eightLanes shares daily n ↔ (daily ≤ volume)
+    up-to = meets-up-to-the-daily-volume eightLanes shares 0 z n (leb→le 1 n h) (leb→le n 5 k)
+
+    go : Dec (volume ≤ daily) → volume ≡ daily
+    go (yes l) = omega (arith, up-to daily (leb→le daily greatestDailyTraffic most) .0 met)
+    go (no l) =
+        let end : volume ≤ greatestDailyTraffic = omega (arith, divided eightLanes shares 0 z n (leb→le 1 n h) (leb→le n 5 k)) in
+        let next : suc daily ≤ greatestDailyTraffic = omega arith in
+        absurd (worse next (le→leb _ n (up-to (suc daily) next .1 (omega arith) .1)))
+
+past-the-end : {A : Type 0} → suc greatestDailyTraffic ≤ greatestDailyTraffic → A → ⊥
+past-the-end l _ = omega arith
+
+eight-lanes : (volumesIn (dailyAnswer eightLanes (sharesOf 2 2) 0) ≡ 1650000000 ∷ 2656000000 ∷ 3552000000 ∷ 4000000000 ∷ 4000000000 ∷ [])
+    × (volumesIn (dailyAnswer eightLanes (sharesOf 1 1) 0) ≡ 4000000000 ∷ 4000000000 ∷ 4000000000 ∷ 4000000000 ∷ 4000000000 ∷ [])
+    × (volumesIn (dailyAnswer eightLanes (sharesOf 1000 1000) 0) ≡ 6600 ∷ 10624 ∷ 14208 ∷ 17040 ∷ 19200 ∷ [])
+unfolding divUp uncappedBy freeFlowSpeed weatherUnfit roadRefusals loadRefusals fieldRefusals adjustedSpeed speedRefusals refusals capacity
+    breakpoint adjustedCapacity adjustedBreakpoint curveUnder curveOf heavyFactor flowRate fallShareBy speed shownSpeed density
+    shownDensity densityLimit densityLetter letterAt performance measures graded sharesUnfit trafficRefusals hourlyDemand
+eight-lanes =
+    (
+      rw (
+        volume-is (sharesOf 2 2) 1 1650000000 refl tt tt tt (refl, lit≤ tt) (λ _ t. t),
+        volume-is (sharesOf 2 2) 2 2656000000 refl tt tt tt (refl, lit≤ tt) (λ _ t. t),
+        volume-is (sharesOf 2 2) 3 3552000000 refl tt tt tt (refl, lit≤ tt) (λ _ t. t),
+        volume-is (sharesOf 2 2) 4 4000000000 refl tt tt tt (refl, lit≤ tt) past-the-end,
+        volume-is (sharesOf 2 2) 5 4000000000 refl tt tt tt (refl, lit≤ tt) past-the-end,
+      ),
+      rw (
+        volume-is (sharesOf 1 1) 1 4000000000 refl tt tt tt (refl, lit≤ tt) past-the-end,
+        volume-is (sharesOf 1 1) 2 4000000000 refl tt tt tt (refl, lit≤ tt) past-the-end,
+        volume-is (sharesOf 1 1) 3 4000000000 refl tt tt tt (refl, lit≤ tt) past-the-end,
+        volume-is (sharesOf 1 1) 4 4000000000 refl tt tt tt (refl, lit≤ tt) past-the-end,
+        volume-is (sharesOf 1 1) 5 4000000000 refl tt tt tt (refl, lit≤ tt) past-the-end,
+      ),
+      rw (
+        volume-is (sharesOf 1000 1000) 1 6600 refl tt tt tt (refl, lit≤ tt) (λ _ t. t),
+        volume-is (sharesOf 1000 1000) 2 10624 refl tt tt tt (refl, lit≤ tt) (λ _ t. t),
+        volume-is (sharesOf 1000 1000) 3 14208 refl tt tt tt (refl, lit≤ tt) (λ _ t. t),
+        volume-is (sharesOf 1000 1000) 4 17040 refl tt tt tt (refl, lit≤ tt) (λ _ t. t),
+        volume-is (sharesOf 1000 1000) 5 19200 refl tt tt tt (refl, lit≤ tt) (λ _ t. t),
+      ),
+    )
+
+pub instances-shown : Shown dailyInstances
+unfolding divUp hourlyDemand dailyInstances
+instances-shown =
+    let eight = eight-lanes in
+    (refl, (rw (printed-accepted, printed-figures), (printed-letters, (eight .0, (eight .1, (eight .2, tt))))))

@@ -1,0 +1,9 @@
+-- The laws of the definitions in specs/.
+--   WithinLaws   hourly demand, and the daily traffic that a service volume lets pass
+--   DailyLaws    the answer by its refusals, and the daily service volumes by the engine's
+--   Promises     what a reader of an answer is promised
+--   Instances    instances of the promises
+pub mod WithinLaws
+pub mod DailyLaws
+pub mod Promises
+pub mod Instances
