@@ -1,5 +1,6 @@
 -- The answer by its refusals (specs/Daily), and the daily service volumes by those in the engine's answer.
 --   refused-in-order   the refusals as one list
+--   number-le          no refusal has a number above 21
 --   accepted-parts, accepted-of   what is accepted: neither 20 nor 21 nor the engine refuses it
 --   answer-fits        where 20 and 21 do not refuse: the engine's answer decides
 --   answer-accepted    what is accepted gets the engine's grade and the daily service volumes
@@ -9,6 +10,7 @@
 --   dailyVolume-eq     a daily service volume is the greatest daily traffic within the service volume in the engine's answer
 --   volumes-eq         the five of them
 --   by-letter          what holds of 1 to 5 by number
+--   refused-with       an answer with a number above 0 is that refusal
 --   answer-stopped     what 20 or 21 refuses
 --   engine-answers, engine-accepted, answer-graded, answer-refused   what is answered by what the engine answers
 -- Assumes nothing.
@@ -26,12 +28,12 @@ use Rattle.numbers.proofs.BoolLaws.{leb-test}
 use Rattle.numbers.proofs.SearchLaws.{greatest-cong}
 use Rattle.checks.specs.Refusals.{firstRefusal}
 use Rattle.checks.proofs.RefusalLaws.{firstRefusal-none, firstRefusal-some, firstRefusal-join, unlessRefused-none}
-use Rattle.checks.proofs.RefusalLaws.{unlessRefused-some, unlessRefused-by}
+use Rattle.checks.proofs.RefusalLaws.{unlessRefused-some, unlessRefused-by, firstRefusal-le}
 use Rattle.road.specs.declared.Case.{Case}
 use Rattle.road.specs.Cases.{withDemand}
-use Rattle.road.specs.Refusals.{greatestDemand}
+use Rattle.road.specs.Refusals.{greatestDemand, roadRefusals, loadRefusals, fieldRefusals}
 use Rattle.road.proofs.RefusalLaws.{load-ends}
-use Rattle.method.specs.Refusals.{refusals, refusal, Accepted}
+use Rattle.method.specs.Refusals.{speedRefusals, refusals, Accepted}
 use Rattle.method.proofs.RefusalLaws.{accepted-fields}
 use Rattle.answer.specs.declared.evaluate.Volumes.{Volumes}
 use Rattle.answer.specs.declared.evaluate.Grade.{Grade}
@@ -47,6 +49,7 @@ use Rattle.answer.proofs.AnswerLaws.{answerTo-accepted, answerTo-number, Meets-
 use Rattle.answer.proofs.Laws.{figures-within-ends}
 use Rattle.answer.proofs.Promises.{meets-up-to-the-service-volume}
 use Rattle.daily.specs.declared.Shares.{Shares}
+use Rattle.daily.specs.declared.DailyAnswer.{DailyAnswer}
 use Rattle.daily.specs.declared.DailyAnswer.the-variants as DailyAnswer
 use Rattle.daily.specs.Daily.{greatestDailyTraffic, trafficRefusals, TrafficFits, hourlyDemand, hourlyCase, dailyVolume}
 use Rattle.daily.specs.Daily.{dailyVolumes, withVolumes, dailyAnswer, refusalNumber}
@@ -93,8 +96,18 @@ module _ (case : Case) (shares : Shares) (daily : ℕ) where
       let (fits, a) = accepted-parts z in
       answer-fits fits ∙ ap (λ x. withVolumes x (dailyVolumes case shares)) (answerTo-accepted hourly a)
 
+-- an answer with a number above 0 is that refusal
+pub refused-with : (a : DailyAnswer) (n : ℕ) → refusalNumber a ≡ n → 0 < n → a ≡ DailyAnswer.Refused n
+refused-with (DailyAnswer.Graded grade volumes) n e p = absurd (omega arith)
+refused-with (DailyAnswer.Refused number) n e p = ap DailyAnswer.Refused e
+
 pub refused-in-order : RefusedInOrder
 refused-in-order = in-order
+
+pub number-le : (case : Case) (shares : Shares) (daily : ℕ) → refusalNumber (dailyAnswer case shares daily) ≤ 21
+unfolding roadRefusals loadRefusals fieldRefusals speedRefusals refusals trafficRefusals
+number-le case shares daily =
+    rw (in-order case shares daily) (firstRefusal-le 21 (trafficRefusals shares daily ++ refusals (hourlyCase case shares daily)) tt)
 
 -- ---- letters and volumes by number
 pub by-letter : (P : ℕ → Type 0) → P 1 → P 2 → P 3 → P 4 → P 5 → (n : ℕ) → 1 ≤ n → n ≤ 5 → P n

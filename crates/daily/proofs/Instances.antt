@@ -1,5 +1,5 @@
 -- Instances of the promises (specs/Instances), shown.
---   printed-figures    the printed road with 40,404 a day
+--   printed-accepted, printed-figures   the printed road with 40,404 a day
 --   refusals-shown, instances-shown   each instance is what is to be shown
 -- Assumes nothing.
 use mathlib.Core.Path.{_≡_, refl, ap, _∙_}
@@ -29,9 +29,9 @@ use Rattle.method.specs.Boundary.{example}
 use Rattle.answer.specs.Answers.{graded}
 use Rattle.answer.proofs.Boundary.{example-accepted, example-figures}
 use Rattle.daily.specs.declared.Shares.{Shares}
-use Rattle.daily.specs.Daily.{greatestDailyTraffic, sharesUnfit, trafficRefusals, hourlyDemand, hourlyCase, dailyAnswer, values}
+use Rattle.daily.specs.Daily.{greatestDailyTraffic, sharesOf, sharesUnfit, trafficRefusals, hourlyDemand, hourlyCase, dailyAnswer, values}
 use Rattle.daily.specs.Promises.{AcceptedTraffic, letterIn, dailyVolumeIn, MeetsByDay, byTheDay}
-use Rattle.daily.specs.Instances.{sharesOf, urban, eightLanes, volumesIn, printedFigures, refusalInstances, dailyInstances}
+use Rattle.daily.specs.Instances.{urban, eightLanes, volumesIn, printedFigures, refusalInstances, dailyInstances}
 use Rattle.daily.proofs.DailyLaws.{accepted-of, answer-accepted}
 use Rattle.daily.proofs.Promises.{figures-of-the-hour, divided, meets-up-to-the-daily-volume}
 
@@ -40,7 +40,7 @@ unfolding divUp weatherUnfit roadRefusals loadRefusals fieldRefusals refusals sh
 refusals-shown = (refl, (refl, (refl, (refl, (refl, (refl, (refl, (refl, (refl, (refl, (refl, tt)))))))))))
 
 -- ---- the printed road
-printed-accepted : AcceptedTraffic example urban 40404
+pub printed-accepted : AcceptedTraffic example urban 40404
 unfolding divUp sharesUnfit trafficRefusals hourlyDemand
 printed-accepted = accepted-of example urban 40404 refl example-accepted
 
@@ -119,30 +119,29 @@ eight-lanes : (volumesIn (dailyAnswer eightLanes (sharesOf 2 2) 0) ≡ 165000000
 unfolding divUp uncappedBy freeFlowSpeed weatherUnfit roadRefusals loadRefusals fieldRefusals adjustedSpeed speedRefusals refusals capacity
     breakpoint adjustedCapacity adjustedBreakpoint curveUnder curveOf heavyFactor flowRate fallShareBy speed shownSpeed density
     shownDensity densityLimit densityLetter letterAt performance measures graded sharesUnfit trafficRefusals hourlyDemand
-eight-lanes =
-    (
-      rw (
-        volume-is (sharesOf 2 2) 1 1650000000 refl tt tt tt (refl, lit≤ tt) (λ _ t. t),
-        volume-is (sharesOf 2 2) 2 2656000000 refl tt tt tt (refl, lit≤ tt) (λ _ t. t),
-        volume-is (sharesOf 2 2) 3 3552000000 refl tt tt tt (refl, lit≤ tt) (λ _ t. t),
-        volume-is (sharesOf 2 2) 4 4000000000 refl tt tt tt (refl, lit≤ tt) past-the-end,
-        volume-is (sharesOf 2 2) 5 4000000000 refl tt tt tt (refl, lit≤ tt) past-the-end,
-      ),
-      rw (
-        volume-is (sharesOf 1 1) 1 4000000000 refl tt tt tt (refl, lit≤ tt) past-the-end,
-        volume-is (sharesOf 1 1) 2 4000000000 refl tt tt tt (refl, lit≤ tt) past-the-end,
-        volume-is (sharesOf 1 1) 3 4000000000 refl tt tt tt (refl, lit≤ tt) past-the-end,
-        volume-is (sharesOf 1 1) 4 4000000000 refl tt tt tt (refl, lit≤ tt) past-the-end,
-        volume-is (sharesOf 1 1) 5 4000000000 refl tt tt tt (refl, lit≤ tt) past-the-end,
-      ),
-      rw (
-        volume-is (sharesOf 1000 1000) 1 6600 refl tt tt tt (refl, lit≤ tt) (λ _ t. t),
-        volume-is (sharesOf 1000 1000) 2 10624 refl tt tt tt (refl, lit≤ tt) (λ _ t. t),
-        volume-is (sharesOf 1000 1000) 3 14208 refl tt tt tt (refl, lit≤ tt) (λ _ t. t),
-        volume-is (sharesOf 1000 1000) 4 17040 refl tt tt tt (refl, lit≤ tt) (λ _ t. t),
-        volume-is (sharesOf 1000 1000) 5 19200 refl tt tt tt (refl, lit≤ tt) (λ _ t. t),
-      ),
-    )
+eight-lanes = (
+  rw (
+    volume-is (sharesOf 2 2) 1 1650000000 refl tt tt tt (refl, lit≤ tt) (λ _ t. t),
+    volume-is (sharesOf 2 2) 2 2656000000 refl tt tt tt (refl, lit≤ tt) (λ _ t. t),
+    volume-is (sharesOf 2 2) 3 3552000000 refl tt tt tt (refl, lit≤ tt) (λ _ t. t),
+    volume-is (sharesOf 2 2) 4 4000000000 refl tt tt tt (refl, lit≤ tt) past-the-end,
+    volume-is (sharesOf 2 2) 5 4000000000 refl tt tt tt (refl, lit≤ tt) past-the-end,
+  ),
+  rw (
+    volume-is (sharesOf 1 1) 1 4000000000 refl tt tt tt (refl, lit≤ tt) past-the-end,
+    volume-is (sharesOf 1 1) 2 4000000000 refl tt tt tt (refl, lit≤ tt) past-the-end,
+    volume-is (sharesOf 1 1) 3 4000000000 refl tt tt tt (refl, lit≤ tt) past-the-end,
+    volume-is (sharesOf 1 1) 4 4000000000 refl tt tt tt (refl, lit≤ tt) past-the-end,
+    volume-is (sharesOf 1 1) 5 4000000000 refl tt tt tt (refl, lit≤ tt) past-the-end,
+  ),
+  rw (
+    volume-is (sharesOf 1000 1000) 1 6600 refl tt tt tt (refl, lit≤ tt) (λ _ t. t),
+    volume-is (sharesOf 1000 1000) 2 10624 refl tt tt tt (refl, lit≤ tt) (λ _ t. t),
+    volume-is (sharesOf 1000 1000) 3 14208 refl tt tt tt (refl, lit≤ tt) (λ _ t. t),
+    volume-is (sharesOf 1000 1000) 4 17040 refl tt tt tt (refl, lit≤ tt) (λ _ t. t),
+    volume-is (sharesOf 1000 1000) 5 19200 refl tt tt tt (refl, lit≤ tt) (λ _ t. t),
+  ),
+)
 
 pub instances-shown : Shown dailyInstances
 unfolding divUp hourlyDemand dailyInstances

@@ -54,8 +54,7 @@ figures-of-the-hour case shares daily z =
     let grade = graded (hourlyCase case shares daily) in
     let day : (volume : ℕ) → trafficWithin shares volume ≡ byTheDay shares volume =
     λ volume. trafficWithin-eq shares volume (product-pos shares (shares-fit shares daily fits)) in
-    rw (sym (answer-graded case shares daily fits grade engine), engine)
-    (
+    rw (sym (answer-graded case shares daily fits grade engine), engine) (
       rw (day (grade .«volume_a»), day (grade .«volume_b»), day (grade .«volume_c»), day (grade .«volume_d»), day (grade .«volume_e»)),
       refl,
     )
@@ -86,8 +85,7 @@ module _ (case : Case) (shares : Shares) (asked : ℕ) (z : AcceptedTraffic case
       let number = ap refusalNumber (answer-fits case shares daily fits)
       ∙ number-of (answerTo (hourlyCase case shares daily)) (dailyVolumes case shares) in
       let letter = ap letterIn (answer-fits case shares daily fits)
-      ∙ letter-of (answerTo (hourlyCase case shares daily)) (dailyVolumes case shares) in
-      (
+      ∙ letter-of (answerTo (hourlyCase case shares daily)) (dailyVolumes case shares) in (
         λ m. let l = divides .0 (here .0 (sym number ∙ m .0, rw letter at (m .1))) in rw (divided n h k) (omega arith),
         λ l. let m = here .1 (divides .1 (omega (arith, divided n h k))) in (number ∙ m .0, rw letter (m .1)),
       )
@@ -134,8 +132,7 @@ module _ (case : Case) (shares : Shares) (daily : ℕ) where
   exactly false false e f =
       let is : number ≡ engine-number = rw (e, f) at listed in
       let most = refusal-le (hourlyCase case shares daily) in
-      let r : SharesInRange shares = in-range shares e in
-      (
+      let r : SharesInRange shares = in-range shares e in (
         (λ n. absurd (omega arith), λ out. absurd (out r)),
         (λ n. absurd (omega arith), λ (_, above). absurd (omega (arith, ltb-false greatestDailyTraffic daily f))),
         λ _ _. is ∙ sym (answerTo-number (hourlyCase case shares daily)),

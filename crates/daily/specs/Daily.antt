@@ -1,6 +1,7 @@
 -- Daily volumes for the yearly table (document 02, T-06): a case whose own demand is not read, the shares K and D in thousandths, and
 -- daily traffic. Letter numbers: A is 1.
 --   greatestDailyTraffic          the greatest daily traffic that 21 lets pass
+--   sharesOf k d                  the shares K and D
 --   sharesUnfit shares            shares that 20 refuses
 --   trafficRefusals shares daily  20 and 21
 --   TrafficFits shares daily      neither refuses them
@@ -37,6 +38,9 @@ use Rattle.daily.specs.declared.DailyAnswer.the-variants as DailyAnswer
 -- "daily traffic above 4,000,000,000"
 abbrev pub greatestDailyTraffic : ℕ
 greatestDailyTraffic = 4000000000
+
+abbrev pub sharesOf : (k d : ℕ) → Shares
+sharesOf k d = record { peak = k; direction = d }
 
 -- "K or D out of range", "thousandths from 1 to 1,000"
 unfoldable pub sharesUnfit : Shares → Bool

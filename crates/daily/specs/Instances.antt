@@ -1,5 +1,4 @@
 -- Instances of the promises, with every hypothesis met; proofs/Instances shows each.
---   sharesOf k d     shares of K and D
 --   urban            K and D of source document 001 for urban roads
 --   eightLanes       F G 75000 120 60 60 D 0 8 V 1000 0 L
 --   narrow           F G 75000 99 60 60 D 0 2 V 1000 0 L, which 2 refuses
@@ -20,11 +19,8 @@ use Rattle.road.specs.Cases.{loaded, withLanes}
 use Rattle.method.specs.Boundary.{example, given, twoLanes, refusedByAll}
 use Rattle.daily.specs.declared.Shares.{Shares}
 use Rattle.daily.specs.declared.DailyAnswer.{DailyAnswer}
-use Rattle.daily.specs.Daily.{hourlyDemand, dailyAnswer, refusalNumber, values}
+use Rattle.daily.specs.Daily.{sharesOf, hourlyDemand, dailyAnswer, refusalNumber, values}
 use Rattle.daily.specs.Promises.{letterIn, dailyVolumeIn}
-
-abbrev pub sharesOf : ℕ → ℕ → Shares
-sharesOf k d = record { peak = k; direction = d }
 
 abbrev pub urban : Shares
 urban = sharesOf 90 550

@@ -52,7 +52,11 @@ fn shares_unfit(shares: Shares) -> bool
 fn traffic_refusal(shares: Shares, daily_traffic: u64) -> u64
     ensures { λ r. ⌜ r ≡ firstRefusal (trafficRefusals shares «daily_traffic») ⌝ }
 {
-    let too_large = checks::refused_if(GREATEST_DAILY_TRAFFIC < daily_traffic, DAILY_TRAFFIC_TOO_LARGE, 0);
+    let too_large = checks::refused_if(
+        GREATEST_DAILY_TRAFFIC < daily_traffic,
+        DAILY_TRAFFIC_TOO_LARGE,
+        0,
+    );
     checks::refused_if(shares_unfit(shares), SHARES_UNFIT, too_large)
 }
 

@@ -5,6 +5,7 @@
 use mathlib.Core.Path.{_≡_, refl, ap, _∙_}
 use mathlib.Core.List.{[], _∷_, _++_, flatMap}
 use Prim.Native.String.{_++_ as _then_}
+use lib.Dec.{lit≤}
 use lib.ListN.{length, drop, getD, replicate}
 use Rattle.text.specs.Bytes.{bytesOf}
 use Rattle.text.specs.Parts.{onFirst, parts}
@@ -21,6 +22,8 @@ use Rattle.answer.specs.Boundary.{exampleInSnow}
 use Rattle.answer.proofs.Boundary as answer-proofs
 use Rattle.day.specs.Instances.{exampleDemands, exampleDay}
 use Rattle.day.proofs.Instances.{example-day}
+use Rattle.daily.specs.Instances.{urban, printedFigures}
+use Rattle.daily.proofs.Instances.{printed-accepted, printed-figures}
 use Rattle.survey.specs.Boundary.{surveyFigures}
 use Rattle.survey.proofs.Boundary.{survey-shown}
 use Rattle.lines.specs.declared.read.LineRead.the-variants as LineRead
@@ -30,8 +33,8 @@ use Rattle.replies.specs.Texts.{refusalText, textOf, lineText}
 use Rattle.stream.specs.Stream.{texts, lastLine, withoutEmptyLast, linesOf, outputOf}
 use Rattle.replies.specs.Output.{lineTexts}
 use Rattle.replies.proofs.TextsLaws.{lineText-refused, lineText-case}
-use Rattle.marehour.specs.Calls.{dayCall, content}
-use Rattle.marehour.proofs.Laws.{day-call-is-the-day}
+use Rattle.marehour.specs.Calls.{dayCall, dailyCall, content}
+use Rattle.marehour.proofs.Laws.{day-call-is-the-day, daily-hands-back}
 use Rattle.marehour.specs.Boundary.{printedLine, printedAnswer, snowAnswer, longest, addedFigures, boundaryFigures}
 
 pub line-read : readLine (bytesOf printedLine) ≡ LineRead.Case example
@@ -76,6 +79,11 @@ output-shown =
 day-shown : content (dayCall (bytesOf printedLine) exampleDemands 38) (replicate 38 9) ≡ exampleDay
 day-shown = day-call-is-the-day (bytesOf printedLine) example line-read exampleDemands (replicate 38 9) .1 ∙ example-day
 
+daily-shown : content (dailyCall (bytesOf printedLine) urban 40404 17) (replicate 17 9) ≡ printedFigures ++ (9 ∷ [])
+daily-shown =
+    daily-hands-back (bytesOf printedLine) urban 40404 (replicate 17 9) .2 (lit≤ tt) example line-read .1 printed-accepted .1
+    ∙ ap (λ figures. figures ++ (9 ∷ [])) printed-figures
+
 added-shown : Shown addedFigures
 unfolding flatMap onFirst parts layout completed spelled number oneOf letter fieldAs valuesOf readValues readLine texts lastLine
     withoutEmptyLast linesOf outputOf addedFigures
@@ -88,8 +96,11 @@ added-shown = (
       (
         day-shown,
         (
-          ap (λ r. refusalNumber r ∷ values r) line-read,
-          (refl, (refl, (refl, (refl, (refl, (snow-shown, (refl, (refl, (refl, (factor-shown, (longest-shown, tt))))))))))),
+          daily-shown,
+          (
+            ap (λ r. refusalNumber r ∷ values r) line-read,
+            (refl, (refl, (refl, (refl, (refl, (snow-shown, (refl, (refl, (refl, (factor-shown, (longest-shown, tt))))))))))),
+          ),
         ),
       ),
     ),

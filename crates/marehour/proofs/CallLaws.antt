@@ -30,7 +30,6 @@ use Rattle.text.proofs.BufferLaws.{first-byte, then-byte}
 use Rattle.road.specs.declared.Case.{Case}
 use Rattle.lines.specs.declared.read.LineRead.{LineRead}
 use Rattle.lines.specs.declared.read.LineRead.the-variants as LineRead
-use Rattle.replies.specs.Texts.{longestAnswer}
 use Rattle.marehour.specs.Calls.{Reply, writes, refusal, countText, lineReply, lineCall, bufferRefusals, handedBack, result, content}
 
 -- ---- numbers in 32 bits
@@ -103,13 +102,13 @@ pub wrote-reply : (bs old new : List ℕ) (n : ℕ) (r : Reply) → length bs �
 wrote-reply bs old new n r h w e =
     let k : n ≡ length bs = w .ends ∙ omega arith in wrote length bs old new n r k (omega arith) (w .content) e
 
-pub buffer-short : (room : ℕ) → room < longestAnswer → 17 ≡ firstRefusal (bufferRefusals room)
+pub buffer-short : (least room : ℕ) → room < least → 17 ≡ firstRefusal (bufferRefusals least room)
 unfolding bufferRefusals
-buffer-short room h = rw (lt-ltb room longestAnswer h)
+buffer-short least room h = rw (lt-ltb room least h)
 
-pub buffer-fits : (room : ℕ) → longestAnswer ≤ room → firstRefusal (bufferRefusals room) ≡ 0
+pub buffer-fits : (least room : ℕ) → least ≤ room → firstRefusal (bufferRefusals least room) ≡ 0
 unfolding bufferRefusals
-buffer-fits room h = rw (le-ltb room longestAnswer h)
+buffer-fits least room h = rw (le-ltb room least h)
 
 -- ---- a lane count
 pub count-length : (count : ℕ) → count ≤ 9 → length (countText (count ∷ [])) ≡ 2

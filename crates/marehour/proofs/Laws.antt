@@ -1,17 +1,19 @@
 -- The laws of specs/Laws, proved.
 --   replies-within-ends, buffer-too-short, no-demand-is-refused, last-refusal-is-reached, day-hands-back, day-call-is-the-day,
---   position-is-the-lines-answer
+--   position-is-the-lines-answer, daily-hands-back
 -- Assumes nothing.
 use mathlib.Core.List.{List}
 use mathlib.Core.Logic.{⊎-elim}
-use mathlib.Core.Path.{_≡_, refl, sym, ap, _∙_}
+use mathlib.Core.Path.{_≡_, refl, sym, ap, subst, _∙_}
 use Prim.Native.Nat.{ℕ, _*_, _≤_, _<_}
 use native.Mathlib.Nat.{eq-zero-or-pos}
 use native.Mathlib.Omega.{arith}
-use lib.IntN.{pos}
+use lib.Dec.{lit≤}
+use lib.IntN.{pos, negℤ}
 use lib.ListN.{length}
 use Rattle.checks.specs.Refusals.{Refusal, firstRefusal}
 use Rattle.checks.proofs.RefusalLaws.{unlessRefused-none, unlessRefused-some, unlessRefused-by, firstRefusal-le}
+use Rattle.text.specs.Buffer.{written}
 use Rattle.text.specs.Parts.{onFirst, parts}
 use Rattle.road.specs.declared.Case.{Case}
 use Rattle.road.specs.Refusals.{weatherUnfit, roadRefusals, loadRefusals, fieldRefusals}
@@ -27,6 +29,10 @@ use Rattle.day.specs.Days.{mostDemands, figureCount, lentUnfit, lentRefusals, L
 use Rattle.day.specs.Promises.{position}
 use Rattle.day.proofs.DayLaws.{dayFigures-length, dayFigures-count, lent-number, day-refused, day-answered}
 use Rattle.day.proofs.Promises.{position-holds-the-answer, lent-fits-exactly}
+use Rattle.daily.specs.declared.Shares.{Shares}
+use Rattle.daily.specs.Daily as daily
+use Rattle.daily.specs.Daily.{sharesUnfit, trafficRefusals, dailyAnswer}
+use Rattle.daily.proofs.DailyLaws.{number-le, answer-accepted, refused-with}
 use Rattle.lines.specs.declared.read.LineRead.the-variants as LineRead
 use Rattle.lines.specs.Fields.{layout, completed, spelled, number, oneOf, letter, fieldAs, valuesOf}
 use Rattle.lines.specs.Reading.{caseOf, readValues, readLine}
@@ -34,54 +40,67 @@ use Rattle.lines.proofs.ReadingLaws.{readLine-by, readLine-refused}
 use Rattle.replies.specs.Texts.{longestAnswer}
 use Rattle.replies.proofs.TextsLaws.{answerText-le, answerText-pos}
 use Rattle.marehour.specs.Calls.{Reply, refusal as refusalReply, answerReply, countReply, caseReply, lanesReply, dayReply, lineReply}
-use Rattle.marehour.specs.Calls.{lineCall, bufferRefusals, dayCall, dayResult, content, resultOf}
-use Rattle.marehour.specs.Laws.{lastRefusal, WithinEnds, RepliesWithinEnds, BufferTooShort, NoDemandIsRefused, LastRefusalIsReached}
-use Rattle.marehour.specs.Laws.{DayHandsBack, DayCallIsTheDay, PositionIsTheLinesAnswer}
-use Rattle.marehour.proofs.CallLaws.{count-length, buffer-fits}
+use Rattle.marehour.specs.Calls.{figuresReply, dailyReply, lineCall, bufferRefusals, dayCall, dailyCall, result, dayResult, content}
+use Rattle.marehour.specs.Calls.{resultOf}
+use Rattle.marehour.specs.Laws.{lastRefusal, lastDailyRefusal, WithinEnds, RepliesWithinEnds, BufferTooShort, NoDemandIsRefused}
+use Rattle.marehour.specs.Laws.{LastRefusalIsReached, DailyHandsBack, DayHandsBack, DayCallIsTheDay, PositionIsTheLinesAnswer}
+use Rattle.marehour.proofs.CallLaws.{count-length, buffer-short, buffer-fits}
 
-answer-ends : (case : Case) → WithinEnds 1 longestAnswer (caseReply case)
+answer-ends : (case : Case) → WithinEnds 1 longestAnswer lastRefusal (caseReply case)
 answer-ends case =
-    unlessRefused-by (refusal case) (Answer.Graded (graded case)) Answer.Refused (λ a. WithinEnds 1 longestAnswer (answerReply a))
+    unlessRefused-by (refusal case) (Answer.Graded (graded case)) Answer.Refused (λ a. WithinEnds 1 longestAnswer lastRefusal (answerReply a))
     (λ z. (answerText-pos (Answer.Graded (graded case)), rw (answerTo-accepted case z) at (answerText-le case)))
     (λ p. (p, omega (arith, refusal-le case)))
 
-count-ends : (letter : ℕ) (case : Case) → WithinEnds 1 longestAnswer (lanesReply letter case)
+count-ends : (letter : ℕ) (case : Case) → WithinEnds 1 longestAnswer lastRefusal (lanesReply letter case)
 count-ends letter case =
     let number : ℕ = firstRefusal (lanesRefusals case letter) in
     let found = LanesAnswer.Lanes (lanesFound case letter) in
-    unlessRefused-by number found LanesAnswer.Refused (λ a. WithinEnds 1 longestAnswer (countReply a))
+    unlessRefused-by number found LanesAnswer.Refused (λ a. WithinEnds 1 longestAnswer lastRefusal (countReply a))
     (λ z. let long = count-length _
     (counts-are-digits case letter _ (ap values (unlessRefused-none number found LanesAnswer.Refused z))) in (omega arith, omega arith))
     (λ p. (p, omega (arith, refusals-within-ends case letter .1, lanesAnswer-number case letter)))
 
 day-ends : (demands : List ℕ) (room : ℕ) → LentFits (length demands) room → (case : Case)
-    → WithinEnds figureCount (mostDemands * figureCount) (dayReply demands case)
+    → WithinEnds figureCount (mostDemands * figureCount) lastRefusal (dayReply demands case)
 day-ends demands room z case =
     let fits = lent-fits-exactly (length demands) room .0 z in
     (omega (arith, dayFigures-length case demands, fits .0), omega (arith, dayFigures-length case demands, fits .1))
 
+daily-ends : (shares : Shares) (traffic : ℕ) (case : Case)
+    → WithinEnds daily.figureCount daily.figureCount lastDailyRefusal (dailyReply shares traffic case)
+daily-ends shares traffic case =
+    let answer = dailyAnswer case shares traffic in
+    let ends : Reply → Type 0 = WithinEnds daily.figureCount daily.figureCount lastDailyRefusal in
+    ⊎-elim (λ z. subst ends (sym (ap figuresReply (answer-accepted case shares traffic z))) (lit≤ tt, lit≤ tt))
+    (λ p. subst ends (sym (ap figuresReply (refused-with answer _ refl p))) (p, number-le case shares traffic)) (eq-zero-or-pos _)
+
 -- lent memory that is refused, a line that is refused with 15, or a case
-of-line : (least most : ℕ) (reply : Case → Reply) (lent : List Refusal) → firstRefusal lent ≤ lastRefusal
-    → (firstRefusal lent ≡ 0 → (case : Case) → WithinEnds least most (reply case)) → (line : List ℕ)
-    → WithinEnds least most (lineCall reply (readLine line) lent)
-of-line least most reply lent h ends line =
-    unlessRefused-by (firstRefusal lent) (lineReply reply (readLine line)) refusalReply (WithinEnds least most)
-    (λ z. readLine-by (λ r. WithinEnds least most (lineReply reply r)) (ends z) (omega arith, omega arith) line) (λ p. (p, h))
+of-line : (least most last : ℕ) (reply : Case → Reply) (lent : List Refusal) → 15 ≤ last → firstRefusal lent ≤ last
+    → (firstRefusal lent ≡ 0 → (case : Case) → WithinEnds least most last (reply case)) → (line : List ℕ)
+    → WithinEnds least most last (lineCall reply (readLine line) lent)
+of-line least most last reply lent k h ends line =
+    unlessRefused-by (firstRefusal lent) (lineReply reply (readLine line)) refusalReply (WithinEnds least most last)
+    (λ z. readLine-by (λ r. WithinEnds least most last (lineReply reply r)) (ends z) (omega arith, k) line) (λ p. (p, h))
 
 pub replies-within-ends : RepliesWithinEnds
 unfolding bufferRefusals lentRefusals
-replies-within-ends line letter room demands =
-    let buffer = firstRefusal-le lastRefusal (bufferRefusals room) tt in
+replies-within-ends line letter room demands shares traffic =
+    let buffer = bufferRefusals longestAnswer room in
+    let figures = bufferRefusals daily.figureCount room in
     let lent = lentRefusals (length demands) room in (
-      of-line 1 longestAnswer caseReply (bufferRefusals room) buffer (λ z. answer-ends) line,
-      of-line 1 longestAnswer (lanesReply letter) (bufferRefusals room) buffer (λ z. count-ends letter) line,
-      of-line figureCount (mostDemands * figureCount) (dayReply demands) lent (firstRefusal-le lastRefusal lent tt)
-          (day-ends demands room) line,
+      of-line 1 longestAnswer lastRefusal caseReply buffer (omega arith) (firstRefusal-le lastRefusal buffer tt) (λ z. answer-ends) line,
+      of-line 1 longestAnswer lastRefusal (lanesReply letter) buffer (omega arith) (firstRefusal-le lastRefusal buffer tt)
+          (λ z. count-ends letter) line,
+      of-line figureCount (mostDemands * figureCount) lastRefusal (dayReply demands) lent (omega arith)
+          (firstRefusal-le lastRefusal lent tt) (day-ends demands room) line,
+      of-line daily.figureCount daily.figureCount lastDailyRefusal (dailyReply shares traffic) figures (omega arith)
+          (firstRefusal-le lastDailyRefusal figures tt) (λ z. daily-ends shares traffic) line,
     )
 
 pub buffer-too-short : BufferTooShort
 unfolding bufferRefusals
-buffer-too-short line letter = (refl, refl)
+buffer-too-short line letter shares traffic = (refl, refl, refl)
 
 pub no-demand-is-refused : NoDemandIsRefused
 unfolding lentUnfit lentRefusals
@@ -89,8 +108,8 @@ no-demand-is-refused line room = refl
 
 pub last-refusal-is-reached : LastRefusalIsReached
 unfolding onFirst parts layout completed spelled number oneOf letter fieldAs valuesOf caseOf readValues readLine weatherUnfit roadRefusals
-    loadRefusals fieldRefusals refusals lanesRefusals bufferRefusals
-last-refusal-is-reached = (refl, refl)
+    loadRefusals fieldRefusals refusals lanesRefusals bufferRefusals sharesUnfit trafficRefusals
+last-refusal-is-reached = (refl, refl, refl)
 
 -- ---- a day
 -- lent memory that fits: the line decides
@@ -137,5 +156,34 @@ pub position-is-the-lines-answer : PositionIsTheLinesAnswer
 position-is-the-lines-answer line case demands old i e z h = (
   ap (position i) (day-call-is-the-day line case e demands old .1) ∙ position-holds-the-answer case demands old z i h,
   λ other room k long.
-      unlessRefused-none _ (lineReply caseReply (readLine other)) refusalReply (buffer-fits room long) ∙ ap (lineReply caseReply) k,
+      unlessRefused-none _ (lineReply caseReply (readLine other)) refusalReply (buffer-fits longestAnswer room long) ∙ ap (lineReply caseReply) k,
 )
+
+-- ---- a daily traffic
+pub daily-hands-back : DailyHandsBack
+unfolding written
+daily-hands-back line shares traffic old = (
+  λ short.
+      let own = buffer-short daily.figureCount (length old) short in
+      back (unlessRefused-some _ onLine refusalReply (omega (arith, own)) ∙ ap refusalReply (sym own)),
+  λ room n e. back (read room ∙ ap (lineReply reply) (e ∙ ap LineRead.Refused (readLine-refused line n e))),
+  λ room case e. (
+    λ n k p. back (read room ∙ ap (lineReply reply) e ∙ ap figuresReply (refused-with (dailyAnswer case shares traffic) n k p)),
+    λ z.
+        let wrote = read room ∙ ap (lineReply reply) e ∙ ap figuresReply (answer-accepted case shares traffic z) in
+        (ap result wrote, ap (λ r. content r old) wrote ∙ rw (answer-accepted case shares traffic z)),
+  ),
+)
+  where
+    reply : Case → Reply
+    reply = dailyReply shares traffic
+
+    onLine : Reply
+    onLine = lineReply reply (readLine line)
+
+    read : daily.figureCount ≤ length old → dailyCall line shares traffic (length old) ≡ onLine
+    read room = unlessRefused-none _ onLine refusalReply (buffer-fits daily.figureCount (length old) room)
+
+    back : {n : ℕ} → dailyCall line shares traffic (length old) ≡ refusalReply n
+        → (result (dailyCall line shares traffic (length old)) ≡ negℤ (pos n)) × (content (dailyCall line shares traffic (length old)) old ≡ old)
+    back e = (ap result e, ap (λ r. content r old) e)

@@ -1,5 +1,5 @@
 -- What the calls of a host in C hand back, and what the lent memory then holds (document 01, "Lines", "Refused, by who can cause it";
--- document 02, T-01).
+-- document 02, T-01 and T-06).
 --   Reply                  what is written from the start of the lent memory on, or a refusal's number
 --   replyOf n vs text      the reply of an answer with number n and values vs: its text, or the refusal where it has no values
 --   answerReply a          the reply of an answer
@@ -8,14 +8,17 @@
 --   caseReply case         the reply to a case
 --   lanesReply n case      the same for the lanes question and letter number n
 --   dayReply demands case  the same for a day of demands
+--   figuresReply a         the reply of an answer to a daily traffic
+--   dailyReply shares daily case   the same for a daily traffic and its shares
 --   lineReply reply r      the reply to a line that was read, by the reply to its case
 --   lineCall reply r lent  the reply of a call to a line that was read, by what refuses the lent memory
---   bufferRefusals room    17, of an answer buffer of room bytes
+--   bufferRefusals least room   17, of lent memory of room bytes or numbers that must have so many at least
 --   answerCall line room   the reply of the call for the answer to a line
 --   lanesCall line n room  the same for the lanes question and letter number n
 --   dayCall line demands room   the same for a day of demands, with room for so many numbers
+--   dailyCall line shares daily room   the same for a daily traffic and its shares, with room for so many numbers
 --   handedBack count r     what a call hands back, by how it counts what is written
---   result r               the same in bytes
+--   result r               the same in bytes, or in numbers where numbers are written
 --   answerCount ns         how many answers so many numbers are
 --   dayResult r            what a call hands back, in answers
 --   content r old          what the lent memory holds afterwards, if it held old
@@ -39,6 +42,10 @@ use Rattle.answer.specs.Answers.{answerTo}
 use Rattle.answer.specs.Lanes as lanes
 use Rattle.answer.specs.Lanes.{lanesAnswer}
 use Rattle.day.specs.Days.{figureCount, dayFigures, lentRefusals}
+use Rattle.daily.specs.declared.Shares.{Shares}
+use Rattle.daily.specs.declared.DailyAnswer.{DailyAnswer}
+use Rattle.daily.specs.Daily as daily
+use Rattle.daily.specs.Daily.{dailyAnswer}
 use Rattle.survey.specs.declared.SurveyAnswer.{SurveyAnswer}
 use Rattle.survey.specs.Survey as survey
 use Rattle.lines.specs.declared.read.LineRead.{LineRead}
@@ -75,7 +82,14 @@ lanesReply n case = countReply (lanesAnswer case n)
 abbrev pub dayReply : List ℕ → Case → Reply
 dayReply demands case = writes (dayFigures case demands)
 
--- "15 malformed line", before 16 and 1
+-- the figures as they are
+abbrev pub figuresReply : DailyAnswer → Reply
+figuresReply a = replyOf (daily.refusalNumber a) (daily.values a) (daily.values a)
+
+abbrev pub dailyReply : Shares → ℕ → Case → Reply
+dailyReply shares traffic case = figuresReply (dailyAnswer case shares traffic)
+
+-- "15 malformed line", before 16, 20 and 1
 abbrev pub lineReply : (Case → Reply) → LineRead → Reply
 lineReply reply (LineRead.Case case) = reply case
 lineReply reply (LineRead.Refused number) = refusal number
@@ -84,19 +98,23 @@ lineReply reply (LineRead.Refused number) = refusal number
 abbrev pub lineCall : (Case → Reply) → LineRead → List Refusal → Reply
 lineCall reply r lent = unlessRefused (firstRefusal lent) (lineReply reply r) refusal
 
--- "17 answer buffer under 64 bytes, first of all"
-unfoldable pub bufferRefusals : ℕ → List Refusal
-bufferRefusals room = refuses 17 (ltb room longestAnswer) ∷ []
+-- "17 answer buffer under 64 bytes, first of all", and fewer numbers than there are figures
+unfoldable pub bufferRefusals : ℕ → ℕ → List Refusal
+bufferRefusals least room = refuses 17 (ltb room least) ∷ []
 
 abbrev pub answerCall : List ℕ → ℕ → Reply
-answerCall line room = lineCall caseReply (readLine line) (bufferRefusals room)
+answerCall line room = lineCall caseReply (readLine line) (bufferRefusals longestAnswer room)
 
 abbrev pub lanesCall : List ℕ → ℕ → ℕ → Reply
-lanesCall line n room = lineCall (lanesReply n) (readLine line) (bufferRefusals room)
+lanesCall line n room = lineCall (lanesReply n) (readLine line) (bufferRefusals longestAnswer room)
 
 -- "18 .. before 1", and before 15, as it is about lent memory
 abbrev pub dayCall : List ℕ → List ℕ → ℕ → Reply
 dayCall line demands room = lineCall (dayReply demands) (readLine line) (lentRefusals (length demands) room)
+
+-- "20 .. before 1": behind 17 and 15, as 1 is
+abbrev pub dailyCall : List ℕ → Shares → ℕ → ℕ → Reply
+dailyCall line shares traffic room = lineCall (dailyReply shares traffic) (readLine line) (bufferRefusals daily.figureCount room)
 
 abbrev pub handedBack : (List ℕ → ℕ) → Reply → ℤ
 handedBack count (writes ns) = pos (count ns)

@@ -1,46 +1,62 @@
 -- Laws of the calls, stated; proofs/Laws proves them.
---   lastRefusal           19
---   WithinEnds least most r   so many bytes or numbers at least and at most; or a refusal from 1 to the last
---   RepliesWithinEnds     every call over a line replies so: 1 to 64 bytes, or 1 to 24 answers of twelve numbers; 0 is never handed back
---   BufferTooShort        a buffer of 63 bytes gets 17, whatever the line
+--   lastRefusal, lastDailyRefusal   19, and 21 of a call with a daily traffic
+--   WithinEnds least most last r   so many bytes or numbers at least and at most; or a refusal from 1 to the last
+--   RepliesWithinEnds     every call over a line replies so: 1 to 64 bytes, 1 to 24 answers of twelve numbers, or sixteen numbers; 0 is
+--                         never handed back
+--   BufferTooShort        a buffer of 63 bytes gets 17, and so do 15 numbers for daily figures, whatever the line
 --   NoDemandIsRefused     no demand gets 18, whatever the line and the room
---   LastRefusalIsReached  a line with a speed factor of 499 gets 19, asked for its answer and for its lanes
+--   LastRefusalIsReached  a line with a speed factor of 499 gets 19, asked for its answer and for its lanes, and 21 with a daily traffic of
+--                         4,000,000,001
 --   DayHandsBack          minus 18 where the lent memory does not fit; else minus 15 where the line is malformed; else the count of the
 --                         demands
 --   DayCallIsTheDay       a line that is read: the call's result and the lent numbers afterwards are those of `evaluate_day` for its case
 --   PositionIsTheLinesAnswer   position i and the reply to a line with demand i are those of one answer
+--   DailyHandsBack        minus 17 and nothing written where fewer than sixteen numbers are lent; else minus 15 where the line is
+--                         malformed; else minus the number of the daily answer's refusal, or sixteen and its figures from the start on
 -- Assumes nothing.
 use Prim.Native.Nat.{ℕ, _*_, _≤_, _<_}
 use mathlib.Core.Path.{_≡_}
-use mathlib.Core.List.{List, []}
+use mathlib.Core.List.{List, [], _++_}
 use lib.IntN.{pos, negℤ}
-use lib.ListN.{length, getD}
+use lib.ListN.{length, drop, getD}
 use Rattle.text.specs.Bytes.{bytesOf}
 use Rattle.road.specs.declared.Case.{Case}
 use Rattle.road.specs.Cases.{withDemand}
 use Rattle.answer.specs.Answers.{answerTo}
 use Rattle.day.specs.Days.{mostDemands, figureCount, answerFigures, LentFits, dayAnswer, dayContent, refusalNumber, values}
 use Rattle.day.specs.Promises.{position}
+use Rattle.daily.specs.declared.Shares.{Shares}
+use Rattle.daily.specs.Daily as daily
+use Rattle.daily.specs.Daily.{dailyAnswer}
+use Rattle.daily.specs.Instances.{urban}
 use Rattle.lines.specs.declared.read.LineRead.the-variants as LineRead
 use Rattle.lines.specs.Reading.{readLine}
 use Rattle.replies.specs.Texts.{longestAnswer}
-use Rattle.marehour.specs.Calls.{Reply, writes, refusal, answerReply, answerCall, lanesCall, dayCall, dayResult, content, resultOf}
+use Rattle.marehour.specs.Calls.{Reply, writes, refusal, answerReply, answerCall, lanesCall, dayCall, dailyCall}
+use Rattle.marehour.specs.Calls.{result, dayResult, content, resultOf}
 
 abbrev pub lastRefusal : ℕ
 lastRefusal = 19
 
-abbrev pub WithinEnds : ℕ → ℕ → Reply → Type 0
-WithinEnds least most (writes ns) = (least ≤ length ns) × (length ns ≤ most)
-WithinEnds least most (refusal n) = (1 ≤ n) × (n ≤ lastRefusal)
+abbrev pub lastDailyRefusal : ℕ
+lastDailyRefusal = 21
+
+abbrev pub WithinEnds : (least most last : ℕ) → Reply → Type 0
+WithinEnds least most last (writes ns) = (least ≤ length ns) × (length ns ≤ most)
+WithinEnds least most last (refusal n) = (1 ≤ n) × (n ≤ last)
 
 abbrev pub RepliesWithinEnds : Type 0
 RepliesWithinEnds =
-    (line : List ℕ) (letter room : ℕ) (demands : List ℕ)
-    → WithinEnds 1 longestAnswer (answerCall line room) × WithinEnds 1 longestAnswer (lanesCall line letter room)
-    × WithinEnds figureCount (mostDemands * figureCount) (dayCall line demands room)
+    (line : List ℕ) (letter room : ℕ) (demands : List ℕ) (shares : Shares) (traffic : ℕ)
+    → WithinEnds 1 longestAnswer lastRefusal (answerCall line room)
+    × WithinEnds 1 longestAnswer lastRefusal (lanesCall line letter room)
+    × WithinEnds figureCount (mostDemands * figureCount) lastRefusal (dayCall line demands room)
+    × WithinEnds daily.figureCount daily.figureCount lastDailyRefusal (dailyCall line shares traffic room)
 
 abbrev pub BufferTooShort : Type 0
-BufferTooShort = (line : List ℕ) (letter : ℕ) → (answerCall line 63 ≡ refusal 17) × (lanesCall line letter 63 ≡ refusal 17)
+BufferTooShort =
+    (line : List ℕ) (letter : ℕ) (shares : Shares) (traffic : ℕ)
+    → (answerCall line 63 ≡ refusal 17) × (lanesCall line letter 63 ≡ refusal 17) × (dailyCall line shares traffic 15 ≡ refusal 17)
 
 abbrev pub NoDemandIsRefused : Type 0
 NoDemandIsRefused = (line : List ℕ) (room : ℕ) → dayCall line [] room ≡ refusal 18
@@ -49,6 +65,7 @@ abbrev pub LastRefusalIsReached : Type 0
 LastRefusalIsReached =
     let line = bytesOf "F\tG\t75000\t120\t60\t60\tD\t0\t2\t0\t1000\t0\tL\t499\t1000" in
     (answerCall line 64 ≡ refusal lastRefusal) × (lanesCall line 1 64 ≡ refusal lastRefusal)
+    × (dailyCall line urban 4000000001 16 ≡ refusal lastDailyRefusal)
 
 abbrev pub DayHandsBack : Type 0
 DayHandsBack =
@@ -73,3 +90,17 @@ PositionIsTheLinesAnswer =
     → (position i (content (dayCall line demands (length old)) old) ≡ answerFigures (answerTo (withDemand case (getD demands i 0))))
     × ((other : List ℕ) (room : ℕ) → readLine other ≡ LineRead.Case (withDemand case (getD demands i 0)) → longestAnswer ≤ room
     → answerCall other room ≡ answerReply (answerTo (withDemand case (getD demands i 0))))
+
+abbrev pub DailyHandsBack : Type 0
+DailyHandsBack =
+    (line : List ℕ) (shares : Shares) (traffic : ℕ) (old : List ℕ)
+    → let reply = dailyCall line shares traffic (length old) in
+    (length old < daily.figureCount → (result reply ≡ negℤ (pos 17)) × (content reply old ≡ old))
+    × (daily.figureCount ≤ length old → (n : ℕ) → readLine line ≡ LineRead.Refused n
+    → (result reply ≡ negℤ (pos 15)) × (content reply old ≡ old))
+    × (daily.figureCount ≤ length old → (case : Case) → readLine line ≡ LineRead.Case case
+    → ((n : ℕ) → daily.refusalNumber (dailyAnswer case shares traffic) ≡ n → 0 < n
+    → (result reply ≡ negℤ (pos n)) × (content reply old ≡ old))
+    × (daily.refusalNumber (dailyAnswer case shares traffic) ≡ 0
+    → (result reply ≡ pos daily.figureCount)
+    × (content reply old ≡ daily.values (dailyAnswer case shares traffic) ++ drop daily.figureCount old)))

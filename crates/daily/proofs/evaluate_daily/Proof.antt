@@ -22,8 +22,7 @@ volumes-within-requires c κs =
     let a = asked .before .before .args in
     let fits = passed (a .shares) (a .daily-traffic) _ (asked .before .traffic-refusal .ensures) (asked .if1 .left) in
     let e = engine-answers (a .case) (a .shares) (a .daily-traffic) (engine .before .before .hourly-demand .ensures)
-    (engine .before .with-demand .ensures) (engine .evaluate .ensures) (c .before .answer .given .1) in
-    (
+    (engine .before .with-demand .ensures) (engine .evaluate .ensures) (c .before .answer .given .1) in (
       fits-of (a .shares) 0 (shares-fit (a .shares) (a .daily-traffic) fits) (omega arith),
       volumes-fit _ (engine-accepted (a .case) (a .shares) (a .daily-traffic) fits _ e) _ e,
     )

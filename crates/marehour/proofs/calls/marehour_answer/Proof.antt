@@ -6,6 +6,7 @@ use lib.ListN.{length}
 use Rattle.lines.specs.declared.read.LineRead.the-variants as LineRead
 use Rattle.lines.specs.Reading.{readLine}
 use Rattle.lines.proofs.ReadingLaws.{readLine-refused}
+use Rattle.replies.specs.Texts.{longestAnswer}
 use Rattle.marehour.specs.Calls.{bufferRefusals, caseReply}
 use Rattle.marehour.proofs.CallLaws.{call-lent, call-refused, call-case, buffer-short, buffer-fits}
 use borrow.Author.Needs.{needs}
@@ -16,16 +17,16 @@ returns-2 : tie.Need-returns-2
 returns-2 c =
     let a = c .before .before .before .before .before .before .before .args in
     let e = sym (c .before .before .before .read-line .ensures) ∙ c .before .enum-told .given .1 in
-    call-refused length caseReply _ (bufferRefusals _) (a .answer .now)
-    (buffer-fits _ (c .before .before .before .before .if1 .left)) (c .refused2 .result) 15
+    call-refused length caseReply _ (bufferRefusals longestAnswer _) (a .answer .now)
+    (buffer-fits longestAnswer _ (c .before .before .before .before .if1 .left)) (c .refused2 .result) 15
     (omega arith) (e ∙ ap LineRead.Refused (readLine-refused (a .line .now) _ e)) (c .refused2 .ensures)
 
 returns-3 : tie.Need-returns-3
 returns-3 c =
     let s = c .before .before .answer-case in
     let a = c .before .before .before .before .before .before .before .before .before .before .before .args in
-    call-case length caseReply _ (bufferRefusals _) (a .answer .now)
-    (buffer-fits _ (c .before .before .before .before .before .before .before .before .if1 .left)) (s .result) _ _
+    call-case length caseReply _ (bufferRefusals longestAnswer _) (a .answer .now)
+    (buffer-fits longestAnswer _ (c .before .before .before .before .before .before .before .before .if1 .left)) (s .result) _ _
     (sym (c .before .before .before .before .before .before .before .read-line .ensures)
     ∙ c .before .before .before .before .before .reading .given .1) (search needs) (s .ensures)
 
@@ -34,7 +35,7 @@ marehour-answer-spec =
     tie.close
     (tie.spec (λ c κs. search needs)
     (λ c. let a = c .before .before .before .before .args in
-    call-lent length caseReply (readLine (a .line .now)) (bufferRefusals _) (a .answer .now) (c .refused .result) 17
-    (buffer-short _ (c .before .if1 .taken)) (omega arith) (omega arith) (c .refused .ensures))
+    call-lent length caseReply (readLine (a .line .now)) (bufferRefusals longestAnswer _) (a .answer .now) (c .refused .result) 17
+    (buffer-short longestAnswer _ (c .before .if1 .taken)) (omega arith) (omega arith) (c .refused .ensures))
     (λ c κs. search needs) (λ c. search needs) (λ c. search needs) (λ c κs. search needs) returns-2 (λ c κs. search needs)
     (λ c. search needs) returns-3)
