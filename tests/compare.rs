@@ -1,8 +1,9 @@
-// Compares the engine, linked as an archive, with the second implementation of document 01 and of requests T-01 to T-03 and T-05
+// Compares the engine, linked as an archive, with the second implementation of document 01 and of requests T-01 to T-03, T-05 and T-06
 // (tests/second). What it must count of T-04 is had from that one's service volumes (tests/compare/tries.rs).
 //
 //   compare quick         the documents' figures, the traps, the manual's examples, curves by a stride, random cases, floats, the laws,
-//                         whole days, how many demands are tried, how far multilane speeds are below the manual's curve, the vectors
+//                         whole days, how many demands are tried, how far multilane speeds are below the manual's curve, daily volumes,
+//                         the vectors
 //   compare full-curves   every free-flow speed with every flow rate up to capacity and one more
 //   compare full-floats   every float in both units
 //   compare full-distances  every multilane speed past the breakpoint beside the manual's curve, by whole powers
@@ -13,12 +14,14 @@
 
 mod compare {
     pub mod curves;
+    pub mod dailies;
     pub mod days;
     pub mod distances;
     pub mod draw;
     pub mod engine;
     pub mod floats;
     pub mod laws;
+    pub mod lent;
     pub mod los;
     pub mod paper;
     pub mod random;
@@ -29,6 +32,7 @@ mod compare {
 }
 mod second;
 
+use compare::dailies::Dailies;
 use compare::days::Days;
 use compare::distances::Distances;
 use compare::draw::Draw;
@@ -50,6 +54,8 @@ const RANDOM_DAYS: u64 = 100_000;
 const COUNTED_LINES: u64 = 200_000;
 const CURVE_POINTS: u64 = 10_000;
 const CURVE_CASES: u64 = 40_000;
+const RANDOM_DAILIES: u64 = 100_000;
+const COUNTED_DAILIES: u64 = 100;
 
 // Runs a group and prints its count of checks and differences.
 fn group(total: &mut Tally, name: &str, run: impl FnOnce() -> Tally) {
@@ -109,6 +115,17 @@ fn distances(method: &Method) -> Tally {
     distances.tally
 }
 
+fn daily_volumes(method: &Method) -> Tally {
+    let mut dailies = Dailies { method, draw: Draw(SEED + 9), tally: Tally::default(), outcomes: Outcomes::default() };
+    dailies.figures();
+    dailies.random(RANDOM_DAILIES);
+    dailies.coverage();
+    dailies.outcomes.print();
+    dailies.draw = Draw(SEED + 10);
+    dailies.counted(COUNTED_DAILIES);
+    dailies.tally
+}
+
 fn boundary_sections(method: &Method) -> Tally {
     let mut paper = Paper { method, tally: Tally::default() };
     paper.boundary_sections();
@@ -137,6 +154,7 @@ fn quick(total: &mut Tally) {
     group(total, "days", || whole_days(method));
     group(total, "demands tried", || tries(method));
     group(total, "distances from the curve", || distances(method));
+    group(total, "daily volumes", || daily_volumes(method));
     group(total, "vectors", || filled(|tally| vectors::check(method, tally)));
 }
 

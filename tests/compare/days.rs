@@ -1,12 +1,13 @@
 // Whole days in one call: some with their figures, and random lines with random demands and buffers of random length and content. Each
 // position of a random day is also compared with the engine's own single answer.
 
-use super::draw::{draw_demand, draw_line, Draw};
+use super::draw::{accepted, draw_demand, draw_line, Draw};
 use super::engine;
+use super::lent::{After, Lent};
 use super::tally::{Outcomes, Tally};
 use crate::second::day::{self, POSITION};
 use crate::second::lines;
-use crate::second::method::{planner_refusal, Case, Curve, Method, GREATEST_DEMAND};
+use crate::second::method::{Case, Curve, Method, GREATEST_DEMAND};
 
 const fn refused(number: u64) -> [u64; POSITION] {
     [number, 0, 0, 0, 0, 0, 0, 0, 0, 0, 0, 0]
@@ -15,14 +16,14 @@ const fn refused(number: u64) -> [u64; POSITION] {
 // The line of document 01, and its answers to the demands 0, 2,000, 2,643, one more than the service volume of C, and 99,999.
 // 2,643 × 1.1 / (0.92 × 2) = 1,580.05; w = ((158,100 − 156,868) / (230,783 − 156,868))² = 0.0002778; S = 60,783 − 9,497.9w = 60,780.36;
 // 15,810,000 / S = 260.12. 99,999 × 1.1 / (0.92 × 2) = 59,782.01.
-const LINE: &str = "F E 75400 110 20 0 D 24 2 2000 920 50 R";
-const AT_0: [u64; POSITION] = [0, 1, 60_783, 230_783, 0, 60_783, 0, 1_117, 1_829, 2_642, 3_360, 3_858];
-const AT_2000: [u64; POSITION] = [0, 3, 60_783, 230_783, 1_196, 60_783, 197, 1_117, 1_829, 2_642, 3_360, 3_858];
-const AT_2643: [u64; POSITION] = [0, 4, 60_783, 230_783, 1_581, 60_780, 261, 1_117, 1_829, 2_642, 3_360, 3_858];
+pub const LINE: &str = "F E 75400 110 20 0 D 24 2 2000 920 50 R";
+pub const AT_0: [u64; POSITION] = [0, 1, 60_783, 230_783, 0, 60_783, 0, 1_117, 1_829, 2_642, 3_360, 3_858];
+pub const AT_2000: [u64; POSITION] = [0, 3, 60_783, 230_783, 1_196, 60_783, 197, 1_117, 1_829, 2_642, 3_360, 3_858];
+pub const AT_2643: [u64; POSITION] = [0, 4, 60_783, 230_783, 1_581, 60_780, 261, 1_117, 1_829, 2_642, 3_360, 3_858];
 const AT_99999: [u64; POSITION] = [0, 6, 60_783, 230_783, 59_783, 0, 0, 1_117, 1_829, 2_642, 3_360, 3_858];
 
 // A given speed of 75,000 with the factors 950 and 900, as T-03 has it.
-const SNOW_AT_3000: [u64; POSITION] = [0, 3, 71_250, 216_000, 1_500, 66_271, 227, 1_566, 2_506, 3_294, 3_884, 4_320];
+pub const SNOW_AT_3000: [u64; POSITION] = [0, 3, 71_250, 216_000, 1_500, 66_271, 227, 1_566, 2_506, 3_294, 3_884, 4_320];
 
 // Lines, demands and what each position gets. Blanks stand for tabs.
 const DAYS: &[(&str, &[u64], &[[u64; POSITION]])] = &[
@@ -47,7 +48,7 @@ const DAYS: &[(&str, &[u64], &[[u64; POSITION]])] = &[
     ("F G 29999 120 60 60 D 0 2 0 1000 0 L", &[u64::MAX; 24], &[refused(1); 24]),
 ];
 
-const MALFORMED: &str = "F E 75400 110 20 0 D 24 2 2000 920 50 R ";
+pub const MALFORMED: &str = "F E 75400 110 20 0 D 24 2 2000 920 50 R ";
 
 // Calls that are refused as a whole: line, count of demands, length of the buffer, result.
 const REFUSED: &[(&str, usize, usize, i32)] = &[
@@ -66,84 +67,48 @@ const REFUSED: &[(&str, usize, usize, i32)] = &[
     (MALFORMED, 25, 300, -18),
     (MALFORMED, 3, 36, -15),
     (MALFORMED, 24, 293, -15),
-    ("", 1, 12, -15),
-    // The line's own demand has to be well formed.
-    ("F E 75400 110 20 0 D 24 2  920 50 R", 1, 12, -15),
-    ("F E 75400 110 20 0 D 24 2 02000 920 50 R", 1, 12, -15),
-    ("F E 75400 110 20 0 D 24 2 100000 920 50 R", 1, 12, -15),
-    ("F E 75400 110 20 0 D 24 2 2000 920 50 R 1000", 1, 12, -15),
+];
+
+// Malformed lines. The line's own demand has to be well formed, though it is not used.
+pub const MALFORMED_LINES: [&str; 5] = [
+    "",
+    "F E 75400 110 20 0 D 24 2  920 50 R",
+    "F E 75400 110 20 0 D 24 2 02000 920 50 R",
+    "F E 75400 110 20 0 D 24 2 100000 920 50 R",
+    "F E 75400 110 20 0 D 24 2 2000 920 50 R 1000",
 ];
 
 // What must come up in a run of 100,000: results of refused calls, refusals and letters of positions.
 const OUTCOMES: [&str; 19] = ["-15", "-18", "1", "2", "3", "4", "5", "6", "7", "8", "9", "10", "19", "A", "B", "C", "D", "E", "F"];
 const LEAST_OF_EACH: u64 = 1_000;
 
-// Numbers on both sides of a lent buffer.
-const MARGIN: usize = 8;
-
 // Demands that a narrower number or a product may not hold, each with its neighbours.
 const LARGE: [u64; 4] = [1 << 32, 1 << 63, u64::MAX / 3_000, u64::MAX - 1];
 
-// A call, with the buffer and its margins as they are before.
+// A call, with the buffer as it is before.
 struct Call {
     line: Vec<u8>,
     demands: Vec<u64>,
-    buffer: Vec<u64>,
-}
-
-// What a call hands back, and the buffer and its margins afterwards.
-#[derive(PartialEq)]
-struct After {
-    result: i32,
-    buffer: Vec<u64>,
-}
-
-fn lent(buffer: &mut [u64]) -> &mut [u64] {
-    let end = buffer.len() - MARGIN;
-    &mut buffer[MARGIN..end]
+    buffer: Lent,
 }
 
 impl Call {
     fn by_engine(&self) -> After {
-        let mut buffer = self.buffer.clone();
-        After { result: engine::day(&self.line, &self.demands, lent(&mut buffer)), buffer }
+        self.buffer.after(|answers| engine::day(&self.line, &self.demands, answers))
     }
 
     fn by_second(&self, method: &Method) -> After {
-        let mut buffer = self.buffer.clone();
-        After { result: day::day(method, &self.line, &self.demands, lent(&mut buffer)), buffer }
-    }
-
-    // A result, and the buffer with these positions written and all else kept.
-    fn by_figures(&self, result: i32, positions: &[[u64; POSITION]]) -> After {
-        let (mut buffer, written) = (self.buffer.clone(), positions.concat());
-        lent(&mut buffer)[..written.len()].copy_from_slice(&written);
-        After { result, buffer }
+        self.buffer.after(|answers| day::day(method, &self.line, &self.demands, answers))
     }
 
     fn name(&self) -> String {
-        let (line, length) = (String::from_utf8_lossy(&self.line), self.buffer.len() - 2 * MARGIN);
+        let (line, length) = (String::from_utf8_lossy(&self.line), self.buffer.length());
         format!("{line:?}, demands {:?}, buffer of {length}", self.demands)
     }
 }
 
-impl After {
-    fn position(&self, place: usize) -> &[u64] {
-        &self.buffer[MARGIN + POSITION * place..][..POSITION]
-    }
-
-    // The results, and the first number that differs, counted from the start of the lent buffer.
-    fn beside(&self, other: &After) -> String {
-        let results = format!("results {} and {}", self.result, other.result);
-        match self.buffer.iter().zip(&other.buffer).position(|(own, others)| own != others) {
-            Some(at) => format!("{results}, number {} is {} and {}", at as i64 - MARGIN as i64, self.buffer[at], other.buffer[at]),
-            None => results,
-        }
-    }
-}
-
-fn draw_buffer(draw: &mut Draw, length: usize) -> Vec<u64> {
-    (0..length + 2 * MARGIN).map(|_| draw.bits()).collect()
+fn position(after: &After, place: usize) -> &[u64] {
+    &after.lent()[POSITION * place..][..POSITION]
 }
 
 // As long as the answers need, or shorter, or longer.
@@ -178,12 +143,11 @@ fn draw_any_demand(draw: &mut Draw, method: &Method, accepted: &Option<(Case, Cu
 
 fn draw_call(draw: &mut Draw, method: &Method) -> Call {
     let line = draw_line(draw, method);
-    let case = lines::parse(&line).filter(|case| planner_refusal(case).is_none());
-    let accepted = case.and_then(|case| Some((case, method.curve(&case).ok()?)));
+    let accepted = accepted(method, &line);
     let count = draw_count(draw);
     let demands: Vec<u64> = (0..count).map(|_| draw_any_demand(draw, method, &accepted)).collect();
     let length = draw_length(draw, demands.len());
-    Call { line, demands, buffer: draw_buffer(draw, length) }
+    Call { line, demands, buffer: Lent::draw(draw, length) }
 }
 
 // A well-formed line with another demand, its tenth field.
@@ -206,7 +170,7 @@ fn numbers(text: &str) -> Vec<u64> {
 }
 
 // What the engine's single call answers with a demand. No line can hold one above 99,999: it gets 7, unless 1 to 6 refuse the line.
-fn single(line: &[u8], demand: u64) -> Vec<u64> {
+pub fn single(line: &[u8], demand: u64) -> Vec<u64> {
     let answered = numbers(&engine::answer_text(&with_demand(line, demand.min(GREATEST_DEMAND))));
     if demand > GREATEST_DEMAND && !(1..=6).contains(&answered[0]) {
         return refused(7).to_vec();
@@ -231,13 +195,13 @@ pub struct Days<'a> {
 
 impl Days<'_> {
     fn same(&mut self, call: &Call, whose: &str, left: &After, right: &After) {
-        self.tally.check(left == right, || format!("day, {}: {whose}: {}", call.name(), left.beside(right)));
+        left.same(right, &mut self.tally, || format!("day, {}: {whose}", call.name()));
     }
 
     fn figure(&mut self, line: &str, demands: &[u64], length: usize, result: i32, positions: &[[u64; POSITION]]) {
         let line = line.replace(' ', "\t").into_bytes();
-        let call = Call { line, demands: demands.to_vec(), buffer: draw_buffer(&mut self.draw, length) };
-        let expected = call.by_figures(result, positions);
+        let call = Call { line, demands: demands.to_vec(), buffer: Lent::draw(&mut self.draw, length) };
+        let expected = call.buffer.by_figures(result, &positions.concat());
         self.same(&call, "engine and figures", &call.by_engine(), &expected);
         self.same(&call, "second and figures", &call.by_second(self.method), &expected);
     }
@@ -251,15 +215,18 @@ impl Days<'_> {
         for &(line, count, length, result) in REFUSED {
             self.figure(line, &vec![5; count], length, result, &[]);
         }
+        for line in MALFORMED_LINES {
+            self.figure(line, &[5], POSITION, -15, &[]);
+        }
     }
 
     fn positions(&mut self, call: &Call, theirs: &After, ours: &After) {
         for (place, &demand) in call.demands.iter().enumerate() {
-            let (position, single) = (theirs.position(place), single(&call.line, demand));
-            self.tally.check(position == single, || {
-                format!("day, {}: position {place} is {position:?}, the single call answers {single:?}", call.name())
+            let (answered, single) = (position(theirs, place), single(&call.line, demand));
+            self.tally.check(answered == single, || {
+                format!("day, {}: position {place} is {answered:?}, the single call answers {single:?}", call.name())
             });
-            self.outcomes.seen(outcome(ours.position(place)));
+            self.outcomes.seen(outcome(position(ours, place)));
         }
     }
 

@@ -1,5 +1,6 @@
 // Random cases near every limit of the method, and lines damaged on purpose. The same seed draws the same cases.
 
+use crate::second::lines;
 use crate::second::method::{
     passenger_cars, planner_refusal, Case, Curve, Kind, Median, Method, Terrain, Way, Weather, GREATEST_DEMAND,
 };
@@ -120,7 +121,7 @@ fn move_to_adjusted_end(draw: &mut Draw, method: &Method, case: &mut Case) {
 }
 
 // Puts some fields at or past a limit that a refusal guards.
-fn move_past_limits(draw: &mut Draw, case: &mut Case) {
+pub fn move_past_limits(draw: &mut Draw, case: &mut Case) {
     for _ in 0..draw.from(1, 3) {
         match draw.from(0, 10) {
             0 => case.speed = draw.one_of(&[0, 29_999, 30_000, 90_000, 90_001, 99_999]),
@@ -295,4 +296,10 @@ pub fn draw_line(draw: &mut Draw, method: &Method) -> Vec<u8> {
         }
     }
     line
+}
+
+// The case of a line, with its curve, if it is accepted.
+pub fn accepted(method: &Method, line: &[u8]) -> Option<(Case, Curve)> {
+    let case = lines::parse(line).filter(|case| planner_refusal(case).is_none())?;
+    Some((case, method.curve(&case).ok()?))
 }

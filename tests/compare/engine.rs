@@ -1,4 +1,4 @@
-// The six calls of include/marehour.h.
+// The seven calls of include/marehour.h.
 
 use crate::second::survey::Unit;
 
@@ -15,6 +15,15 @@ extern "C" {
         demand_count: usize,
         answers: *mut u64,
         answers_length: usize,
+    ) -> i32;
+    fn marehour_daily(
+        line: *const u8,
+        line_length: usize,
+        daily_traffic: u64,
+        peak_share: u32,
+        direction_share: u32,
+        figures: *mut u64,
+        figures_length: usize,
     ) -> i32;
 }
 
@@ -47,6 +56,12 @@ pub fn survey(bits: u32, unit: Unit, cars: u32, flow: u32) -> i32 {
 pub fn day(line: &[u8], demands: &[u64], answers: &mut [u64]) -> i32 {
     // Safety: the three pointers come with the lengths of what they point to.
     unsafe { marehour_day(line.as_ptr(), line.len(), demands.as_ptr(), demands.len(), answers.as_mut_ptr(), answers.len()) }
+}
+
+pub fn daily(line: &[u8], daily_traffic: u64, peak_share: u32, direction_share: u32, figures: &mut [u64]) -> i32 {
+    let (at, length) = (figures.as_mut_ptr(), figures.len());
+    // Safety: both pointers come with the lengths of what they point to.
+    unsafe { marehour_daily(line.as_ptr(), line.len(), daily_traffic, peak_share, direction_share, at, length) }
 }
 
 // The answer to a line as text without its newline, or X and the refusal, as los prints it.

@@ -10,12 +10,12 @@ const COUNTS_UNFIT: Refusal = 18;
 pub const POSITION: usize = 12;
 
 fn numbers(answer: Result<Answer, Refusal>) -> [u64; POSITION] {
+    let mut numbers = [0; POSITION];
     match answer {
-        Ok(Answer { letter, free_flow_speed, capacity, flow_rate, speed, density, service_volumes: [a, b, c, d, e] }) => {
-            [0, u64::from(letter), free_flow_speed, capacity, flow_rate, speed, density, a, b, c, d, e]
-        }
-        Err(number) => [number as u64, 0, 0, 0, 0, 0, 0, 0, 0, 0, 0, 0],
+        Ok(answer) => numbers[1..].copy_from_slice(&answer.figures()),
+        Err(number) => numbers[0] = number as u64,
     }
+    numbers
 }
 
 // Hands back the count of demands, or minus the first refusal of the whole call and writes nothing: 18, 15.

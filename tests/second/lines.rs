@@ -7,7 +7,7 @@ const LEAST_BUFFER: usize = 64;
 
 pub const MALFORMED: Refusal = 15;
 const LETTER_UNKNOWN: Refusal = 16;
-const BUFFER_TOO_SHORT: Refusal = 17;
+pub const BUFFER_TOO_SHORT: Refusal = 17;
 
 // One to five digits with no leading zero, save 0 itself.
 fn number(field: &[u8]) -> Option<u64> {

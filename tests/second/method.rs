@@ -232,6 +232,14 @@ impl Curve {
     }
 }
 
+impl Answer {
+    // The eleven figures in their order, the letter by its number.
+    pub fn figures(&self) -> [u64; 11] {
+        let Answer { letter, free_flow_speed, capacity, flow_rate, speed, density, service_volumes: [a, b, c, d, e] } = *self;
+        [u64::from(letter), free_flow_speed, capacity, flow_rate, speed, density, a, b, c, d, e]
+    }
+}
+
 // The passenger cars of a thousand vehicles. The truck equivalent E is 2 on level terrain, 3 on rolling.
 pub fn passenger_cars(case: &Case) -> u64 {
     let equivalent = match case.terrain {
@@ -309,7 +317,7 @@ fn access_adjustment(points: u64) -> u64 {
 }
 
 // The least whole number from 0 to `most` for which a condition holds that holds from there on.
-fn least(most: u32, holds: impl Fn(u32) -> bool) -> u32 {
+pub fn least(most: u32, holds: impl Fn(u32) -> bool) -> u32 {
     let (mut low, mut high) = (0, most);
     while low < high {
         let middle = low + (high - low) / 2;

@@ -5,8 +5,10 @@
 //   lines    cases and answers as text, and the program's input and output; weather fields from T-03
 //   survey   surveyed speeds
 //   day      a whole day in one call, from request T-01 of document 02
+//   daily    daily traffic in the place of the demand, from request T-06 of document 02
 //   distance the manual's multilane curve by whole powers, from request T-05 of document 02
 pub mod big;
+pub mod daily;
 pub mod day;
 pub mod distance;
 pub mod lines;

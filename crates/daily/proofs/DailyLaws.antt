@@ -21,7 +21,7 @@ use Prim.Native.Nat.{ℕ, zero, suc, _+_, _≤_, _<_}
 use native.Mathlib.Omega.{arith}
 use native.Mathlib.Nat.{le-refl, le-trans}
 use native.Mathlib.Decide.{decLe}
-use lib.Dec.{T, leb}
+use lib.Dec.{leb}
 use lib.ListN.{getD}
 use Rattle.numbers.specs.Bounds.{AllAtMost}
 use Rattle.numbers.proofs.BoolLaws.{leb-test}

@@ -4,8 +4,8 @@
 -- Assumes nothing.
 use mathlib.Core.Path.{_≡_, refl, ap, _∙_}
 use mathlib.Core.Logic.{_↔_}
-use mathlib.Core.List.{List, [], _∷_, _++_, map}
-use Prim.Native.Nat.{ℕ, suc, _+_, _≤_, _<_}
+use mathlib.Core.List.{[], _∷_, _++_, map}
+use Prim.Native.Nat.{ℕ, suc, _+_, _≤_}
 use native.Mathlib.Omega.{arith}
 use native.Mathlib.Decide.{decLe}
 use lib.Dec.{T, leb, leb→le, le→leb, lit≤}
@@ -18,10 +18,9 @@ use Rattle.curve.specs.Speed.{fallShareBy, speed, shownSpeed}
 use Rattle.curve.specs.Service.{density, shownDensity, densityLimit, densityLetter, letterAt, performance, letterNumber}
 use Rattle.curve.specs.declared.service.Letter.{Letter}
 use Rattle.curve.specs.declared.service.Letter.the-variants as Letter
-use Rattle.road.specs.declared.Case.{Case}
 use Rattle.road.specs.FreeFlowSpeed.{uncappedBy, freeFlowSpeed}
 use Rattle.road.specs.Refusals.{weatherUnfit, roadRefusals, loadRefusals, fieldRefusals}
-use Rattle.method.specs.Refusals.{speedRefusals, refusals, Accepted}
+use Rattle.method.specs.Refusals.{speedRefusals, refusals}
 use Rattle.method.specs.Checked.{curveOf}
 use Rattle.method.specs.Flow.{heavyFactor, flowRate}
 use Rattle.method.specs.Assess.{measures}

@@ -7,7 +7,7 @@ use mathlib.Core.Path.{_≡_, refl, sym, ap, _∙_}
 use mathlib.Core.Logic.{_↔_, inr}
 use mathlib.Core.List.{_++_, map}
 use mathlib.Core.Bool.{Bool, true, false, cond, true≢false}
-use Prim.Native.Nat.{ℕ, _+_, _*_, _≤_, _<_}
+use Prim.Native.Nat.{ℕ, _+_, _≤_, _<_}
 use native.Mathlib.Omega.{arith}
 use native.Mathlib.Nat.{le-refl}
 use borrow.Author.Tests.{ltb-false}
@@ -15,26 +15,25 @@ use lib.Dec.{ltb, ltb→lt}
 use lib.ListN.{drop, getD}
 use Rattle.numbers.proofs.BoolLaws.{T-true}
 use Rattle.road.specs.declared.Case.{Case}
-use Rattle.method.specs.Refusals.{refusal, Accepted}
+use Rattle.method.specs.Refusals.{refusal}
 use Rattle.method.proofs.RefusalLaws.{refusal-le}
 use Rattle.answer.specs.declared.evaluate.Answer.the-variants as Answer
 use Rattle.answer.specs.Answers as answers
 use Rattle.answer.specs.Answers.{graded, answerTo}
 use Rattle.answer.specs.Promises as engine
-use Rattle.answer.specs.Promises.{Meets, volumeIn}
+use Rattle.answer.specs.Promises.{volumeIn}
 use Rattle.answer.proofs.AnswerLaws.{answerTo-accepted, answerTo-number}
 use Rattle.answer.proofs.Promises.{no-better-under-more-load}
 use Rattle.daily.specs.declared.Shares.{Shares}
-use Rattle.daily.specs.declared.DailyAnswer.the-variants as DailyAnswer
 use Rattle.daily.specs.Daily.{greatestDailyTraffic, sharesUnfit, trafficRefusals, TrafficFits, hourlyDemand, hourlyCase}
-use Rattle.daily.specs.Daily.{dailyVolume, dailyVolumes, withVolumes, dailyAnswer, refusalNumber}
+use Rattle.daily.specs.Daily.{dailyVolume, dailyVolumes, dailyAnswer, refusalNumber}
 use Rattle.daily.specs.Within.{trafficWithin}
 use Rattle.daily.specs.Promises.{AcceptedTraffic, letterIn, dailyVolumeIn, MeetsByDay, MeetsUpToTheDailyVolume}
 use Rattle.daily.specs.Promises.{NoBetterWithMoreTraffic, byTheDay, FiguresOfTheHour, RoundedUpOnce, OwnDemandIsNotRead}
 use Rattle.daily.specs.Promises.{RefusedInOrder, SharesInRange, RefusedExactly}
 use Rattle.daily.proofs.WithinLaws.{in-range, not-unfit, shares-fit, fits-of, product-pos, hourly-le-iff, hourly-mono, within-iff, trafficWithin-eq}
 use Rattle.daily.proofs.DailyLaws as laws
-use Rattle.daily.proofs.DailyLaws.{answer-fits, answer-accepted, accepted-parts, number-of, letter-of, meets-iff}
+use Rattle.daily.proofs.DailyLaws.{answer-fits, accepted-parts, number-of, letter-of, meets-iff}
 use Rattle.daily.proofs.DailyLaws.{answer-graded, by-letter}
 
 pub rounded-up-once : RoundedUpOnce

@@ -1,6 +1,6 @@
 -- `daily::hourly_demand` meets its contract: 4,000,000,000 × 1,000 × 1,000 fits, and the product is rounded up once.
 -- Assumes nothing.
-use Prim.Native.Nat.{_*_, _≤_}
+use Prim.Native.Nat.{_*_}
 use native.Mathlib.Omega.{arith}
 use native.Mathlib.Nat.{mul-le-mul}
 use Rattle.daily.specs.Daily.{hourlyDemand}

@@ -1,6 +1,5 @@
 -- `daily::put_figures` meets its contract: the eleven figures of the grade, and the daily volumes behind them.
 -- Assumes nothing.
-use mathlib.Core.Path.{_∙_}
 use native.Mathlib.Omega.{arith}
 use Rattle.text.proofs.BufferLaws.{then}
 use borrow.Author.Needs.{needs}
