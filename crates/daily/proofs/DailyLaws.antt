@@ -2,9 +2,8 @@
 --   refused-in-order   the refusals as one list
 --   number-le          no refusal has a number above 21
 --   accepted-parts, accepted-of   what is accepted: neither 20 nor 21 nor the engine refuses it
---   answer-fits        where 20 and 21 do not refuse: the engine's answer decides
+--   answer-fits, number-fits, letter-fits   where 20 and 21 do not refuse: the engine's answer decides, its number and its letter too
 --   answer-accepted    what is accepted gets the engine's grade and the daily service volumes
---   letter-of, number-of   the letter and the number of an answer are those of the engine's
 --   meets-iff          a demand of any size meets a letter exactly when it is at most the service volume in the engine's answer
 --   volumes-fit        no service volume of a grade is above the greatest demand
 --   dailyVolume-eq     a daily service volume is the greatest daily traffic within the service volume in the engine's answer
@@ -57,11 +56,11 @@ use Rattle.daily.specs.Within.{trafficWithin, VolumesFit, volumesWithin}
 use Rattle.daily.specs.Promises.{AcceptedTraffic, letterIn, RefusedInOrder}
 
 -- ---- refusals
-pub number-of : (a : Answer) (volumes : Volumes) → refusalNumber (withVolumes a volumes) ≡ answers.refusalNumber a
+number-of : (a : Answer) (volumes : Volumes) → refusalNumber (withVolumes a volumes) ≡ answers.refusalNumber a
 number-of (Answer.Graded grade) volumes = refl
 number-of (Answer.Refused number) volumes = refl
 
-pub letter-of : (a : Answer) (volumes : Volumes) → letterIn (withVolumes a volumes) ≡ engine.letterIn a
+letter-of : (a : Answer) (volumes : Volumes) → letterIn (withVolumes a volumes) ≡ engine.letterIn a
 letter-of (Answer.Graded grade) volumes = refl
 letter-of (Answer.Refused number) volumes = refl
 
@@ -71,6 +70,12 @@ module _ (case : Case) (shares : Shares) (daily : ℕ) where
 
   pub answer-fits : TrafficFits shares daily → dailyAnswer case shares daily ≡ withVolumes (answerTo hourly) (dailyVolumes case shares)
   answer-fits z = unlessRefused-none _ (withVolumes (answerTo hourly) (dailyVolumes case shares)) DailyAnswer.Refused z
+
+  pub number-fits : TrafficFits shares daily → refusalNumber (dailyAnswer case shares daily) ≡ answers.refusalNumber (answerTo hourly)
+  number-fits z = ap refusalNumber (answer-fits z) ∙ number-of (answerTo hourly) (dailyVolumes case shares)
+
+  pub letter-fits : TrafficFits shares daily → letterIn (dailyAnswer case shares daily) ≡ engine.letterIn (answerTo hourly)
+  letter-fits z = ap letterIn (answer-fits z) ∙ letter-of (answerTo hourly) (dailyVolumes case shares)
 
   in-order : refusalNumber (dailyAnswer case shares daily) ≡ firstRefusal (trafficRefusals shares daily ++ refusals hourly)
   unfolding trafficRefusals
@@ -87,8 +92,7 @@ module _ (case : Case) (shares : Shares) (daily : ℕ) where
   accepted-parts z = firstRefusal-join (trafficRefusals shares daily) (refusals hourly) tt (sym in-order ∙ z)
 
   pub accepted-of : TrafficFits shares daily → Accepted hourly → AcceptedTraffic case shares daily
-  accepted-of fits a =
-      ap refusalNumber (answer-fits fits) ∙ number-of (answerTo hourly) (dailyVolumes case shares) ∙ answerTo-number hourly ∙ a
+  accepted-of fits a = number-fits fits ∙ answerTo-number hourly ∙ a
 
   pub answer-accepted : AcceptedTraffic case shares daily
       → dailyAnswer case shares daily ≡ DailyAnswer.Graded (graded hourly) (dailyVolumes case shares)

@@ -4,13 +4,17 @@
 -- Assumes nothing.
 use mathlib.Core.Path.{_≡_, refl, ap, _∙_}
 use mathlib.Core.Logic.{_↔_}
+use mathlib.Core.Bool.{Bool, not, _&&_}
 use mathlib.Core.List.{[], _∷_, _++_, map}
 use Prim.Native.Nat.{ℕ, suc, _+_, _≤_}
 use native.Mathlib.Omega.{arith}
 use native.Mathlib.Decide.{decLe}
-use lib.Dec.{T, leb, leb→le, le→leb, lit≤}
+use native.Mathlib.Nat.{lt-of-not-le}
+use lib.Dec.{T, T-not, leb, eqb, leb→le, le→leb, eqb→eq, lit≤}
 use lib.ListN.{drop, getD}
 use Rattle.numbers.specs.Division.{divUp}
+use Rattle.numbers.specs.Search.{endsAt}
+use Rattle.numbers.proofs.BoolLaws.{and-left, and-right}
 use Rattle.checks.specs.Figures.{Shown}
 use Rattle.curve.specs.Curves.{capacity, breakpoint}
 use Rattle.curve.specs.Weather.{adjustedSpeed, adjustedCapacity, adjustedBreakpoint, curveUnder}
@@ -28,11 +32,12 @@ use Rattle.method.specs.Boundary.{example}
 use Rattle.answer.specs.Answers.{graded}
 use Rattle.answer.proofs.Boundary.{example-accepted, example-figures}
 use Rattle.daily.specs.declared.Shares.{Shares}
-use Rattle.daily.specs.Daily.{greatestDailyTraffic, sharesOf, sharesUnfit, trafficRefusals, hourlyDemand, hourlyCase, dailyAnswer, values}
+use Rattle.daily.specs.declared.DailyAnswer.{DailyAnswer}
+use Rattle.daily.specs.Daily.{sharesOf, sharesUnfit, trafficRefusals, hourlyDemand, hourlyCase, dailyAnswer, refusalNumber, values}
 use Rattle.daily.specs.Promises.{AcceptedTraffic, letterIn, dailyVolumeIn, MeetsByDay, byTheDay}
 use Rattle.daily.specs.Instances.{urban, eightLanes, volumesIn, printedFigures, refusalInstances, dailyInstances}
 use Rattle.daily.proofs.DailyLaws.{accepted-of, answer-accepted}
-use Rattle.daily.proofs.Promises.{figures-of-the-hour, divided, meets-up-to-the-daily-volume}
+use Rattle.daily.proofs.Promises.{figures-of-the-hour, meets-up-to-the-daily-volume}
 
 pub refusals-shown : Shown refusalInstances
 unfolding divUp weatherUnfit roadRefusals loadRefusals fieldRefusals refusals sharesUnfit trafficRefusals hourlyDemand refusalInstances
@@ -50,11 +55,9 @@ printed-figures =
     ∙ ap (λ figures. figures ++ map (byTheDay urban) (drop 6 figures)) example-figures
 
 -- a daily traffic meets a letter of the printed road exactly when it is at most the figure above
-printed-meets : (n daily : ℕ) → 1 ≤ n → n ≤ 5 → daily ≤ greatestDailyTraffic
-    → MeetsByDay example urban daily n ↔ (daily ≤ getD printedFigures (10 + n) 0)
-printed-meets n daily h k most =
-    rw (ap (λ ns. getD ns (10 + n) 0) printed-figures)
-    at (meets-up-to-the-daily-volume example urban 40404 printed-accepted n h k daily most)
+printed-meets : (n daily : ℕ) → 1 ≤ n → n ≤ 5 → MeetsByDay example urban daily n ↔ (daily ≤ getD printedFigures (10 + n) 0)
+printed-meets n daily h k =
+    rw (ap (λ ns. getD ns (10 + n) 0) printed-figures) at (meets-up-to-the-daily-volume example urban 40404 printed-accepted n h k daily)
 
 -- a letter by what is met: it, and not the next better one
 letter-is : (daily n : ℕ) → MeetsByDay example urban daily (suc n) → (MeetsByDay example urban daily n → ⊥)
@@ -80,65 +83,70 @@ letter-ge daily z = rw (answer-accepted example urban daily z) (letterNumber-ge 
 printed-letters : map (λ daily. letterIn (dailyAnswer example urban daily)) (53373 ∷ 53374 ∷ 0 ∷ []) ≡ 3 ∷ 4 ∷ 1 ∷ []
 printed-letters =
     rw (
-      letter-is 53373 2 (printed-meets 3 53373 (omega arith) (omega arith) (omega arith) .1 (lit≤ tt))
-          (λ m. le→leb 53373 36949 (printed-meets 2 53373 (omega arith) (omega arith) (omega arith) .0 m)),
-      letter-is 53374 3 (printed-meets 4 53374 (omega arith) (omega arith) (omega arith) .1 (lit≤ tt))
-          (λ m. le→leb 53374 53373 (printed-meets 3 53374 (omega arith) (omega arith) (omega arith) .0 m)),
-      letter-is 0 0 (printed-meets 1 0 (omega arith) (omega arith) (omega arith) .1 (lit≤ tt))
+      letter-is 53373 2 (printed-meets 3 53373 (omega arith) (omega arith) .1 (lit≤ tt))
+          (λ m. le→leb 53373 36949 (printed-meets 2 53373 (omega arith) (omega arith) .0 m)),
+      letter-is 53374 3 (printed-meets 4 53374 (omega arith) (omega arith) .1 (lit≤ tt))
+          (λ m. le→leb 53374 53373 (printed-meets 3 53374 (omega arith) (omega arith) .0 m)),
+      letter-is 0 0 (printed-meets 1 0 (omega arith) (omega arith) .1 (lit≤ tt))
           (λ m. omega (arith, m .1, letter-ge 0 (m .0))),
     )
 
 -- ---- 8 lanes at 75,000
--- a daily service volume by letters: it gets the letter or a better one, and one more, up to the end, a worse one
+-- whether an answer has no number, and letter number n or a better one
+met : DailyAnswer → ℕ → Bool
+met a n = eqb (refusalNumber a) 0 && leb (letterIn a) n
+
+met-iff : (a : DailyAnswer) (n : ℕ) → T (met a n) ↔ ((refusalNumber a ≡ 0) × (letterIn a ≤ n))
+unfolding met
+met-iff a n = (
+  λ t. (
+    eqb→eq (refusalNumber a) 0 (and-left (eqb (refusalNumber a) 0) (leb (letterIn a) n) t),
+    leb→le (letterIn a) n (and-right (eqb (refusalNumber a) 0) (leb (letterIn a) n) t),
+  ),
+  λ m. rw (m .0) (le→leb (letterIn a) n (m .1)),
+)
+
+-- a daily service volume: it meets the letter, and one more does not
 volume-is : (shares : Shares) (n daily : ℕ) → AcceptedTraffic eightLanes shares 0 → T (leb 1 n) → T (leb n 5)
-    → T (leb daily greatestDailyTraffic) → MeetsByDay eightLanes shares daily n
-    → (suc daily ≤ greatestDailyTraffic → T (leb (letterIn (dailyAnswer eightLanes shares (suc daily))) n) → ⊥)
+    → T (endsAt (λ traffic. met (dailyAnswer eightLanes shares traffic) n) daily)
     → dailyVolumeIn (dailyAnswer eightLanes shares 0) n ≡ daily
-volume-is shares n daily z h k most met worse = go (decLe volume daily)
-  where
-    volume : ℕ
-    volume = dailyVolumeIn (dailyAnswer eightLanes shares 0) n
-
-    up-to : (daily : ℕ) → daily ≤ greatestDailyTraffic → MeetsByDay eightLanes shares daily n ↔ (daily ≤ volume)
-    up-to = meets-up-to-the-daily-volume eightLanes shares 0 z n (leb→le 1 n h) (leb→le n 5 k)
-
-    go : Dec (volume ≤ daily) → volume ≡ daily
-    go (yes l) = omega (arith, up-to daily (leb→le daily greatestDailyTraffic most) .0 met)
-    go (no l) =
-        let end : volume ≤ greatestDailyTraffic = omega (arith, divided eightLanes shares 0 z n (leb→le 1 n h) (leb→le n 5 k)) in
-        let next : suc daily ≤ greatestDailyTraffic = omega arith in
-        absurd (worse next (le→leb _ n (up-to (suc daily) next .1 (omega arith) .1)))
-
-past-the-end : {A : Type 0} → suc greatestDailyTraffic ≤ greatestDailyTraffic → A → ⊥
-past-the-end l _ = omega arith
+unfolding endsAt
+volume-is shares n daily z h k ends =
+    let up-to : (traffic : ℕ) → MeetsByDay eightLanes shares traffic n ↔ (traffic ≤ dailyVolumeIn (dailyAnswer eightLanes shares 0) n) =
+    meets-up-to-the-daily-volume eightLanes shares 0 z n (leb→le 1 n h) (leb→le n 5 k) in
+    let here = dailyAnswer eightLanes shares daily in
+    let next = dailyAnswer eightLanes shares (suc daily) in
+    let below = lt-of-not-le
+    (λ l. T-not (met next n) (and-right (met here n) (not (met next n)) ends) (met-iff next n .1 (up-to (suc daily) .1 l))) in
+    omega (arith, below, up-to daily .0 (met-iff here n .0 (and-left (met here n) (not (met next n)) ends)))
 
 eight-lanes : (volumesIn (dailyAnswer eightLanes (sharesOf 2 2) 0) ≡ 1650000000 ∷ 2656000000 ∷ 3552000000 ∷ 4000000000 ∷ 4000000000 ∷ [])
     × (volumesIn (dailyAnswer eightLanes (sharesOf 1 1) 0) ≡ 4000000000 ∷ 4000000000 ∷ 4000000000 ∷ 4000000000 ∷ 4000000000 ∷ [])
     × (volumesIn (dailyAnswer eightLanes (sharesOf 1000 1000) 0) ≡ 6600 ∷ 10624 ∷ 14208 ∷ 17040 ∷ 19200 ∷ [])
 unfolding divUp uncappedBy freeFlowSpeed weatherUnfit roadRefusals loadRefusals fieldRefusals adjustedSpeed speedRefusals refusals capacity
     breakpoint adjustedCapacity adjustedBreakpoint curveUnder curveOf heavyFactor flowRate fallShareBy speed shownSpeed density
-    shownDensity densityLimit densityLetter letterAt performance measures graded sharesUnfit trafficRefusals hourlyDemand
+    shownDensity densityLimit densityLetter letterAt performance measures graded sharesUnfit trafficRefusals hourlyDemand endsAt met
 eight-lanes = (
   rw (
-    volume-is (sharesOf 2 2) 1 1650000000 refl tt tt tt (refl, lit≤ tt) (λ _ t. t),
-    volume-is (sharesOf 2 2) 2 2656000000 refl tt tt tt (refl, lit≤ tt) (λ _ t. t),
-    volume-is (sharesOf 2 2) 3 3552000000 refl tt tt tt (refl, lit≤ tt) (λ _ t. t),
-    volume-is (sharesOf 2 2) 4 4000000000 refl tt tt tt (refl, lit≤ tt) past-the-end,
-    volume-is (sharesOf 2 2) 5 4000000000 refl tt tt tt (refl, lit≤ tt) past-the-end,
+    volume-is (sharesOf 2 2) 1 1650000000 refl tt tt tt,
+    volume-is (sharesOf 2 2) 2 2656000000 refl tt tt tt,
+    volume-is (sharesOf 2 2) 3 3552000000 refl tt tt tt,
+    volume-is (sharesOf 2 2) 4 4000000000 refl tt tt tt,
+    volume-is (sharesOf 2 2) 5 4000000000 refl tt tt tt,
   ),
   rw (
-    volume-is (sharesOf 1 1) 1 4000000000 refl tt tt tt (refl, lit≤ tt) past-the-end,
-    volume-is (sharesOf 1 1) 2 4000000000 refl tt tt tt (refl, lit≤ tt) past-the-end,
-    volume-is (sharesOf 1 1) 3 4000000000 refl tt tt tt (refl, lit≤ tt) past-the-end,
-    volume-is (sharesOf 1 1) 4 4000000000 refl tt tt tt (refl, lit≤ tt) past-the-end,
-    volume-is (sharesOf 1 1) 5 4000000000 refl tt tt tt (refl, lit≤ tt) past-the-end,
+    volume-is (sharesOf 1 1) 1 4000000000 refl tt tt tt,
+    volume-is (sharesOf 1 1) 2 4000000000 refl tt tt tt,
+    volume-is (sharesOf 1 1) 3 4000000000 refl tt tt tt,
+    volume-is (sharesOf 1 1) 4 4000000000 refl tt tt tt,
+    volume-is (sharesOf 1 1) 5 4000000000 refl tt tt tt,
   ),
   rw (
-    volume-is (sharesOf 1000 1000) 1 6600 refl tt tt tt (refl, lit≤ tt) (λ _ t. t),
-    volume-is (sharesOf 1000 1000) 2 10624 refl tt tt tt (refl, lit≤ tt) (λ _ t. t),
-    volume-is (sharesOf 1000 1000) 3 14208 refl tt tt tt (refl, lit≤ tt) (λ _ t. t),
-    volume-is (sharesOf 1000 1000) 4 17040 refl tt tt tt (refl, lit≤ tt) (λ _ t. t),
-    volume-is (sharesOf 1000 1000) 5 19200 refl tt tt tt (refl, lit≤ tt) (λ _ t. t),
+    volume-is (sharesOf 1000 1000) 1 6600 refl tt tt tt,
+    volume-is (sharesOf 1000 1000) 2 10624 refl tt tt tt,
+    volume-is (sharesOf 1000 1000) 3 14208 refl tt tt tt,
+    volume-is (sharesOf 1000 1000) 4 17040 refl tt tt tt,
+    volume-is (sharesOf 1000 1000) 5 19200 refl tt tt tt,
   ),
 )
 

@@ -20,20 +20,20 @@ use Rattle.method.proofs.RefusalLaws.{refusal-le}
 use Rattle.answer.specs.declared.evaluate.Answer.the-variants as Answer
 use Rattle.answer.specs.Answers as answers
 use Rattle.answer.specs.Answers.{graded, answerTo}
-use Rattle.answer.specs.Promises as engine
 use Rattle.answer.specs.Promises.{volumeIn}
 use Rattle.answer.proofs.AnswerLaws.{answerTo-accepted, answerTo-number}
 use Rattle.answer.proofs.Promises.{no-better-under-more-load}
 use Rattle.daily.specs.declared.Shares.{Shares}
 use Rattle.daily.specs.Daily.{greatestDailyTraffic, sharesUnfit, trafficRefusals, TrafficFits, hourlyDemand, hourlyCase}
-use Rattle.daily.specs.Daily.{dailyVolume, dailyVolumes, dailyAnswer, refusalNumber}
+use Rattle.daily.specs.Daily.{dailyVolume, dailyAnswer, refusalNumber}
 use Rattle.daily.specs.Within.{trafficWithin}
 use Rattle.daily.specs.Promises.{AcceptedTraffic, letterIn, dailyVolumeIn, MeetsByDay, MeetsUpToTheDailyVolume}
 use Rattle.daily.specs.Promises.{NoBetterWithMoreTraffic, byTheDay, FiguresOfTheHour, RoundedUpOnce, OwnDemandIsNotRead}
 use Rattle.daily.specs.Promises.{RefusedInOrder, SharesInRange, RefusedExactly}
-use Rattle.daily.proofs.WithinLaws.{in-range, not-unfit, shares-fit, fits-of, product-pos, hourly-le-iff, hourly-mono, within-iff, trafficWithin-eq}
+use Rattle.daily.proofs.WithinLaws.{in-range, not-unfit, shares-fit, traffic-fits, fits-of, product-pos, hourly-le-iff}
+use Rattle.daily.proofs.WithinLaws.{hourly-mono, within-iff, trafficWithin-eq}
 use Rattle.daily.proofs.DailyLaws as laws
-use Rattle.daily.proofs.DailyLaws.{answer-fits, accepted-parts, number-of, letter-of, meets-iff}
+use Rattle.daily.proofs.DailyLaws.{number-fits, letter-fits, accepted-parts, meets-iff}
 use Rattle.daily.proofs.DailyLaws.{answer-graded, by-letter}
 
 pub rounded-up-once : RoundedUpOnce
@@ -66,7 +66,7 @@ module _ (case : Case) (shares : Shares) (asked : ℕ) (z : AcceptedTraffic case
   fit-shares = shares-fit shares asked (accepted-parts case shares asked z .0)
 
   -- a daily service volume by the service volume in the engine's answer
-  pub divided : (n : ℕ) → 1 ≤ n → n ≤ 5 → dailyVolumeIn (dailyAnswer case shares asked) n ≡ byTheDay shares (volume n)
+  divided : (n : ℕ) → 1 ≤ n → n ≤ 5 → dailyVolumeIn (dailyAnswer case shares asked) n ≡ byTheDay shares (volume n)
   divided n h k =
       ap (λ ns. getD ns (10 + n) 0) (figures-of-the-hour case shares asked z .0)
       ∙ rw (answerTo-accepted (hourlyCase case shares asked) (accepted-parts case shares asked z .1))
@@ -75,31 +75,35 @@ module _ (case : Case) (shares : Shares) (asked : ℕ) (z : AcceptedTraffic case
       getD (figures ++ map (byTheDay shares) (drop 6 figures)) (10 + i) 0 ≡ byTheDay shares (getD figures (5 + i) 0))
       refl refl refl refl refl n h k)
 
-  met-iff : (n : ℕ) → 1 ≤ n → n ≤ 5 → (daily : ℕ) → daily ≤ greatestDailyTraffic
+  -- where 20 and 21 do not refuse: by the engine's answers
+  met-iff : (n : ℕ) → 1 ≤ n → n ≤ 5 → (daily : ℕ) → TrafficFits shares daily
       → MeetsByDay case shares daily n ↔ (daily ≤ dailyVolumeIn (dailyAnswer case shares asked) n)
-  met-iff n h k daily most =
-      let fits : TrafficFits shares daily = fits-of shares daily fit-shares most in
+  met-iff n h k daily fits =
       let here = meets-iff (hourlyCase case shares asked) (accepted-parts case shares asked z .1) n h k (hourlyDemand shares daily) in
       let divides = within-iff shares (volume n) (product-pos shares fit-shares) daily in
-      let number = ap refusalNumber (answer-fits case shares daily fits)
-      ∙ number-of (answerTo (hourlyCase case shares daily)) (dailyVolumes case shares) in
-      let letter = ap letterIn (answer-fits case shares daily fits)
-      ∙ letter-of (answerTo (hourlyCase case shares daily)) (dailyVolumes case shares) in (
+      let number = number-fits case shares daily fits in
+      let letter = letter-fits case shares daily fits in
+      let most = traffic-fits shares daily fits in (
         λ m. let l = divides .0 (here .0 (sym number ∙ m .0, rw letter at (m .1))) in rw (divided n h k) (omega arith),
         λ l. let m = here .1 (divides .1 (omega (arith, divided n h k))) in (number ∙ m .0, rw letter (m .1)),
       )
 
+  -- above the end nothing is met
+  any-iff : (n : ℕ) → 1 ≤ n → n ≤ 5 → (daily : ℕ)
+      → MeetsByDay case shares daily n ↔ (daily ≤ dailyVolumeIn (dailyAnswer case shares asked) n)
+  any-iff n h k daily = (
+    λ m. met-iff n h k daily (accepted-parts case shares daily (m .0) .0) .0 m,
+    λ l. met-iff n h k daily (fits-of shares daily fit-shares (omega (arith, divided n h k))) .1 l,
+  )
+
 pub meets-up-to-the-daily-volume : MeetsUpToTheDailyVolume
-meets-up-to-the-daily-volume case shares asked z = met-iff case shares asked z
+meets-up-to-the-daily-volume case shares asked z = any-iff case shares asked z
 
 pub no-better-with-more-traffic : NoBetterWithMoreTraffic
 no-better-with-more-traffic case less more daily greater z w h k l =
     let (fits, a) = accepted-parts case less daily z in
     let (fit, b) = accepted-parts case more greater w in
-    let first = ap letterIn (answer-fits case less daily fits) ∙ letter-of (answerTo (hourlyCase case less daily)) (dailyVolumes case less) in
-    let second = ap letterIn (answer-fits case more greater fit)
-    ∙ letter-of (answerTo (hourlyCase case more greater)) (dailyVolumes case more) in
-    rw (first, second)
+    rw (letter-fits case less daily fits, letter-fits case more greater fit)
     (no-better-under-more-load (hourlyCase case less daily) (hourlyCase case more greater) a b refl refl (inr (inr refl))
     (hourly-mono less more daily greater h k l) (le-refl _) (le-refl _) (le-refl _) (le-refl _))
 

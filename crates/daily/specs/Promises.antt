@@ -42,13 +42,12 @@ dailyVolumeIn answer n = getD (values answer) (10 + n) 0
 abbrev pub MeetsByDay : Case → Shares → ℕ → ℕ → Type 0
 MeetsByDay case shares daily n = AcceptedTraffic case shares daily × (letterIn (dailyAnswer case shares daily) ≤ n)
 
--- The planner's corollary: one answer on a road tells for every daily traffic from 0 to 4,000,000,000 and every letter, A to E, whether it
--- is met.
+-- The planner's corollary: one answer on a road tells for every daily traffic and every letter, A to E, whether it is met. Above
+-- 4,000,000,000 none is, and no daily service volume is greater.
 abbrev pub MeetsUpToTheDailyVolume : Type 0
 MeetsUpToTheDailyVolume =
     (case : Case) (shares : Shares) (asked : ℕ) → AcceptedTraffic case shares asked → (n : ℕ) → 1 ≤ n → n ≤ 5
-    → (daily : ℕ) → daily ≤ greatestDailyTraffic
-    → MeetsByDay case shares daily n ↔ (daily ≤ dailyVolumeIn (dailyAnswer case shares asked) n)
+    → (daily : ℕ) → MeetsByDay case shares daily n ↔ (daily ≤ dailyVolumeIn (dailyAnswer case shares asked) n)
 
 abbrev pub NoBetterWithMoreTraffic : Type 0
 NoBetterWithMoreTraffic =
