@@ -1,6 +1,6 @@
--- Instances of the promises (specs/Instances), shown.
+-- Instances of the promises (specs/Instances), shown by the promises.
 --   printed-accepted, printed-figures   the printed road with 40,404 a day
---   refusals-shown, instances-shown   each instance is what is to be shown
+--   instances-shown    each is what is to be shown
 -- Assumes nothing.
 use mathlib.Core.Path.{_≡_, refl, ap, _∙_}
 use mathlib.Core.Logic.{_↔_}
@@ -35,13 +35,9 @@ use Rattle.daily.specs.declared.Shares.{Shares}
 use Rattle.daily.specs.declared.DailyAnswer.{DailyAnswer}
 use Rattle.daily.specs.Daily.{sharesOf, sharesUnfit, trafficRefusals, hourlyDemand, hourlyCase, dailyAnswer, refusalNumber, values}
 use Rattle.daily.specs.Promises.{AcceptedTraffic, letterIn, dailyVolumeIn, MeetsByDay, byTheDay}
-use Rattle.daily.specs.Instances.{urban, eightLanes, volumesIn, printedFigures, refusalInstances, dailyInstances}
+use Rattle.daily.specs.Instances.{urban, eightLanes, volumesIn, printedFigures, dailyInstances}
 use Rattle.daily.proofs.DailyLaws.{accepted-of, answer-accepted}
 use Rattle.daily.proofs.Promises.{figures-of-the-hour, meets-up-to-the-daily-volume}
-
-pub refusals-shown : Shown refusalInstances
-unfolding divUp weatherUnfit roadRefusals loadRefusals fieldRefusals refusals sharesUnfit trafficRefusals hourlyDemand refusalInstances
-refusals-shown = (refl, (refl, (refl, (refl, (refl, (refl, (refl, (refl, (refl, (refl, (refl, tt)))))))))))
 
 -- ---- the printed road
 pub printed-accepted : AcceptedTraffic example urban 40404
@@ -151,7 +147,7 @@ eight-lanes = (
 )
 
 pub instances-shown : Shown dailyInstances
-unfolding divUp hourlyDemand dailyInstances
+unfolding dailyInstances
 instances-shown =
     let eight = eight-lanes in
-    (refl, (rw (printed-accepted, printed-figures), (printed-letters, (eight .0, (eight .1, (eight .2, tt))))))
+    (rw (printed-accepted, printed-figures), (printed-letters, (eight .0, (eight .1, (eight .2, tt)))))

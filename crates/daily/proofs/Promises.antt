@@ -88,16 +88,13 @@ module _ (case : Case) (shares : Shares) (asked : ℕ) (z : AcceptedTraffic case
         λ l. let m = here .1 (divides .1 (omega (arith, divided n h k))) in (number ∙ m .0, rw letter (m .1)),
       )
 
-  -- above the end nothing is met
-  any-iff : (n : ℕ) → 1 ≤ n → n ≤ 5 → (daily : ℕ)
-      → MeetsByDay case shares daily n ↔ (daily ≤ dailyVolumeIn (dailyAnswer case shares asked) n)
-  any-iff n h k daily = (
-    λ m. met-iff n h k daily (accepted-parts case shares daily (m .0) .0) .0 m,
-    λ l. met-iff n h k daily (fits-of shares daily fit-shares (omega (arith, divided n h k))) .1 l,
-  )
-
+-- above the end nothing is met
 pub meets-up-to-the-daily-volume : MeetsUpToTheDailyVolume
-meets-up-to-the-daily-volume case shares asked z = any-iff case shares asked z
+meets-up-to-the-daily-volume case shares asked z n h k daily =
+    let within = met-iff case shares asked z n h k daily in (
+      λ m. let l = within (accepted-parts case shares daily (m .0) .0) .0 m in omega arith,
+      λ l. within (fits-of shares daily (fit-shares case shares asked z) (omega (arith, divided case shares asked z n h k))) .1 (omega arith),
+    )
 
 pub no-better-with-more-traffic : NoBetterWithMoreTraffic
 no-better-with-more-traffic case less more daily greater z w h k l =

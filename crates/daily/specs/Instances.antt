@@ -2,11 +2,11 @@
 --   urban            K and D of source document 001 for urban roads
 --   eightLanes       F G 75000 120 60 60 D 0 8 V 1000 0 L
 --   narrow           F G 75000 99 60 60 D 0 2 V 1000 0 L, which 2 refuses
---   peaked           F G 75000 120 60 60 D 0 2 V 1 0 L, which 8 refuses
+--   peaked           F G 75000 120 60 60 D 0 2 1000000 1 0 L, which 8 refuses; its own demand, which 7 would refuse, is not read
 --   told a           the number of an answer's refusal, 0 for none, and its values
 --   volumesIn a      its daily service volumes A to E
 --   printedFigures   what the printed road gets with a daily traffic whose hourly demand is 2,000
---   refusalInstances, dailyInstances   what is worked out, and what is to be shown
+--   hourlyInstances, refusalInstances, dailyInstances   what is worked out, and what is to be shown
 -- Assumes nothing.
 use mathlib.Core.List.{List, [], _∷_, map}
 use Prim.Native.Nat.{ℕ}
@@ -32,7 +32,7 @@ abbrev pub narrow : Case
 narrow = twoLanes (given Kind.Freeway 75000 99) 0
 
 abbrev pub peaked : Case
-peaked = loaded (given Kind.Freeway 75000 120) 2 0 1 0 Terrain.Level clear
+peaked = loaded (given Kind.Freeway 75000 120) 2 1000000 1 0 Terrain.Level clear
 
 abbrev pub told : DailyAnswer → List ℕ
 told a = refusalNumber a ∷ values a
@@ -43,6 +43,14 @@ volumesIn a = map (dailyVolumeIn a) (1 ∷ 2 ∷ 3 ∷ 4 ∷ 5 ∷ [])
 abbrev pub printedFigures : List ℕ
 printedFigures =
     3 ∷ 60783 ∷ 230783 ∷ 1196 ∷ 60783 ∷ 197 ∷ 1117 ∷ 1829 ∷ 2642 ∷ 3360 ∷ 3858 ∷ 22565 ∷ 36949 ∷ 53373 ∷ 67878 ∷ 77939 ∷ []
+
+-- Rounded up once: 12 × 0.0495 = 0.594, 20 × 0.0495 = 0.99, 21 × 0.0495 = 1.0395; exactly 1 at 1,000,000 with K = D = 1.
+unfoldable pub hourlyInstances : List Figure
+hourlyInstances =
+    figure (map (hourlyDemand urban) (0 ∷ 12 ∷ 20 ∷ 21 ∷ 40404 ∷ 53373 ∷ 53374 ∷ [])) (0 ∷ 1 ∷ 1 ∷ 2 ∷ 2000 ∷ 2642 ∷ 2643 ∷ [])
+    ∷ figure (map (hourlyDemand (sharesOf 1 1)) (1 ∷ 1000000 ∷ 1000001 ∷ 4000000000 ∷ [])) (1 ∷ 1 ∷ 2 ∷ 4000 ∷ [])
+    ∷ figure (map (hourlyDemand (sharesOf 1000 1000)) (1 ∷ 4000000000 ∷ [])) (1 ∷ 4000000000 ∷ [])
+    ∷ []
 
 -- 20 before 21 before 1: a share of 0 or of 1,001, each with a daily traffic and a case that are refused too; 4,000,000,001 and 2^64 - 1;
 -- then a case that breaks 1 to 10 and 19. 7 in its own place: an hourly demand of 4,000,000,000 on a road that 2 refuses, and with a
@@ -62,12 +70,11 @@ refusalInstances =
     ∷ figure (told (dailyAnswer example (sharesOf 1000 1000) 1000000)) (7 ∷ [])
     ∷ []
 
--- Hourly demands, rounded up once; the printed road with 40,404 a day, and its letters with 53,373, 53,374 and none; the daily service
--- volumes of 8 lanes at 75,000 with K = D = 2, 1 and 1,000.
+-- The printed road with 40,404 a day, and its letters with 53,373, 53,374 and none; the daily service volumes of 8 lanes at 75,000 with
+-- K = D = 2, 1 and 1,000.
 unfoldable pub dailyInstances : List Figure
 dailyInstances =
-    figure (map (hourlyDemand urban) (0 ∷ 12 ∷ 20 ∷ 21 ∷ 40404 ∷ 53373 ∷ 53374 ∷ [])) (0 ∷ 1 ∷ 1 ∷ 2 ∷ 2000 ∷ 2642 ∷ 2643 ∷ [])
-    ∷ figure (told (dailyAnswer example urban 40404)) (0 ∷ printedFigures)
+    figure (told (dailyAnswer example urban 40404)) (0 ∷ printedFigures)
     ∷ figure (map (λ daily. letterIn (dailyAnswer example urban daily)) (53373 ∷ 53374 ∷ 0 ∷ [])) (3 ∷ 4 ∷ 1 ∷ [])
     ∷ figure (volumesIn (dailyAnswer eightLanes (sharesOf 2 2) 0)) (1650000000 ∷ 2656000000 ∷ 3552000000 ∷ 4000000000 ∷ 4000000000 ∷ [])
     ∷ figure (volumesIn (dailyAnswer eightLanes (sharesOf 1 1) 0)) (4000000000 ∷ 4000000000 ∷ 4000000000 ∷ 4000000000 ∷ 4000000000 ∷ [])
