@@ -36,11 +36,12 @@ prove:
 	@mkdir -p $(BUILD)
 	rt ci 2>&1 | tee $(BUILD)/ci.log | sed -u '$$d' || { tail -n 1 $(BUILD)/ci.log; exit 1; }
 
-tests: $(addprefix $(BUILD)/,tables references calls widening widening-test stream compare published) target/bin/los
+tests: $(addprefix $(BUILD)/,tables references calls widening widening-test yearly yearly-test stream compare published) target/bin/los
 	$(BUILD)/tables check
 	$(BUILD)/references
 	$(BUILD)/calls
 	$(BUILD)/widening-test $(BUILD)/widening
+	$(BUILD)/yearly-test $(BUILD)/yearly
 	$(BUILD)/stream target/bin/los
 	$(BUILD)/compare quick
 	$(BUILD)/compare los target/bin/los
@@ -74,7 +75,7 @@ $(BUILD)/calls: tests/calls.c tests/overrun.c tests/calls.h include/marehour.h $
 	@mkdir -p $(BUILD)
 	$(CC) $(CFLAGS) -Iinclude -o $@ $(filter %.c %.a,$^)
 
-$(BUILD)/widening: examples/widening.c include/marehour.h $(LIBRARY)
+$(BUILD)/widening $(BUILD)/yearly: $(BUILD)/%: examples/%.c examples/host.c examples/host.h include/marehour.h $(LIBRARY)
 	@mkdir -p $(BUILD)
 	$(CC) $(CFLAGS) -Iinclude -o $@ $(filter %.c %.a,$^)
 
@@ -82,7 +83,7 @@ $(BUILD)/compare: tests/compare.rs $(wildcard tests/compare/*.rs tests/second/*.
 	@mkdir -p $(BUILD)
 	$(RUSTC) -o $@ $< -L $(dir $(LIBRARY)) -l static=marehour
 
-$(BUILD)/%-test: tests/%.rs
+$(BUILD)/%-test: tests/%.rs tests/host.rs $(wildcard tests/second/*.rs)
 	@mkdir -p $(BUILD)
 	$(RUSTC) -o $@ $<
 

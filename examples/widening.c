@@ -25,8 +25,8 @@
      1  a call refuses the section: the refusal's number is on standard error
      2  bad arguments
      3  standard output can't be written */
+#include "host.h"
 #include "marehour.h"
-#include <stdbool.h>
 #include <stdio.h>
 #include <stdlib.h>
 #include <string.h>
@@ -79,15 +79,6 @@ static bool read_number(const char *text, unsigned long *number)
 static uint32_t letter_number(char letter)
 {
     return (uint32_t)(letter - 'A') + MAREHOUR_LETTER_A;
-}
-
-static bool read_letter(const char *text, uint32_t *number)
-{
-    if (text[0] < 'A' || text[0] > 'E' || text[1] != '\0') {
-        return false;
-    }
-    *number = letter_number(text[0]);
-    return true;
 }
 
 static bool read_plan(int count, char **arguments, struct plan *plan)
@@ -204,13 +195,6 @@ static int32_t print_rows(const struct plan *plan, struct first_years *first)
     first->passed = number; /* the year after the last, where all have a row */
     keep_earlier(&first->unmet, number);
     return 0;
-}
-
-/* Whether all that was printed is written. What is still held is written here, so a full disk may show only now. */
-static bool all_written(void)
-{
-    bool sound = !ferror(stdout);
-    return fclose(stdout) == 0 && sound;
 }
 
 static int print_years(const struct plan *plan)

@@ -5,6 +5,7 @@
      marehour_answer       a section's letter, speed, density and service volumes
      marehour_lanes        the least lane count with which a section meets a letter
      marehour_day          a section's answers for up to 24 demands
+     marehour_daily        a section's answer for a daily traffic, and its daily service volumes
      marehour_tries        how many demands the search for a section's service volumes tries
      marehour_survey_mph   a surveyed speed, from miles per hour
      marehour_survey_kmh   a surveyed speed, from kilometres per hour
@@ -14,8 +15,9 @@
 
    Units. Speeds are in thousandths of mi/h, capacities in hundredths of passenger cars per hour per
    lane, flow rates in passenger cars per hour per lane, densities in tenths of a passenger car per
-   mile per lane, lengths in tenths of a foot, the peak-hour factor, the heavy share and the
-   weather's factors in thousandths, demands and service volumes in vehicles per hour.
+   mile per lane, lengths in tenths of a foot, the peak-hour factor, the heavy share, the weather's
+   factors and the shares of a daily traffic in thousandths, demands and service volumes in vehicles
+   per hour, daily traffic and daily service volumes in vehicles per day.
 
    A line describes one section: 13 or 15 fields parted by single tabs, without a newline at its
    end.
@@ -43,9 +45,10 @@
 
    Memory. A call reads line[0] to line[line_length - 1] and demands[0] to
    demands[demand_count - 1], and nothing else, and keeps no pointer. It writes into answer[0] to
-   answer[answer_length - 1] only, or into answers[0] to answers[answers_length - 1]. A pointer may
-   be NULL when its length is 0. What is lent for one call must not overlap; numbers must be aligned
-   as uint64_t is. Text is not ended by a zero byte, neither the line nor the answer.
+   answer[answer_length - 1] only, or into answers[0] to answers[answers_length - 1], or into
+   figures[0] to figures[figures_length - 1]. A pointer may be NULL when its length is 0. What is
+   lent for one call must not overlap; numbers must be aligned as uint64_t is. Text is not ended by
+   a zero byte, neither the line nor the answer.
 
    Threads. The calls keep no state and share nothing: any number of threads may make them at once,
    each with its own buffer.
@@ -67,10 +70,15 @@ extern "C" {
 #define MAREHOUR_DAY_DEMANDS 24
 #define MAREHOUR_DAY_FIGURES 12
 
+/* How many numbers the answer for a daily traffic has, and the greatest daily traffic. */
+#define MAREHOUR_DAILY_FIGURES 16
+#define MAREHOUR_GREATEST_DAILY_TRAFFIC 4000000000
+
 /* No search for a section's service volumes tries more demands. */
 #define MAREHOUR_MOST_TRIES 80
 
-/* Numbers of the letters: marehour_lanes takes A to E, marehour_day answers A to F. */
+/* Numbers of the letters: marehour_lanes takes A to E, marehour_day and marehour_daily answer A to
+   F. */
 enum {
     MAREHOUR_LETTER_A = 1,
     MAREHOUR_LETTER_B = 2,
@@ -88,8 +96,8 @@ enum {
     MAREHOUR_MEDIAN_UNFIT = 4,           /* median other than D on kind F */
     MAREHOUR_ACCESS_TOO_LARGE = 5,       /* ramps above 48 (F), access points above 200 (M) */
     MAREHOUR_LANES_NOT_OF_THE_KIND = 6,  /* lanes not 2 to 8 (F), not 2 to 3 (M) */
-    MAREHOUR_DEMAND_TOO_LARGE = 7,       /* demand above 99,999: no line can hold it, so no call
-                                            hands it back; a position of a day may have it */
+    MAREHOUR_DEMAND_TOO_LARGE = 7,       /* demand above 99,999, which no line can hold: one of a
+                                            day, or the hourly demand of a daily traffic */
     MAREHOUR_FACTOR_OUT_OF_RANGE = 8,    /* peak-hour factor not 250 to 1,000 */
     MAREHOUR_SHARE_TOO_LARGE = 9,        /* heavy share above 1,000 */
     MAREHOUR_SPEED_BELOW_LOWER_END = 10, /* free-flow speed F below 55,000 (F), 45,000 (M), or
@@ -101,11 +109,14 @@ enum {
     MAREHOUR_NO_LANE_COUNT = 14,         /* no lane count of the kind meets the letter */
     MAREHOUR_LINE_MALFORMED = 15,        /* not a line as above, or longer than 80 bytes */
     MAREHOUR_LETTER_UNKNOWN = 16,        /* letter number not 1 to 5 */
-    MAREHOUR_BUFFER_TOO_SHORT = 17,      /* answer buffer under MAREHOUR_ANSWER_SIZE bytes */
+    MAREHOUR_BUFFER_TOO_SHORT = 17,      /* answer buffer under MAREHOUR_ANSWER_SIZE bytes, or room
+                                            for fewer than MAREHOUR_DAILY_FIGURES numbers */
     MAREHOUR_DAY_UNFIT = 18,             /* no demand, more than MAREHOUR_DAY_DEMANDS, or room for
                                             fewer answers than demands */
-    MAREHOUR_WEATHER_UNFIT = 19          /* speed or capacity factor not 500 to 1,000 (F), not 1,000
+    MAREHOUR_WEATHER_UNFIT = 19,         /* speed or capacity factor not 500 to 1,000 (F), not 1,000
                                             (M) */
+    MAREHOUR_SHARES_UNFIT = 20,          /* peak share or direction share not 1 to 1,000 */
+    MAREHOUR_DAILY_TRAFFIC_TOO_LARGE = 21 /* above MAREHOUR_GREATEST_DAILY_TRAFFIC */
 };
 
 int32_t marehour_answer(const uint8_t *line, size_t line_length, uint8_t *answer,
@@ -180,6 +191,43 @@ int32_t marehour_day(const uint8_t *line, size_t line_length, const uint64_t *de
 
    Afterwards the first MAREHOUR_DAY_FIGURES times demand_count numbers are the answers. Those past
    them keep their content. A refusal changes no number.
+*/
+
+int32_t marehour_daily(const uint8_t *line, size_t line_length, uint64_t daily_traffic,
+                       uint32_t peak_share, uint32_t direction_share, uint64_t *figures,
+                       size_t figures_length);
+/* Answers a section for a daily traffic of both directions, by the hourly demand of the busier one,
+   and gives the daily traffic up to which it meets each letter. peak_share is K, the peak hour's
+   share of the daily traffic, and direction_share D, the busier direction's share of the peak hour,
+   in thousandths: 90 and 550 are 0.09 and 0.55. The hourly demand is
+
+     daily_traffic * K * D / 1,000,000
+
+   rounded up, once. The line's own demand has to be well formed and is not used. Any numbers may be
+   passed.
+
+   figures_length counts numbers. MAREHOUR_DAILY_FIGURES are written:
+
+     letter by its number, A to F; free-flow speed; capacity; flow rate; speed; density; service
+     volumes A to E: what marehour_answer answers for the same section with the hourly demand; then
+     the daily service volumes A to E
+
+   A daily service volume is the greatest daily traffic from 0 to MAREHOUR_GREATEST_DAILY_TRAFFIC
+   whose hourly demand gets its letter or a better one: a daily traffic meets a letter exactly when
+   it is at most that volume. The volumes are the same whatever daily_traffic is, as long as the
+   call is not refused.
+
+   The result is MAREHOUR_DAILY_FIGURES; or minus the first of these refusals that holds, in this
+   order:
+
+     17  figures_length under MAREHOUR_DAILY_FIGURES; the line is not read
+     15  malformed line
+     20  peak_share or direction_share not 1 to 1,000
+     21  daily_traffic above MAREHOUR_GREATEST_DAILY_TRAFFIC
+     1 to 9, 19, 10  in this order; 7 looks at the hourly demand
+
+   Afterwards the first MAREHOUR_DAILY_FIGURES numbers are the answer. Those past them keep their
+   content. A refusal changes no number.
 */
 
 int32_t marehour_tries(const uint8_t *line, size_t line_length);

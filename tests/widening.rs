@@ -9,8 +9,10 @@
 //   a freeway of F = 75,000: A 825, B 1,328, C 1,776, D 2,130, E 2,400; the same with the weather's factors 950 and 900: B 1,253, C 1,647,
 //   D 1,942; a multilane highway of F = 60,000: C 1,532, D 1,893.
 
-use std::fs::File;
-use std::process::{exit, Command, Output};
+#[allow(dead_code)]
+mod host;
+
+use host::{tabbed, Host};
 
 const HEADER: &str = "year\tdemand\tletter\tlanes\n";
 const USAGE: &str = "usage: widening LINE GROWTH LETTER YEARS\n\
@@ -80,80 +82,49 @@ const REFUSED: [(&str, u32); 16] = [
 const BAD_NUMBERS: [&str; 8] = ["", "-1", "+1", " 1", "1 ", "1.0", "100000", "x"];
 const BAD_LETTERS: [&str; 7] = ["", "F", "a", "@", "3", "AB", "A "];
 
-fn fail(what: &str) -> ! {
-    println!("widening: {what}");
-    exit(1);
-}
-
-fn tabbed(line: &str) -> String {
-    line.replace(' ', "\t")
-}
-
-fn run(mut command: Command) -> Output {
-    command.output().unwrap_or_else(|error| fail(&format!("{command:?}: {error}")))
-}
-
-fn expect(what: &str, got: &Output, status: i32, output: &str, errors: &str) {
-    if got.status.code() != Some(status) {
-        fail(&format!("{what}: {}, not {status}", got.status));
-    }
-    for (name, got, expected) in [("output", &got.stdout, output), ("error", &got.stderr, errors)] {
-        if got != expected.as_bytes() {
-            fail(&format!("{what}: standard {name} is\n{}and not\n{expected}", String::from_utf8_lossy(got)));
-        }
-    }
-}
-
-fn program(widening: &str, arguments: &[&str]) -> Command {
-    let mut command = Command::new(widening);
-    command.args(arguments);
-    command
-}
-
 // A row begins with a digit.
 fn printed(line: &str) -> String {
     let row = line.starts_with(|c: char| c.is_ascii_digit());
     (if row { tabbed(line) } else { line.to_string() }) + "\n"
 }
 
-fn expect_tables(widening: &str, road: &str, weather: &str, tables: &[Table]) {
+fn expect_tables(widening: &Host, road: &str, weather: &str, tables: &[Table]) {
     for (load, plan, lines) in tables {
         let section = tabbed(&format!("{road} {load} 1000 0 L{weather}"));
         let arguments: Vec<&str> = [section.as_str()].into_iter().chain(plan.split(' ')).collect();
         let expected: String = lines.split(';').map(printed).collect();
-        expect(&format!("{road} {load}{weather}, {plan}"), &run(program(widening, &arguments)), 0, &format!("{HEADER}{expected}"), "");
+        widening.expect(&format!("{road} {load}{weather}, {plan}"), &widening.run(&arguments, b""), 0, &format!("{HEADER}{expected}"), "");
     }
 }
 
 // A hundred thousand rows.
-fn expect_most_years(widening: &str, line: &str) {
+fn expect_most_years(widening: &Host, line: &str) {
     let rows: String = (0..=99_999).map(|year| format!("{year}\t0\tA\t2\n")).collect();
     let expected = format!("{HEADER}{rows}need not be wider in years 0 to 99999\n");
-    let got = run(program(widening, &[line, "30", "A", "99999"]));
+    let got = widening.run(&[line, "30", "A", "99999"], b"");
     if got.stdout != expected.as_bytes() || !got.stderr.is_empty() || !got.status.success() {
-        fail("the most years: another output, message or status");
+        widening.fail("the most years: another output, message or status");
     }
 }
 
-fn expect_example(widening: &str) {
-    let read = |path: &str| std::fs::read_to_string(path).unwrap_or_else(|error| fail(&format!("{path}: {error}")));
-    let sections = read("examples/sections.tsv");
+fn expect_example(widening: &Host) {
+    let sections = widening.read("examples/sections.tsv");
     let line = sections.lines().next().unwrap_or("");
-    expect("the example", &run(program(widening, &[line, "30", "C", "12"])), 0, &read("examples/widening.out"), "");
+    widening.expect("the example", &widening.run(&[line, "30", "C", "12"], b""), 0, &widening.read("examples/widening.out"), "");
 }
 
-fn expect_refusals(widening: &str) {
+fn expect_refusals(widening: &Host) {
     for (line, number) in REFUSED {
-        let got = run(program(widening, &[&tabbed(line), "30", "C", "12"]));
-        expect(line, &got, 1, "", &format!("widening: the section is refused with {number}\n"));
+        let got = widening.run(&[&tabbed(line), "30", "C", "12"], b"");
+        widening.expect(line, &got, 1, "", &format!("widening: the section is refused with {number}\n"));
     }
 }
 
-fn expect_usage(widening: &str, arguments: &[&str]) {
-    expect(&format!("{arguments:?}"), &run(program(widening, arguments)), 2, "", USAGE);
+fn expect_usage(widening: &Host, arguments: &[&str]) {
+    widening.expect(&format!("{arguments:?}"), &widening.run(arguments, b""), 2, "", USAGE);
 }
 
-fn expect_bad_arguments(widening: &str, line: &str) {
+fn expect_bad_arguments(widening: &Host, line: &str) {
     let right = [line, "30", "C", "12", "12"];
     for count in [0, 1, 2, 3, 5] {
         expect_usage(widening, &right[..count]);
@@ -168,28 +139,19 @@ fn expect_bad_arguments(widening: &str, line: &str) {
     expect_usage(widening, &["", "30", "F", "12"]);
 }
 
-fn with_full_output(widening: &str, arguments: &[&str]) -> Output {
-    let full = File::options().write(true).open("/dev/full").unwrap_or_else(|error| fail(&format!("/dev/full: {error}")));
-    let mut command = program(widening, arguments);
-    command.stdout(full);
-    run(command)
-}
-
 // A short output is lost when it is closed, a long one before. Where nothing is printed, nothing is lost.
-fn expect_lost_output(widening: &str, line: &str) {
+fn expect_lost_output(widening: &Host, line: &str) {
     for years in ["0", "99999"] {
-        expect("a full output", &with_full_output(widening, &[line, "0", "C", years]), 3, "", NOT_WRITTEN);
+        widening.expect("a full output", &widening.run_with_full_output(&[line, "0", "C", years], b""), 3, "", NOT_WRITTEN);
     }
-    let mut closed = Command::new("sh");
-    closed.args(["-c", "exec \"$0\" \"$@\" >&-", widening, line, "0", "C", "0"]);
-    expect("a closed output", &run(closed), 3, "", NOT_WRITTEN);
-    let refused = with_full_output(widening, &["", "0", "C", "0"]);
-    expect("a full output, a line refused", &refused, 1, "", "widening: the section is refused with 15\n");
-    expect("a full output, no arguments", &with_full_output(widening, &[]), 2, "", USAGE);
+    widening.expect("a closed output", &widening.run_with_closed_output(&[line, "0", "C", "0"], b""), 3, "", NOT_WRITTEN);
+    let refused = widening.run_with_full_output(&["", "0", "C", "0"], b"");
+    widening.expect("a full output, a line refused", &refused, 1, "", "widening: the section is refused with 15\n");
+    widening.expect("a full output, no arguments", &widening.run_with_full_output(&[], b""), 2, "", USAGE);
 }
 
 fn main() {
-    let Some(widening) = std::env::args().nth(1) else { fail("usage: widening PATH-OF-WIDENING") };
+    let widening = Host::new("widening");
     let empty_road = tabbed("F G 75000 120 60 60 D 0 2 0 1000 0 L");
     expect_example(&widening);
     expect_tables(&widening, "F G 75000 120 60 60 D 0", "", &FREEWAY);
