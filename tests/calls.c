@@ -5,9 +5,10 @@
 
    Line, demands and buffer each lie between two pages that cannot be accessed: once they begin right behind the first, once they end right
    before the second. Line and demands are read-only while they are lent. The buffer and what is around it is filled with a pattern before a
-   call and compared byte by byte after it. A day asks a line with its own demand, with one that 7 refuses, and with its own again; what it
-   must answer is had from the line's own answer. Each set of checks runs in a child. Where the library passes, the checks run over calls
-   that are wrong on purpose (tests/overrun.c), and each of these must end as its fault says. */
+   call and compared byte by byte after it. A day asks a line with its own demand, with one that 7 refuses, and with its own again; a daily
+   traffic is asked of it with which its own demand is the hourly one, and some that are refused; what they must answer is had from the
+   line's own answer. Each set of checks runs in a child. Where the library passes, the checks run over calls that are wrong on purpose
+   (tests/overrun.c), and each of these must end as its fault says. */
 #define _DEFAULT_SOURCE
 #include "calls.h"
 #include "marehour.h"
@@ -408,6 +409,84 @@ static void check_days(const struct calls *calls)
     }
 }
 
+/* Daily traffics */
+
+/* With shares of a half and a whole the hourly demand is half of the daily traffic, and a daily service volume twice the service volume. */
+enum { HALF = 500, WHOLE = 1000 };
+
+/* A daily traffic and its shares, and which of 20 and 21 refuses them; 0 for none. */
+struct traffic {
+    uint64_t daily;
+    uint32_t peak_share, direction_share;
+    int32_t refusal;
+};
+
+/* What a call hands back that is lent enough for a line that is not malformed; with the figures where it is no refusal. */
+static int32_t expect_daily(const struct vector *vector, const struct traffic *traffic, uint64_t *figures)
+{
+    uint64_t position[MAREHOUR_DAY_FIGURES];
+    if (traffic->refusal != 0) {
+        return -traffic->refusal;
+    }
+    expect_position(vector, traffic->daily / 2, position);
+    if (position[0] != 0) {
+        return -(int32_t)position[0];
+    }
+    memcpy(figures, position + 1, sizeof position - sizeof *position);
+    for (int i = 0; i < 5; i++) {
+        figures[MAREHOUR_DAY_FIGURES - 1 + i] = 2 * position[MAREHOUR_DAY_FIGURES - 5 + i];
+    }
+    return MAREHOUR_DAILY_FIGURES;
+}
+
+static void check_traffic(const struct calls *calls, const struct vector *vector, const uint8_t *line, const struct traffic *traffic,
+                          size_t room, enum side side)
+{
+    uint64_t figures[MAREHOUR_DAILY_FIGURES];
+    uint8_t *buffer = placed(&buffer_fence, room * sizeof *figures, side);
+    int32_t expected = -MAREHOUR_BUFFER_TOO_SHORT;
+    if (room >= MAREHOUR_DAILY_FIGURES) {
+        expected = vector->result == -MAREHOUR_LINE_MALFORMED ? vector->result : expect_daily(vector, traffic, figures);
+    }
+    memcpy(buffer_fence.start, pattern, buffer_fence.size);
+    int32_t result = calls->daily(line, vector->length, traffic->daily, traffic->peak_share, traffic->direction_share,
+                                  (uint64_t *)(void *)buffer, room);
+    const char *shown = (const char *)vector->line;
+    int width = vector->length < 80 ? (int)vector->length : 80;
+    check(result == expected, "result %d, not %d, of a daily traffic in %zu numbers, for %.*s", result, expected, room, width, shown);
+    check(holds_only(buffer, (const uint8_t *)figures, expected > 0 ? sizeof figures : 0),
+          "other numbers of a daily traffic in %zu numbers for %.*s", room, width, shown);
+}
+
+static void check_daily(const struct calls *calls, const struct vector *vector)
+{
+    enum { FIGURES = MAREHOUR_DAILY_FIGURES };
+    static const size_t rooms[] = {0, 1, FIGURES - 1, FIGURES, FIGURES + 1, LONGEST_BUFFER / 8};
+    uint64_t twice = vector->result == -MAREHOUR_LINE_MALFORMED ? 0 : 2 * own_demand(vector);
+    const struct traffic traffics[] = {
+        {twice, HALF, WHOLE, 0},
+        {MAREHOUR_GREATEST_DAILY_TRAFFIC, HALF, WHOLE, 0},
+        {UINT64_MAX, HALF, WHOLE, MAREHOUR_DAILY_TRAFFIC_TOO_LARGE},
+        {UINT64_MAX, 0, WHOLE, MAREHOUR_SHARES_UNFIT},
+        {twice, HALF, WHOLE + 1, MAREHOUR_SHARES_UNFIT},
+    };
+    for (int sides = 0; sides < 4; sides++) {
+        const uint8_t *line = lend(&line_fence, vector->line, vector->length, sides / 2 == 0 ? AT_START : AT_END);
+        for (size_t i = 0; i < sizeof rooms / sizeof rooms[0]; i++) {
+            for (size_t j = 0; j < sizeof traffics / sizeof traffics[0]; j++) {
+                check_traffic(calls, vector, line, &traffics[j], rooms[i], sides % 2 == 0 ? AT_START : AT_END);
+            }
+        }
+    }
+}
+
+static void check_dailies(const struct calls *calls)
+{
+    for (size_t i = 0; i < answer_count; i++) {
+        check_daily(calls, &answers[i]);
+    }
+}
+
 /* Counts of tried demands: 64 for the first line, the printed one; the others within their ends. tests/compare/tries.rs works each out. */
 static void check_tries(const struct calls *calls)
 {
@@ -437,7 +516,7 @@ static void check_edges(const struct calls *calls)
 {
     const struct vector *first = &answers[0];
     uint8_t buffer[MAREHOUR_ANSWER_SIZE], line[128];
-    uint64_t demand = 1, numbers[MAREHOUR_DAY_FIGURES] = {0, 1, 2, 3, 4, 5, 6, 7, 8, 9, 10, 11};
+    uint64_t demand = 1, numbers[MAREHOUR_DAILY_FIGURES] = {0, 1, 2, 3, 4, 5, 6, 7, 8, 9, 10, 11, 12, 13, 14, 15};
     size_t length = first->length < sizeof line ? first->length : 0;
     memcpy(line, first->line, length);
     line[length] = '\n';
@@ -454,6 +533,10 @@ static void check_edges(const struct calls *calls)
     check(calls->day(line, length, &demand, 1, NULL, 0) == -18, "day: no answers are not unfit");
     check(calls->day(NULL, 0, NULL, 0, NULL, 0) == -18, "day: no demand does not come before no line");
     check(calls->day(line, length + 1, &demand, 1, numbers, MAREHOUR_DAY_FIGURES) == -15, "day: a newline is not malformed");
+    check(calls->daily(NULL, 0, 5, 0, 0, numbers, MAREHOUR_DAILY_FIGURES) == -15, "daily: no line does not come before a share of 0");
+    check(calls->daily(line, length, 5, 0, 0, NULL, 0) == -17, "daily: no figures are not too short");
+    check(calls->daily(NULL, 0, 5, HALF, WHOLE, NULL, 0) == -17, "daily: no figures do not come before no line");
+    check(calls->daily(line, length + 1, 5, HALF, WHOLE, numbers, MAREHOUR_DAILY_FIGURES) == -15, "daily: a newline is not malformed");
     check(calls->tries(NULL, 0) == -15, "tries: no line is not malformed");
     check(calls->tries(line, length + 1) == -15, "tries: a newline is not malformed");
     check(calls->answer(line, length + 1, buffer, sizeof buffer) == -15, "answer: a newline is not malformed");
@@ -461,7 +544,7 @@ static void check_edges(const struct calls *calls)
     for (size_t i = 0; i < sizeof buffer; i++) {
         check(buffer[i] == 0xA5, "a refusal changed byte %zu", i);
     }
-    for (size_t i = 0; i < MAREHOUR_DAY_FIGURES; i++) {
+    for (size_t i = 0; i < MAREHOUR_DAILY_FIGURES; i++) {
         check(numbers[i] == i, "a refusal changed number %zu", i);
     }
 }
@@ -580,7 +663,7 @@ static int run_fault(const struct fault *fault, const char *set, void (*checks)(
 /* The library; adds the checks made. */
 static int run_library(long *made)
 {
-    static const struct calls library = {marehour_answer, marehour_lanes,      marehour_day,
+    static const struct calls library = {marehour_answer, marehour_lanes,      marehour_day,       marehour_daily,
                                          marehour_tries,  marehour_survey_mph, marehour_survey_kmh};
     static const struct {
         const char *name;
@@ -589,6 +672,7 @@ static int run_library(long *made)
         {"lines", check_answers},
         {"lanes questions", check_lanes},
         {"days", check_days},
+        {"daily traffics", check_dailies},
         {"tries", check_tries},
         {"surveys", check_surveys},
         {"edges", check_edges},
@@ -618,7 +702,7 @@ static int run_faults(int *run)
     static const struct {
         const char *name;
         void (*checks)(const struct calls *);
-    } lending[] = {{"lines", check_answers}, {"lanes questions", check_lanes}, {"days", check_days}};
+    } lending[] = {{"lines", check_answers}, {"lanes questions", check_lanes}, {"days", check_days}, {"daily traffics", check_dailies}};
     int failures = run_each(&one_too_much, 1, "surveys", check_surveys, run) + run_each(&one_too_much, 1, "tries", check_tries, run);
     failures += run_each(line_faults, line_fault_count, "tries", check_tries, run);
     for (size_t i = 0; i < sizeof lending / sizeof lending[0]; i++) {
@@ -640,8 +724,8 @@ int main(void)
     if (failures == 0) {
         failures = run_faults(&run);
     }
-    printf("calls: %zu lines, each with its day and its tries, %zu lanes questions, %zu surveys: %ld checks; %d wrong calls tried; %d "
-           "failures\n",
+    printf("calls: %zu lines, each with its day, its daily traffics and its tries, %zu lanes questions, %zu surveys: %ld checks; %d wrong "
+           "calls tried; %d failures\n",
            answer_count, lanes_count, survey_count, made, run, failures);
     return failures > 0;
 }

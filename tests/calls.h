@@ -10,6 +10,8 @@ struct calls {
     int32_t (*lanes)(const uint8_t *line, size_t line_length, uint32_t letter, uint8_t *answer, size_t answer_length);
     int32_t (*day)(const uint8_t *line, size_t line_length, const uint64_t *demands, size_t demand_count, uint64_t *answers,
                    size_t answers_length);
+    int32_t (*daily)(const uint8_t *line, size_t line_length, uint64_t daily_traffic, uint32_t peak_share, uint32_t direction_share,
+                     uint64_t *figures, size_t figures_length);
     int32_t (*tries)(const uint8_t *line, size_t line_length);
     int32_t (*survey_mph)(float speed, uint32_t cars, uint32_t flow);
     int32_t (*survey_kmh)(float speed, uint32_t cars, uint32_t flow);

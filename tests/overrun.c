@@ -175,6 +175,15 @@ static int32_t faulty_day(const uint8_t *line, size_t line_length, const uint64_
     return active->after(result, bytes_written(result, MAREHOUR_DAY_FIGURES * sizeof *answers), &lent);
 }
 
+static int32_t faulty_daily(const uint8_t *line, size_t line_length, uint64_t daily_traffic, uint32_t peak_share,
+                            uint32_t direction_share, uint64_t *figures, size_t figures_length)
+{
+    struct lent lent = {line, line_length, NULL, 0, (uint8_t *)figures, figures_length * sizeof *figures};
+    active->before(&lent);
+    int32_t result = marehour_daily(line, line_length, daily_traffic, peak_share, direction_share, figures, figures_length);
+    return active->after(result, bytes_written(result, sizeof *figures), &lent);
+}
+
 static int32_t faulty_tries(const uint8_t *line, size_t line_length)
 {
     struct lent lent = {line, line_length, NULL, 0, NULL, 0};
@@ -197,5 +206,6 @@ static int32_t faulty_survey_kmh(float speed, uint32_t cars, uint32_t flow)
 struct calls faulty_calls(const struct fault *fault)
 {
     active = fault;
-    return (struct calls){faulty_answer, faulty_lanes, faulty_day, faulty_tries, faulty_survey_mph, faulty_survey_kmh};
+    return (struct calls){faulty_answer, faulty_lanes,      faulty_day,       faulty_daily,
+                          faulty_tries,  faulty_survey_mph, faulty_survey_kmh};
 }

@@ -128,5 +128,6 @@ fn main() {
     expect_bad_rows(&yearly);
     expect_bad_arguments(&yearly);
     expect_lost_output(&yearly);
-    println!("yearly: the example for 5 targets, {} rows, bad rows, bad arguments, lost output: all as expected", ROWS.len() + REFUSED.len());
+    let rows = ROWS.len() + REFUSED.len();
+    println!("yearly: the example for 5 targets, {rows} rows, bad rows, bad arguments, lost output: all as expected");
 }
