@@ -9,47 +9,74 @@
 #include <stdlib.h>
 #include <string.h>
 
-/* The same question to the library or to plain C. The letter is not looked at where the answer is asked for. */
-typedef int32_t call(const struct line *line, uint32_t letter, uint8_t *answer);
+/* Room for what any call writes. */
+union answer {
+    uint8_t text[LONGEST_ANSWER];
+    uint64_t figures[DAILY_FIGURES];
+};
+
+/* The same question to the library or to plain C, about a line and by its place. */
+typedef int32_t call(const struct line *line, size_t place, union answer *answer);
 
 static struct lines lines;
 
-static int32_t marehour_answers(const struct line *line, uint32_t letter, uint8_t *answer)
+static int32_t marehour_answers(const struct line *line, size_t place, union answer *answer)
 {
-    (void)letter;
-    return marehour_answer(line->bytes, line->length, answer, LONGEST_ANSWER);
+    (void)place;
+    return marehour_answer(line->bytes, line->length, answer->text, LONGEST_ANSWER);
 }
 
-static int32_t plain_answers(const struct line *line, uint32_t letter, uint8_t *answer)
+static int32_t plain_answers(const struct line *line, size_t place, union answer *answer)
 {
-    (void)letter;
-    return plain_answer(line->bytes, line->length, answer, LONGEST_ANSWER);
-}
-
-static int32_t marehour_counts(const struct line *line, uint32_t letter, uint8_t *answer)
-{
-    return marehour_lanes(line->bytes, line->length, letter, answer, LONGEST_ANSWER);
-}
-
-static int32_t plain_counts(const struct line *line, uint32_t letter, uint8_t *answer)
-{
-    return plain_lanes(line->bytes, line->length, letter, answer, LONGEST_ANSWER);
+    (void)place;
+    return plain_answer(line->bytes, line->length, answer->text, LONGEST_ANSWER);
 }
 
 /* The letters take turns. */
-static uint32_t letter_for(size_t i)
+static uint32_t letter_at(size_t place)
 {
-    return 1 + (uint32_t)(i % 5);
+    return 1 + (uint32_t)(place % 5);
+}
+
+static int32_t marehour_counts(const struct line *line, size_t place, union answer *answer)
+{
+    return marehour_lanes(line->bytes, line->length, letter_at(place), answer->text, LONGEST_ANSWER);
+}
+
+static int32_t plain_counts(const struct line *line, size_t place, union answer *answer)
+{
+    return plain_lanes(line->bytes, line->length, letter_at(place), answer->text, LONGEST_ANSWER);
+}
+
+/* Daily traffics from 0 to 149,999; urban and rural roads take turns. */
+static uint64_t traffic_at(size_t place)
+{
+    return place * 7919 % 150000;
+}
+
+static uint32_t peak_share_at(size_t place)
+{
+    return place % 2 == 0 ? 90 : 110;
+}
+
+static int32_t marehour_dailies(const struct line *line, size_t place, union answer *answer)
+{
+    return marehour_daily(line->bytes, line->length, traffic_at(place), peak_share_at(place), 550, answer->figures, DAILY_FIGURES);
+}
+
+static int32_t plain_dailies(const struct line *line, size_t place, union answer *answer)
+{
+    return plain_daily(line->bytes, line->length, traffic_at(place), peak_share_at(place), 550, answer->figures, DAILY_FIGURES);
 }
 
 static void compare(call *one, call *other)
 {
-    uint8_t answer[LONGEST_ANSWER], expected[LONGEST_ANSWER];
-    memset(answer, 0, sizeof answer);
-    memset(expected, 0, sizeof expected);
+    union answer answer, expected;
+    memset(&answer, 0, sizeof answer);
+    memset(&expected, 0, sizeof expected);
     for (size_t i = 0; i < lines.count; i++) {
-        int32_t result = one(&lines.all[i], letter_for(i), answer);
-        if (result != other(&lines.all[i], letter_for(i), expected) || memcmp(answer, expected, sizeof answer) != 0) {
+        int32_t result = one(&lines.all[i], i, &answer);
+        if (result != other(&lines.all[i], i, &expected) || memcmp(&answer, &expected, sizeof answer) != 0) {
             give_up("the library and plain C differ");
         }
     }
@@ -58,10 +85,10 @@ static void compare(call *one, call *other)
 /* Nanoseconds a call, over all lines once. */
 static double timed(call *asked)
 {
-    uint8_t answer[LONGEST_ANSWER];
+    union answer answer;
     double start = now();
     for (size_t i = 0; i < lines.count; i++) {
-        asked(&lines.all[i], letter_for(i), answer);
+        asked(&lines.all[i], i, &answer);
     }
     return (now() - start) / (double)lines.count;
 }
@@ -89,5 +116,6 @@ int main(int argc, char **argv)
     printf("%-24s %10s %14s %8s\n", "call", "ns", "plain C, ns", "ratio");
     race("marehour_answer", marehour_answers, plain_answers, runs);
     race("marehour_lanes", marehour_counts, plain_counts, runs);
+    race("marehour_daily", marehour_dailies, plain_dailies, runs);
     return 0;
 }

@@ -2,7 +2,9 @@
 #include "section.h"
 #include <stdbool.h>
 
-enum { LONGEST_LINE = 80, GREATEST_DEMAND = 99999 };
+enum { LONGEST_LINE = 80, GREATEST_DEMAND = 99999, MILLION = 1000000 };
+
+#define GREATEST_DAILY_TRAFFIC 4000000000
 
 enum refusal {
     DEMAND_TOO_LARGE = 7,
@@ -12,7 +14,9 @@ enum refusal {
     LETTER_UNKNOWN = 16,
     BUFFER_TOO_SHORT = 17,
     DAY_UNFIT = 18,
-    WEATHER_UNFIT = 19
+    WEATHER_UNFIT = 19,
+    SHARES_UNFIT = 20,
+    DAILY_TRAFFIC_TOO_LARGE = 21
 };
 
 enum number { SPEED, WIDTH, RIGHT, LEFT, ACCESS, LANES, DEMAND, FACTOR, SHARE, SPEED_FACTOR, CAPACITY_FACTOR, NUMBERS };
@@ -387,12 +391,13 @@ static void put_refused(uint64_t *answer, uint64_t number)
     }
 }
 
-static void put_graded(uint64_t *answer, const struct curve *curve, uint64_t v, const uint64_t *volumes)
+/* The eleven figures of an answer. */
+static void put_figures(uint64_t *answer, const struct curve *curve, uint64_t v, const uint64_t *volumes)
 {
     struct performance performance = performance_at(curve, v);
-    uint64_t figures[7] = {0, performance.letter, curve->speed, curve->capacity, v, performance.speed, performance.density};
-    for (int i = 0; i < DAY_FIGURES; i++) {
-        answer[i] = i < 7 ? figures[i] : volumes[i - 7];
+    uint64_t figures[6] = {performance.letter, curve->speed, curve->capacity, v, performance.speed, performance.density};
+    for (int i = 0; i < DAY_FIGURES - 1; i++) {
+        answer[i] = i < 6 ? figures[i] : volumes[i - 6];
     }
 }
 
@@ -430,10 +435,54 @@ int32_t plain_day(const uint8_t *line, size_t line_length, const uint64_t *deman
         if (demands[i] > GREATEST_DEMAND) {
             put_refused(answers + DAY_FIGURES * i, DEMAND_TOO_LARGE);
         } else {
-            put_graded(answers + DAY_FIGURES * i, &curve, flow_rate(&load, demands[i]), volumes);
+            answers[DAY_FIGURES * i] = 0;
+            put_figures(answers + DAY_FIGURES * i + 1, &curve, flow_rate(&load, demands[i]), volumes);
         }
     }
     return (int32_t)demand_count;
+}
+
+static bool share_unfit(uint32_t share)
+{
+    return share < 1 || share > 1000;
+}
+
+int32_t plain_daily(const uint8_t *line, size_t line_length, uint64_t daily_traffic, uint32_t peak_share, uint32_t direction_share,
+                    uint64_t *figures, size_t figures_length)
+{
+    struct section section;
+    struct curve curve;
+    uint64_t volumes[5];
+    if (figures_length < DAILY_FIGURES) {
+        return -BUFFER_TOO_SHORT;
+    }
+    if (!read_section(line, line_length, &section)) {
+        return -LINE_MALFORMED;
+    }
+    if (share_unfit(peak_share) || share_unfit(direction_share)) {
+        return -SHARES_UNFIT;
+    }
+    if (daily_traffic > GREATEST_DAILY_TRAFFIC) {
+        return -DAILY_TRAFFIC_TOO_LARGE;
+    }
+    uint64_t share = (uint64_t)peak_share * direction_share, demand = div_up(daily_traffic * share, MILLION);
+    int32_t refusal = field_refusal(&section);
+    if (demand > GREATEST_DEMAND && (refusal == 0 || refusal > DEMAND_TOO_LARGE)) {
+        refusal = DEMAND_TOO_LARGE;
+    }
+    if (refusal != 0) {
+        return -refusal;
+    }
+    if (!make_curve(&section, section.numbers[LANES], &curve)) {
+        return -SPEED_BELOW_LOWER_END;
+    }
+    struct load load = load_of(&section, section.numbers[LANES]);
+    service_volumes(&curve, &load, volumes);
+    put_figures(figures, &curve, flow_rate(&load, demand), volumes);
+    for (int i = 0; i < 5; i++) {
+        figures[DAILY_FIGURES - 5 + i] = lesser(volumes[i] * MILLION / share, GREATEST_DAILY_TRAFFIC);
+    }
+    return DAILY_FIGURES;
 }
 
 static bool meets_with(const struct section *section, uint64_t lanes, uint64_t limit)
