@@ -1,5 +1,6 @@
 -- Instances of the promises (specs/Instances), shown by the promises.
 --   printed-accepted, printed-figures   the printed road with 40,404 a day
+--   no-traffic-meets-a  the printed road with no traffic
 --   instances-shown    each is what is to be shown
 -- Assumes nothing.
 use mathlib.Core.Path.{_≡_, refl, ap, _∙_}
@@ -19,9 +20,7 @@ use Rattle.checks.specs.Figures.{Shown}
 use Rattle.curve.specs.Curves.{capacity, breakpoint}
 use Rattle.curve.specs.Weather.{adjustedSpeed, adjustedCapacity, adjustedBreakpoint, curveUnder}
 use Rattle.curve.specs.Speed.{fallShareBy, speed, shownSpeed}
-use Rattle.curve.specs.Service.{density, shownDensity, densityLimit, densityLetter, letterAt, performance, letterNumber}
-use Rattle.curve.specs.declared.service.Letter.{Letter}
-use Rattle.curve.specs.declared.service.Letter.the-variants as Letter
+use Rattle.curve.specs.Service.{density, shownDensity, densityLimit, densityLetter, letterAt, performance}
 use Rattle.road.specs.FreeFlowSpeed.{uncappedBy, freeFlowSpeed}
 use Rattle.road.specs.Refusals.{weatherUnfit, roadRefusals, loadRefusals, fieldRefusals}
 use Rattle.method.specs.Refusals.{speedRefusals, refusals}
@@ -33,10 +32,10 @@ use Rattle.answer.specs.Answers.{graded}
 use Rattle.answer.proofs.Boundary.{example-accepted, example-figures}
 use Rattle.daily.specs.declared.Shares.{Shares}
 use Rattle.daily.specs.declared.DailyAnswer.{DailyAnswer}
-use Rattle.daily.specs.Daily.{sharesOf, sharesUnfit, trafficRefusals, hourlyDemand, hourlyCase, dailyAnswer, refusalNumber, values}
+use Rattle.daily.specs.Daily.{sharesOf, sharesUnfit, trafficRefusals, hourlyDemand, dailyAnswer, refusalNumber, values}
 use Rattle.daily.specs.Promises.{AcceptedTraffic, letterIn, dailyVolumeIn, MeetsByDay, byTheDay}
-use Rattle.daily.specs.Instances.{urban, eightLanes, volumesIn, printedFigures, dailyInstances}
-use Rattle.daily.proofs.DailyLaws.{accepted-of, answer-accepted}
+use Rattle.daily.specs.Instances.{urban, eightLanes, volumesIn, printedFigures, NoTrafficMeetsA, dailyInstances}
+use Rattle.daily.proofs.DailyLaws.{accepted-of}
 use Rattle.daily.proofs.Promises.{figures-of-the-hour, meets-up-to-the-daily-volume}
 
 -- ---- the printed road
@@ -64,28 +63,17 @@ letter-is daily n met fails = go (decLe (letterIn (dailyAnswer example urban dai
     go (yes l) = absurd (fails (met .0, l))
     go (no l) = omega (arith, met .1)
 
--- A is 1, and no letter is before it
-letterNumber-ge : (l : Letter) → 1 ≤ letterNumber l
-letterNumber-ge Letter.A = omega arith
-letterNumber-ge Letter.B = omega arith
-letterNumber-ge Letter.C = omega arith
-letterNumber-ge Letter.D = omega arith
-letterNumber-ge Letter.E = omega arith
-letterNumber-ge Letter.F = omega arith
-
-letter-ge : (daily : ℕ) → AcceptedTraffic example urban daily → 1 ≤ letterIn (dailyAnswer example urban daily)
-letter-ge daily z = rw (answer-accepted example urban daily z) (letterNumber-ge (graded (hourlyCase example urban daily) .letter))
-
-printed-letters : map (λ daily. letterIn (dailyAnswer example urban daily)) (53373 ∷ 53374 ∷ 0 ∷ []) ≡ 3 ∷ 4 ∷ 1 ∷ []
+printed-letters : map (λ daily. letterIn (dailyAnswer example urban daily)) (53373 ∷ 53374 ∷ []) ≡ 3 ∷ 4 ∷ []
 printed-letters =
     rw (
       letter-is 53373 2 (printed-meets 3 53373 (omega arith) (omega arith) .1 (lit≤ tt))
           (λ m. le→leb 53373 36949 (printed-meets 2 53373 (omega arith) (omega arith) .0 m)),
       letter-is 53374 3 (printed-meets 4 53374 (omega arith) (omega arith) .1 (lit≤ tt))
           (λ m. le→leb 53374 53373 (printed-meets 3 53374 (omega arith) (omega arith) .0 m)),
-      letter-is 0 0 (printed-meets 1 0 (omega arith) (omega arith) .1 (lit≤ tt))
-          (λ m. omega (arith, m .1, letter-ge 0 (m .0))),
     )
+
+pub no-traffic-meets-a : NoTrafficMeetsA
+no-traffic-meets-a = printed-meets 1 0 (omega arith) (omega arith) .1 (lit≤ tt)
 
 -- ---- 8 lanes at 75,000
 -- whether an answer has no number, and letter number n or a better one
@@ -116,34 +104,32 @@ volume-is shares n daily z h k ends =
     (λ l. T-not (met next n) (and-right (met here n) (not (met next n)) ends) (met-iff next n .1 (up-to (suc daily) .1 l))) in
     omega (arith, below, up-to daily .0 (met-iff here n .0 (and-left (met here n) (not (met next n)) ends)))
 
+module _ (shares : Shares) (z : AcceptedTraffic eightLanes shares 0) where
+  ends : ℕ → ℕ → Bool
+  ends n = endsAt (λ daily. met (dailyAnswer eightLanes shares daily) n)
+
+  five : (a b c d e : ℕ) → T (ends 1 a) → T (ends 2 b) → T (ends 3 c) → T (ends 4 d) → T (ends 5 e)
+      → volumesIn (dailyAnswer eightLanes shares 0) ≡ a ∷ b ∷ c ∷ d ∷ e ∷ []
+  unfolding ends
+  five a b c d e ends-a ends-b ends-c ends-d ends-e =
+      rw (
+        volume-is shares 1 a z tt tt ends-a,
+        volume-is shares 2 b z tt tt ends-b,
+        volume-is shares 3 c z tt tt ends-c,
+        volume-is shares 4 d z tt tt ends-d,
+        volume-is shares 5 e z tt tt ends-e,
+      )
+
 eight-lanes : (volumesIn (dailyAnswer eightLanes (sharesOf 2 2) 0) ≡ 1650000000 ∷ 2656000000 ∷ 3552000000 ∷ 4000000000 ∷ 4000000000 ∷ [])
     × (volumesIn (dailyAnswer eightLanes (sharesOf 1 1) 0) ≡ 4000000000 ∷ 4000000000 ∷ 4000000000 ∷ 4000000000 ∷ 4000000000 ∷ [])
     × (volumesIn (dailyAnswer eightLanes (sharesOf 1000 1000) 0) ≡ 6600 ∷ 10624 ∷ 14208 ∷ 17040 ∷ 19200 ∷ [])
 unfolding divUp uncappedBy freeFlowSpeed weatherUnfit roadRefusals loadRefusals fieldRefusals adjustedSpeed speedRefusals refusals capacity
     breakpoint adjustedCapacity adjustedBreakpoint curveUnder curveOf heavyFactor flowRate fallShareBy speed shownSpeed density
-    shownDensity densityLimit densityLetter letterAt performance measures graded sharesUnfit trafficRefusals hourlyDemand endsAt met
+    shownDensity densityLimit densityLetter letterAt performance measures graded sharesUnfit trafficRefusals hourlyDemand endsAt met ends
 eight-lanes = (
-  rw (
-    volume-is (sharesOf 2 2) 1 1650000000 refl tt tt tt,
-    volume-is (sharesOf 2 2) 2 2656000000 refl tt tt tt,
-    volume-is (sharesOf 2 2) 3 3552000000 refl tt tt tt,
-    volume-is (sharesOf 2 2) 4 4000000000 refl tt tt tt,
-    volume-is (sharesOf 2 2) 5 4000000000 refl tt tt tt,
-  ),
-  rw (
-    volume-is (sharesOf 1 1) 1 4000000000 refl tt tt tt,
-    volume-is (sharesOf 1 1) 2 4000000000 refl tt tt tt,
-    volume-is (sharesOf 1 1) 3 4000000000 refl tt tt tt,
-    volume-is (sharesOf 1 1) 4 4000000000 refl tt tt tt,
-    volume-is (sharesOf 1 1) 5 4000000000 refl tt tt tt,
-  ),
-  rw (
-    volume-is (sharesOf 1000 1000) 1 6600 refl tt tt tt,
-    volume-is (sharesOf 1000 1000) 2 10624 refl tt tt tt,
-    volume-is (sharesOf 1000 1000) 3 14208 refl tt tt tt,
-    volume-is (sharesOf 1000 1000) 4 17040 refl tt tt tt,
-    volume-is (sharesOf 1000 1000) 5 19200 refl tt tt tt,
-  ),
+  five (sharesOf 2 2) refl 1650000000 2656000000 3552000000 4000000000 4000000000 tt tt tt tt tt,
+  five (sharesOf 1 1) refl 4000000000 4000000000 4000000000 4000000000 4000000000 tt tt tt tt tt,
+  five (sharesOf 1000 1000) refl 6600 10624 14208 17040 19200 tt tt tt tt tt,
 )
 
 pub instances-shown : Shown dailyInstances

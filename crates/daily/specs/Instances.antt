@@ -6,6 +6,7 @@
 --   told a           the number of an answer's refusal, 0 for none, and its values
 --   volumesIn a      its daily service volumes A to E
 --   printedFigures   what the printed road gets with a daily traffic whose hourly demand is 2,000
+--   NoTrafficMeetsA  the printed road meets A with no traffic
 --   hourlyInstances, refusalInstances, dailyInstances   what is worked out, and what is to be shown
 -- Assumes nothing.
 use mathlib.Core.List.{List, [], _∷_, map}
@@ -20,7 +21,7 @@ use Rattle.method.specs.Boundary.{example, given, twoLanes, refusedByAll}
 use Rattle.daily.specs.declared.Shares.{Shares}
 use Rattle.daily.specs.declared.DailyAnswer.{DailyAnswer}
 use Rattle.daily.specs.Daily.{sharesOf, hourlyDemand, dailyAnswer, refusalNumber, values}
-use Rattle.daily.specs.Promises.{letterIn, dailyVolumeIn}
+use Rattle.daily.specs.Promises.{letterIn, dailyVolumeIn, MeetsByDay}
 
 abbrev pub urban : Shares
 urban = sharesOf 90 550
@@ -43,6 +44,9 @@ volumesIn a = map (dailyVolumeIn a) (1 ∷ 2 ∷ 3 ∷ 4 ∷ 5 ∷ [])
 abbrev pub printedFigures : List ℕ
 printedFigures =
     3 ∷ 60783 ∷ 230783 ∷ 1196 ∷ 60783 ∷ 197 ∷ 1117 ∷ 1829 ∷ 2642 ∷ 3360 ∷ 3858 ∷ 22565 ∷ 36949 ∷ 53373 ∷ 67878 ∷ 77939 ∷ []
+
+abbrev pub NoTrafficMeetsA : Type 0
+NoTrafficMeetsA = MeetsByDay example urban 0 1
 
 -- Rounded up once: 12 × 0.0495 = 0.594, 20 × 0.0495 = 0.99, 21 × 0.0495 = 1.0395; exactly 1 at 1,000,000 with K = D = 1.
 unfoldable pub hourlyInstances : List Figure
@@ -70,12 +74,12 @@ refusalInstances =
     ∷ figure (told (dailyAnswer example (sharesOf 1000 1000) 1000000)) (7 ∷ [])
     ∷ []
 
--- The printed road with 40,404 a day, and its letters with 53,373, 53,374 and none; the daily service volumes of 8 lanes at 75,000 with
+-- The printed road with 40,404 a day, and its letters with 53,373 and 53,374; the daily service volumes of 8 lanes at 75,000 with
 -- K = D = 2, 1 and 1,000.
 unfoldable pub dailyInstances : List Figure
 dailyInstances =
     figure (told (dailyAnswer example urban 40404)) (0 ∷ printedFigures)
-    ∷ figure (map (λ daily. letterIn (dailyAnswer example urban daily)) (53373 ∷ 53374 ∷ 0 ∷ [])) (3 ∷ 4 ∷ 1 ∷ [])
+    ∷ figure (map (λ daily. letterIn (dailyAnswer example urban daily)) (53373 ∷ 53374 ∷ [])) (3 ∷ 4 ∷ [])
     ∷ figure (volumesIn (dailyAnswer eightLanes (sharesOf 2 2) 0)) (1650000000 ∷ 2656000000 ∷ 3552000000 ∷ 4000000000 ∷ 4000000000 ∷ [])
     ∷ figure (volumesIn (dailyAnswer eightLanes (sharesOf 1 1) 0)) (4000000000 ∷ 4000000000 ∷ 4000000000 ∷ 4000000000 ∷ 4000000000 ∷ [])
     ∷ figure (volumesIn (dailyAnswer eightLanes (sharesOf 1000 1000) 0)) (6600 ∷ 10624 ∷ 14208 ∷ 17040 ∷ 19200 ∷ [])
