@@ -16,4 +16,4 @@ hourly-shown = (refl, (refl, (refl, tt)))
 
 pub refusals-shown : Shown refusalInstances
 unfolding divUp weatherUnfit roadRefusals loadRefusals fieldRefusals refusals sharesUnfit trafficRefusals hourlyDemand refusalInstances
-refusals-shown = (refl, (refl, (refl, (refl, (refl, (refl, (refl, (refl, (refl, (refl, (refl, tt)))))))))))
+refusals-shown = (refl, (refl, (refl, (refl, (refl, (refl, (refl, (refl, (refl, (refl, (refl, (refl, tt))))))))))))

@@ -30,10 +30,10 @@ use Rattle.checks.proofs.RefusalLaws.{firstRefusal-none, firstRefusal-some, fir
 use Rattle.checks.proofs.RefusalLaws.{unlessRefused-some, unlessRefused-by, firstRefusal-le}
 use Rattle.road.specs.declared.Case.{Case}
 use Rattle.road.specs.Cases.{withDemand}
-use Rattle.road.specs.Refusals.{greatestDemand, roadRefusals, loadRefusals, fieldRefusals}
+use Rattle.road.specs.Refusals.{greatestDemand}
 use Rattle.road.proofs.RefusalLaws.{load-ends}
-use Rattle.method.specs.Refusals.{speedRefusals, refusals, Accepted}
-use Rattle.method.proofs.RefusalLaws.{accepted-fields}
+use Rattle.method.specs.Refusals.{refusals, Accepted}
+use Rattle.method.proofs.RefusalLaws.{accepted-fields, refusal-le}
 use Rattle.answer.specs.declared.evaluate.Volumes.{Volumes}
 use Rattle.answer.specs.declared.evaluate.Grade.{Grade}
 use Rattle.answer.specs.declared.evaluate.Answer.{Answer}
@@ -109,9 +109,13 @@ pub refused-in-order : RefusedInOrder
 refused-in-order = in-order
 
 pub number-le : (case : Case) (shares : Shares) (daily : ℕ) → refusalNumber (dailyAnswer case shares daily) ≤ 21
-unfolding roadRefusals loadRefusals fieldRefusals speedRefusals refusals trafficRefusals
+unfolding trafficRefusals
 number-le case shares daily =
-    rw (in-order case shares daily) (firstRefusal-le 21 (trafficRefusals shares daily ++ refusals (hourlyCase case shares daily)) tt)
+    let hourly = hourlyCase case shares daily in
+    unlessRefused-by (firstRefusal (trafficRefusals shares daily)) (withVolumes (answerTo hourly) (dailyVolumes case shares))
+    DailyAnswer.Refused (λ a. refusalNumber a ≤ 21)
+    (λ z. omega (arith, number-of (answerTo hourly) (dailyVolumes case shares), answerTo-number hourly, refusal-le hourly))
+    (λ p. firstRefusal-le 21 (trafficRefusals shares daily) tt)
 
 -- ---- letters and volumes by number
 pub by-letter : (P : ℕ → Type 0) → P 1 → P 2 → P 3 → P 4 → P 5 → (n : ℕ) → 1 ≤ n → n ≤ 5 → P n

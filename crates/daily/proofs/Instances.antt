@@ -6,12 +6,11 @@
 use mathlib.Core.Path.{_≡_, refl, ap, _∙_}
 use mathlib.Core.Logic.{_↔_}
 use mathlib.Core.Bool.{Bool, not, _&&_}
-use mathlib.Core.List.{[], _∷_, _++_, map}
-use Prim.Native.Nat.{ℕ, suc, _+_, _≤_}
+use mathlib.Core.List.{List, [], _∷_, _++_, map}
+use Prim.Native.Nat.{ℕ, suc, _+_, _≤_, _<_, zero-le}
 use native.Mathlib.Omega.{arith}
-use native.Mathlib.Decide.{decLe}
 use native.Mathlib.Nat.{lt-of-not-le}
-use lib.Dec.{T, T-not, leb, eqb, leb→le, le→leb, eqb→eq, lit≤}
+use lib.Dec.{T, T-not, leb, eqb, leb→le, le→leb, eqb→eq, lit≤, lit<}
 use lib.ListN.{drop, getD}
 use Rattle.numbers.specs.Division.{divUp}
 use Rattle.numbers.specs.Search.{endsAt}
@@ -21,59 +20,96 @@ use Rattle.curve.specs.Curves.{capacity, breakpoint}
 use Rattle.curve.specs.Weather.{adjustedSpeed, adjustedCapacity, adjustedBreakpoint, curveUnder}
 use Rattle.curve.specs.Speed.{fallShareBy, speed, shownSpeed}
 use Rattle.curve.specs.Service.{density, shownDensity, densityLimit, densityLetter, letterAt, performance}
+use Rattle.road.specs.declared.Case.{Case}
 use Rattle.road.specs.FreeFlowSpeed.{uncappedBy, freeFlowSpeed}
-use Rattle.road.specs.Refusals.{weatherUnfit, roadRefusals, loadRefusals, fieldRefusals}
+use Rattle.road.specs.Refusals.{greatestDemand, weatherUnfit, roadRefusals, loadRefusals, fieldRefusals}
 use Rattle.method.specs.Refusals.{speedRefusals, refusals}
 use Rattle.method.specs.Checked.{curveOf}
 use Rattle.method.specs.Flow.{heavyFactor, flowRate}
 use Rattle.method.specs.Assess.{measures}
 use Rattle.method.specs.Boundary.{example}
-use Rattle.answer.specs.Answers.{graded}
-use Rattle.answer.proofs.Boundary.{example-accepted, example-figures}
+use Rattle.answer.specs.Answers as answers
+use Rattle.answer.specs.Answers.{graded, answerTo}
+use Rattle.answer.specs.Boundary.{exampleInSnow}
+use Rattle.answer.specs.Instances.{multilaneWith}
+use Rattle.answer.proofs.Boundary.{example-accepted, snow-accepted, example-figures, example-in-snow}
 use Rattle.daily.specs.declared.Shares.{Shares}
 use Rattle.daily.specs.declared.DailyAnswer.{DailyAnswer}
-use Rattle.daily.specs.Daily.{sharesOf, sharesUnfit, trafficRefusals, hourlyDemand, dailyAnswer, refusalNumber, values}
+use Rattle.daily.specs.Daily.{sharesOf, sharesUnfit, trafficRefusals, hourlyDemand, hourlyCase, dailyAnswer, refusalNumber}
+use Rattle.daily.specs.Daily.{values}
 use Rattle.daily.specs.Promises.{AcceptedTraffic, letterIn, dailyVolumeIn, MeetsByDay, byTheDay}
-use Rattle.daily.specs.Instances.{urban, eightLanes, volumesIn, printedFigures, NoTrafficMeetsA, dailyInstances}
+use Rattle.daily.specs.Instances.{urban, rural, eightLanes, told, lettersAt, volumesIn, printedFigures, ruralFigures, snowFigures}
+use Rattle.daily.specs.Instances.{NoTrafficMeetsA, dailyInstances}
 use Rattle.daily.proofs.DailyLaws.{accepted-of}
 use Rattle.daily.proofs.Promises.{figures-of-the-hour, meets-up-to-the-daily-volume}
+
+-- ---- figures and letters by the promises
+-- the sixteen figures of an accepted case by the eleven of its hour
+told-by : (case : Case) (shares : Shares) (daily : ℕ) (figures : List ℕ) → AcceptedTraffic case shares daily
+    → answers.values (answerTo (hourlyCase case shares daily)) ≡ figures
+    → told (dailyAnswer case shares daily) ≡ 0 ∷ (figures ++ map (byTheDay shares) (drop 6 figures))
+told-by case shares daily figures z e = rw (z, figures-of-the-hour case shares daily z .0, e)
+
+-- a letter by the daily service volumes: at most its own, and above that of the next better one
+letter-by : (case : Case) (shares : Shares) (asked daily n : ℕ) → AcceptedTraffic case shares asked → 1 ≤ n → suc n ≤ 5
+    → daily ≤ dailyVolumeIn (dailyAnswer case shares asked) (suc n) → dailyVolumeIn (dailyAnswer case shares asked) n < daily
+    → letterIn (dailyAnswer case shares daily) ≡ suc n
+letter-by case shares asked daily n z h k within above =
+    let up-to = meets-up-to-the-daily-volume case shares asked z in
+    let met = up-to (suc n) (omega arith) k daily .1 within in
+    let worse = lt-of-not-le {n = letterIn (dailyAnswer case shares daily)} {m = n}
+    (λ l. omega (arith, above, up-to n h (omega arith) daily .0 (met .0, l))) in
+    omega (arith, worse, met .1)
 
 -- ---- the printed road
 pub printed-accepted : AcceptedTraffic example urban 40404
 unfolding divUp sharesUnfit trafficRefusals hourlyDemand
 printed-accepted = accepted-of example urban 40404 refl example-accepted
 
-pub printed-figures : values (dailyAnswer example urban 40404) ≡ printedFigures
+rural-accepted : AcceptedTraffic example rural 33057
+unfolding divUp sharesUnfit trafficRefusals hourlyDemand
+rural-accepted = accepted-of example rural 33057 refl example-accepted
+
+snowy-accepted : AcceptedTraffic (exampleInSnow 0) urban 40404
+unfolding divUp sharesUnfit trafficRefusals hourlyDemand
+snowy-accepted = accepted-of (exampleInSnow 0) urban 40404 refl (snow-accepted .1)
+
+all-told : (told (dailyAnswer example urban 40404) ≡ 0 ∷ printedFigures)
+    × (told (dailyAnswer example rural 33057) ≡ 0 ∷ ruralFigures) × (told (dailyAnswer (exampleInSnow 0) urban 40404) ≡ 0 ∷ snowFigures)
 unfolding divUp hourlyDemand
-printed-figures =
-    figures-of-the-hour example urban 40404 printed-accepted .0
-    ∙ ap (λ figures. figures ++ map (byTheDay urban) (drop 6 figures)) example-figures
+all-told = (
+  told-by example urban 40404 _ printed-accepted example-figures,
+  told-by example rural 33057 _ rural-accepted example-figures,
+  told-by (exampleInSnow 0) urban 40404 _ snowy-accepted (ap (drop 1) example-in-snow),
+)
 
--- a daily traffic meets a letter of the printed road exactly when it is at most the figure above
-printed-meets : (n daily : ℕ) → 1 ≤ n → n ≤ 5 → MeetsByDay example urban daily n ↔ (daily ≤ getD printedFigures (10 + n) 0)
-printed-meets n daily h k =
-    rw (ap (λ ns. getD ns (10 + n) 0) printed-figures) at (meets-up-to-the-daily-volume example urban 40404 printed-accepted n h k daily)
+pub printed-figures : values (dailyAnswer example urban 40404) ≡ printedFigures
+printed-figures = ap (drop 1) (all-told .0)
 
--- a letter by what is met: it, and not the next better one
-letter-is : (daily n : ℕ) → MeetsByDay example urban daily (suc n) → (MeetsByDay example urban daily n → ⊥)
-    → letterIn (dailyAnswer example urban daily) ≡ suc n
-letter-is daily n met fails = go (decLe (letterIn (dailyAnswer example urban daily)) n)
-  where
-    go : Dec (letterIn (dailyAnswer example urban daily) ≤ n) → letterIn (dailyAnswer example urban daily) ≡ suc n
-    go (yes l) = absurd (fails (met .0, l))
-    go (no l) = omega (arith, met .1)
+rural-figures : values (dailyAnswer example rural 33057) ≡ ruralFigures
+rural-figures = ap (drop 1) (all-told .1)
 
-printed-letters : map (λ daily. letterIn (dailyAnswer example urban daily)) (53373 ∷ 53374 ∷ []) ≡ 3 ∷ 4 ∷ []
-printed-letters =
-    rw (
-      letter-is 53373 2 (printed-meets 3 53373 (omega arith) (omega arith) .1 (lit≤ tt))
-          (λ m. le→leb 53373 36949 (printed-meets 2 53373 (omega arith) (omega arith) .0 m)),
-      letter-is 53374 3 (printed-meets 4 53374 (omega arith) (omega arith) .1 (lit≤ tt))
-          (λ m. le→leb 53374 53373 (printed-meets 3 53374 (omega arith) (omega arith) .0 m)),
+letters : (lettersAt example urban (53373 ∷ 53374 ∷ []) ≡ 3 ∷ 4 ∷ []) × (lettersAt example rural (53373 ∷ []) ≡ 4 ∷ [])
+letters =
+    let by = letter-by example urban 40404 in (
+      rw (
+        by 53373 2 printed-accepted (omega arith) (omega arith) (rw printed-figures (lit≤ tt)) (rw printed-figures (lit< tt)),
+        by 53374 3 printed-accepted (omega arith) (omega arith) (rw printed-figures (lit≤ tt)) (rw printed-figures (lit< tt)),
+      ),
+      rw (letter-by example rural 33057 53373 3 rural-accepted (omega arith) (omega arith)
+          (rw rural-figures (lit≤ tt)) (rw rural-figures (lit< tt))),
     )
 
 pub no-traffic-meets-a : NoTrafficMeetsA
-no-traffic-meets-a = printed-meets 1 0 (omega arith) (omega arith) .1 (lit≤ tt)
+no-traffic-meets-a = meets-up-to-the-daily-volume example urban 40404 printed-accepted 1 (omega arith) (omega arith) 0 .1 zero-le
+
+-- ---- letters that are worked out
+worked-out : (lettersAt eightLanes (sharesOf 1000 1000) (19200 ∷ 19201 ∷ greatestDemand ∷ []) ≡ 5 ∷ 6 ∷ 6 ∷ [])
+    × (lettersAt (multilaneWith 0) (sharesOf 90 1000) (24000 ∷ 24001 ∷ []) ≡ 2 ∷ 3 ∷ [])
+unfolding divUp uncappedBy freeFlowSpeed weatherUnfit roadRefusals loadRefusals fieldRefusals adjustedSpeed speedRefusals refusals capacity
+    breakpoint adjustedCapacity adjustedBreakpoint curveUnder curveOf heavyFactor flowRate fallShareBy speed shownSpeed density
+    shownDensity densityLimit densityLetter letterAt performance measures graded sharesUnfit trafficRefusals hourlyDemand
+worked-out = (refl, refl)
 
 -- ---- 8 lanes at 75,000
 -- whether an answer has no number, and letter number n or a better one
@@ -135,5 +171,8 @@ eight-lanes = (
 pub instances-shown : Shown dailyInstances
 unfolding dailyInstances
 instances-shown =
+    let t = all-told in
+    let l = letters in
+    let w = worked-out in
     let eight = eight-lanes in
-    (rw (printed-accepted, printed-figures), (printed-letters, (eight .0, (eight .1, (eight .2, tt)))))
+    (t .0, (t .1, (t .2, (l .0, (l .1, (w .0, (w .1, (eight .0, (eight .1, (eight .2, tt))))))))))

@@ -26,7 +26,7 @@ use Rattle.answer.specs.Answers as answers
 use Rattle.answer.specs.Answers.{answerTo}
 use Rattle.daily.specs.declared.Shares.{Shares}
 use Rattle.daily.specs.declared.DailyAnswer.{DailyAnswer}
-use Rattle.daily.specs.Daily.{greatestDailyTraffic, trafficRefusals, hourlyDemand, hourlyCase, dailyAnswer}
+use Rattle.daily.specs.Daily.{greatestDailyTraffic, trafficRefusals, hourlyDemand, dailyAnswer}
 use Rattle.daily.specs.Daily.{figureCount, refusalNumber, values}
 
 abbrev pub AcceptedTraffic : Case → Shares → ℕ → Type 0
@@ -63,7 +63,7 @@ byTheDay shares volume = min (volume * 1000000 / (shares .peak * shares .directi
 abbrev pub FiguresOfTheHour : Type 0
 FiguresOfTheHour =
     (case : Case) (shares : Shares) (daily : ℕ) → AcceptedTraffic case shares daily
-    → let figures = answers.values (answerTo (hourlyCase case shares daily)) in
+    → let figures = answers.values (answerTo (withDemand case (hourlyDemand shares daily))) in
     (values (dailyAnswer case shares daily) ≡ figures ++ map (byTheDay shares) (drop 6 figures))
     × (length (values (dailyAnswer case shares daily)) ≡ figureCount)
 
@@ -81,7 +81,7 @@ abbrev pub RefusedInOrder : Type 0
 RefusedInOrder =
     (case : Case) (shares : Shares) (daily : ℕ)
     → refusalNumber (dailyAnswer case shares daily)
-    ≡ firstRefusal (trafficRefusals shares daily ++ refusals (hourlyCase case shares daily))
+    ≡ firstRefusal (trafficRefusals shares daily ++ refusals (withDemand case (hourlyDemand shares daily)))
 
 -- "thousandths from 1 to 1,000"
 abbrev pub SharesInRange : Shares → Type 0
@@ -94,4 +94,4 @@ RefusedExactly =
     ((number ≡ 20) ↔ (SharesInRange shares → ⊥))
     × ((number ≡ 21) ↔ (SharesInRange shares × (greatestDailyTraffic < daily)))
     × (SharesInRange shares → daily ≤ greatestDailyTraffic
-    → number ≡ answers.refusalNumber (answerTo (hourlyCase case shares daily)))
+    → number ≡ answers.refusalNumber (answerTo (withDemand case (hourlyDemand shares daily))))

@@ -1,5 +1,5 @@
--- The daily traffic that a service volume lets pass. It is no part of the request: proofs/WithinLaws shows that a daily service volume is
--- it, of the service volume in the engine's answer, and that a division finds it.
+-- The daily traffic that a service volume lets pass. It is no part of the request: proofs/DailyLaws shows that a daily service volume is
+-- it, of the service volume in the engine's answer, and proofs/WithinLaws that a division finds it.
 --   trafficWithin shares volume   the greatest daily traffic whose hourly demand is at most a volume
 --   VolumesFit grade              no service volume of a grade is above the greatest demand
 --   volumesWithin shares grade    those of its service volumes A to E

@@ -1,6 +1,5 @@
 // Daily: the answer to a case with the hourly demand of a daily traffic in the place of its own, and its daily service volumes.
 //   GREATEST_DAILY_TRAFFIC   the greatest daily traffic that 21 lets pass
-//   MILLION           what one is in millionths, the unit of K × D
 //   SHARES_UNFIT, DAILY_TRAFFIC_TOO_LARGE   refusals 20 and 21
 //   FIGURES           how many numbers an answer has
 //   Shares            K and D in thousandths: the peak hour's share of the daily traffic, and the direction's share of the peak hour
@@ -24,7 +23,8 @@ ghost use Rattle.daily.specs.Within.{trafficWithin, VolumesFit, volumesW
 
 pub const GREATEST_DAILY_TRAFFIC: u64 = 4_000_000_000;
 
-pub const MILLION: u64 = 1_000_000;
+// What one is in millionths, the unit of K × D.
+const MILLION: u64 = 1_000_000;
 
 pub const SHARES_UNFIT: u64 = 20;
 

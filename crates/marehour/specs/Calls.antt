@@ -9,14 +9,14 @@
 --   lanesReply n case      the same for the lanes question and letter number n
 --   dayReply demands case  the same for a day of demands
 --   figuresReply a         the reply of an answer to a daily traffic
---   dailyReply shares daily case   the same for a daily traffic and its shares
+--   dailyReply shares traffic case   the same for a daily traffic and its shares
 --   lineReply reply r      the reply to a line that was read, by the reply to its case
 --   lineCall reply r lent  the reply of a call to a line that was read, by what refuses the lent memory
 --   bufferRefusals least room   17, of lent memory of room bytes or numbers that must have so many at least
 --   answerCall line room   the reply of the call for the answer to a line
 --   lanesCall line n room  the same for the lanes question and letter number n
 --   dayCall line demands room   the same for a day of demands, with room for so many numbers
---   dailyCall line shares daily room   the same for a daily traffic and its shares, with room for so many numbers
+--   dailyCall line shares traffic room   the same for a daily traffic and its shares, with room for so many numbers
 --   handedBack count r     what a call hands back, by how it counts what is written
 --   result r               the same in bytes, or in numbers where numbers are written
 --   answerCount ns         how many answers so many numbers are
