@@ -206,15 +206,14 @@ pub engine-answers : (case : Case) (shares : Shares) (daily : ℕ) {demand : ℕ
     → answerTo (hourlyCase case shares daily) ≡ answer
 engine-answers case shares daily d e f g = sym (ap answerTo (e ∙ ap (withDemand case) d)) ∙ sym f ∙ g
 
-module _ (case : Case) (shares : Shares) (daily : ℕ) (fits : TrafficFits shares daily) where
-  pub engine-accepted : (grade : Grade) → answerTo (hourlyCase case shares daily) ≡ Answer.Graded grade
-      → Accepted (hourlyCase case shares daily)
-  engine-accepted grade e = sym (answerTo-number (hourlyCase case shares daily)) ∙ ap answers.refusalNumber e
+pub engine-accepted : (c : Case) (grade : Grade) → answerTo c ≡ Answer.Graded grade → Accepted c
+engine-accepted c grade e = sym (answerTo-number c) ∙ ap answers.refusalNumber e
 
+module _ (case : Case) (shares : Shares) (daily : ℕ) (fits : TrafficFits shares daily) where
   pub answer-graded : (grade : Grade) → answerTo (hourlyCase case shares daily) ≡ Answer.Graded grade
       → DailyAnswer.Graded grade (volumesWithin shares grade) ≡ dailyAnswer case shares daily
   answer-graded grade e =
-      ap (DailyAnswer.Graded grade) (volumes-eq case shares daily (engine-accepted grade e) grade e)
+      ap (DailyAnswer.Graded grade) (volumes-eq case shares daily (engine-accepted (hourlyCase case shares daily) grade e) grade e)
       ∙ sym (answer-fits case shares daily fits ∙ ap (λ a. withVolumes a (dailyVolumes case shares)) e)
 
   pub answer-refused : (number : ℕ) → answerTo (hourlyCase case shares daily) ≡ Answer.Refused number

@@ -24,7 +24,7 @@ volumes-within-requires c κs =
     let e = engine-answers (a .case) (a .shares) (a .daily-traffic) (engine .before .before .hourly-demand .ensures)
     (engine .before .with-demand .ensures) (engine .evaluate .ensures) (c .before .answer .given .1) in (
       fits-of (a .shares) 0 (shares-fit (a .shares) (a .daily-traffic) fits) (omega arith),
-      volumes-fit _ (engine-accepted (a .case) (a .shares) (a .daily-traffic) fits _ e) _ e,
+      volumes-fit _ (engine-accepted _ _ e) _ e,
     )
 
 returns-2 : tie.Need-returns-2
