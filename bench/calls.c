@@ -9,13 +9,13 @@
 #include <stdlib.h>
 #include <string.h>
 
-/* Room for what any call writes. */
+/* Room for what any call timed here writes. */
 union answer {
     uint8_t text[LONGEST_ANSWER];
     uint64_t figures[DAILY_FIGURES];
 };
 
-/* The same question to the library or to plain C, about a line and by its place. */
+/* The same question to the library or to plain C about a line, whose place chooses the letter or the daily traffic. */
 typedef int32_t call(const struct line *line, size_t place, union answer *answer);
 
 static struct lines lines;

@@ -4,20 +4,20 @@
 
    LETTER is the target, A to E. LIST has a row for each section, its fields parted by tabs: a name; U for an urban road, R for a rural one;
    the daily traffic of both directions together, one to ten digits; and the section's line (13 or 15 fields), whose own demand is not
-   used. After a header there is a row for each section: name, daily traffic, hourly demand, letter, and the daily service volume of the
-   target, which is the greatest daily traffic that meets it. Of a section that is refused there are X and the refusal's number in the
-   place of the last three.
+   used. A row has at most 254 bytes. After a header there is a row for each section: name, daily traffic, hourly demand, letter, and the
+   daily service volume of the target, which is the greatest daily traffic that meets it. Of a section that is refused there are X and the
+   refusal's number in the place of the last three.
 
    K, the peak hour's share of the daily traffic, and D, the share of the busier direction in that hour, are those of source document 001:
    0.09 on urban and 0.11 on rural roads, and 0.55.
 
-   yearly.out is what it prints for C and yearly.tsv: the printed line of document 01, five sections of source document 001 by their
-   numbers, a multilane highway, and a freeway without snow and with it.
+   yearly.out is what it prints for C and yearly.tsv: the printed line of document 01 twice, five sections of source document 001 by their
+   numbers, a multilane highway, a freeway without snow and with it, and one that is refused.
 
    Exit status:
 
      0  everything is printed
-     1  a row of the list is not as above, or the list can't be read: its number is on standard error, and the rows before it are printed
+     1  a row of the list is not as above, and its number is on standard error, or the list can't be read; the rows before are printed
      2  bad arguments
      3  standard output can't be written */
 #include "host.h"
@@ -35,7 +35,7 @@ enum {
     DAILY_VOLUMES = 11 /* where the daily service volumes begin */
 };
 
-enum { DONE = 0, BAD_ROW = 1, BAD_ARGUMENTS = 2, NOT_WRITTEN = 3 };
+enum { DONE = 0, BAD_LIST = 1, BAD_ARGUMENTS = 2, NOT_WRITTEN = 3 };
 
 struct section {
     const char *name;
@@ -120,7 +120,7 @@ static unsigned long print_table(uint32_t target)
         }
         print_section(&section, target);
     }
-    return ferror(stdin) ? number : 0;
+    return 0;
 }
 
 int main(int count, char **arguments)
@@ -137,7 +137,11 @@ int main(int count, char **arguments)
     }
     if (bad > 0) {
         fprintf(stderr, "yearly: row %lu is not a name, U or R, a daily traffic and a section's line\n", bad);
-        return BAD_ROW;
+        return BAD_LIST;
+    }
+    if (ferror(stdin)) {
+        fprintf(stderr, "yearly: the list can't be read\n");
+        return BAD_LIST;
     }
     return DONE;
 }

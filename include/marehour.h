@@ -109,14 +109,15 @@ enum {
     MAREHOUR_NO_LANE_COUNT = 14,         /* no lane count of the kind meets the letter */
     MAREHOUR_LINE_MALFORMED = 15,        /* not a line as above, or longer than 80 bytes */
     MAREHOUR_LETTER_UNKNOWN = 16,        /* letter number not 1 to 5 */
-    MAREHOUR_BUFFER_TOO_SHORT = 17,      /* answer buffer under MAREHOUR_ANSWER_SIZE bytes, or room
-                                            for fewer than MAREHOUR_DAILY_FIGURES numbers */
+    MAREHOUR_BUFFER_TOO_SHORT = 17,      /* answer buffer under MAREHOUR_ANSWER_SIZE bytes; with a
+                                            daily traffic, room for fewer than
+                                            MAREHOUR_DAILY_FIGURES numbers */
     MAREHOUR_DAY_UNFIT = 18,             /* no demand, more than MAREHOUR_DAY_DEMANDS, or room for
                                             fewer answers than demands */
     MAREHOUR_WEATHER_UNFIT = 19,         /* speed or capacity factor not 500 to 1,000 (F), not 1,000
                                             (M) */
     MAREHOUR_SHARES_UNFIT = 20,          /* peak share or direction share not 1 to 1,000 */
-    MAREHOUR_DAILY_TRAFFIC_TOO_LARGE = 21 /* above MAREHOUR_GREATEST_DAILY_TRAFFIC */
+    MAREHOUR_DAILY_TRAFFIC_TOO_LARGE = 21 /* daily traffic above MAREHOUR_GREATEST_DAILY_TRAFFIC */
 };
 
 int32_t marehour_answer(const uint8_t *line, size_t line_length, uint8_t *answer,
@@ -209,8 +210,8 @@ int32_t marehour_daily(const uint8_t *line, size_t line_length, uint64_t daily_t
    figures_length counts numbers. MAREHOUR_DAILY_FIGURES are written:
 
      letter by its number, A to F; free-flow speed; capacity; flow rate; speed; density; service
-     volumes A to E: what marehour_answer answers for the same section with the hourly demand; then
-     the daily service volumes A to E
+     volumes A to E: what marehour_answer answers for the same section with the hourly demand; then,
+     from figures[11] on, the daily service volumes A to E
 
    A daily service volume is the greatest daily traffic from 0 to MAREHOUR_GREATEST_DAILY_TRAFFIC
    whose hourly demand gets its letter or a better one: a daily traffic meets a letter exactly when

@@ -5,8 +5,8 @@
 
    Line, demands and buffer each lie between two pages that cannot be accessed: once they begin right behind the first, once they end right
    before the second. Line and demands are read-only while they are lent. The buffer and what is around it is filled with a pattern before a
-   call and compared byte by byte after it. A day asks a line with its own demand, with one that 7 refuses, and with its own again; a daily
-   traffic is asked of it with which its own demand is the hourly one, and some that are refused; what they must answer is had from the
+   call and compared byte by byte after it. A day asks a line with its own demand, with one that 7 refuses, and with its own again. It is
+   asked with a daily traffic whose hourly demand is its own, too, and with some that are refused. What these must answer is had from the
    line's own answer. Each set of checks runs in a child. Where the library passes, the checks run over calls that are wrong on purpose
    (tests/overrun.c), and each of these must end as its fault says. */
 #define _DEFAULT_SOURCE

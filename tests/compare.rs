@@ -3,7 +3,7 @@
 //
 //   compare quick         the documents' figures, the traps, the manual's examples, curves by a stride, random cases, floats, the laws,
 //                         whole days, how many demands are tried, how far multilane speeds are below the manual's curve, daily volumes,
-//                         the vectors
+//                         those of E that source document 001 prints, the vectors
 //   compare full-curves   every free-flow speed with every flow rate up to capacity and one more
 //   compare full-floats   every float in both units
 //   compare full-distances  every multilane speed past the breakpoint beside the manual's curve, by whole powers
@@ -24,6 +24,7 @@ mod compare {
     pub mod lent;
     pub mod los;
     pub mod paper;
+    pub mod printed;
     pub mod random;
     pub mod tally;
     pub mod traps;
@@ -40,7 +41,7 @@ use compare::paper::Paper;
 use compare::random::Random;
 use compare::tally::{Outcomes, Tally};
 use compare::tries::Tries;
-use compare::{curves, distances, floats, laws, los, traps, vectors};
+use compare::{curves, distances, floats, laws, los, printed, traps, vectors};
 use second::method::{Kind, Method};
 use second::survey::Unit;
 use std::process::exit;
@@ -155,6 +156,7 @@ fn quick(total: &mut Tally) {
     group(total, "demands tried", || tries(method));
     group(total, "distances from the curve", || distances(method));
     group(total, "daily volumes", || daily_volumes(method));
+    group(total, "daily volumes of E in source 001", || filled(printed::daily_volumes));
     group(total, "vectors", || filled(|tally| vectors::check(method, tally)));
 }
 

@@ -1,4 +1,4 @@
-// Checks the example host, examples/widening.c, at the project's root; the path of the built program is the argument.
+// Checks the example host examples/widening.c, at the project's root; the path of the built program is the argument.
 //   - status 0: the example's output; growth 0; 'none' from the first year and later; the most lanes; the passing of 99,999;
 //   - status 1: each refusal that a line can get, with its number;
 //   - status 2: bad arguments of each kind;

@@ -1,6 +1,6 @@
 // Checks the example host examples/yearly.c, at the project's root; the path of the built program is the argument.
 //   - status 0: the example's output, which is also worked out by the second implementation, for every target; refused sections;
-//   - status 1: rows that are no sections, with their numbers, after the rows before them;
+//   - status 1: a row that is no section, with its number, after the row before it; a list that can't be read;
 //   - status 2: bad arguments of each kind;
 //   - status 3: an output that can't be written.
 
@@ -14,7 +14,9 @@ use second::lines::letter_name;
 use second::method::Method;
 
 const USAGE: &str = "usage: yearly LETTER < LIST\nLETTER: A to E; LIST: rows of name, U or R, daily traffic and a section's line\n";
+const BAD_ROW: &str = "yearly: row 2 is not a name, U or R, a daily traffic and a section's line\n";
 const NOT_WRITTEN: &str = "yearly: standard output can't be written\n";
+const NOT_READ: &str = "yearly: the list can't be read\n";
 const ROAD: &str = "F G 75000 120 60 60 D 0 2 0 1000 0 L";
 
 // Of a road of F = 75,000 with two lanes, H = 1,000 and P = 0, whose service volume of C is 3,552 an hour: what stands before its line, and
@@ -89,19 +91,15 @@ fn expect_rows(yearly: &Host) {
     }
 }
 
-fn bad_row(number: u32) -> String {
-    format!("yearly: row {number} is not a name, U or R, a daily traffic and a section's line\n")
-}
-
 fn expect_bad_rows(yearly: &Host) {
     let (sound, printed) = (row(ROWS[0].0, ROAD), header('C') + &tabbed(ROWS[0].1) + "\n");
     let long = row(&format!("{} U 5", "a".repeat(256)), ROAD);
     let bad = BAD_STARTS.iter().map(|start| row(start, ROAD)).chain([long, "\n".to_string()]);
     for bad in bad {
         let got = yearly.run(&["C"], (sound.clone() + &bad + &sound).as_bytes());
-        yearly.expect(&bad, &got, 1, &printed, &bad_row(2));
+        yearly.expect(&bad, &got, 1, &printed, BAD_ROW);
     }
-    yearly.expect("a list that can't be read", &yearly.run_reading(".", &["C"]), 1, &header('C'), &bad_row(1));
+    yearly.expect("a list that can't be read", &yearly.run_reading(".", &["C"]), 1, &header('C'), NOT_READ);
 }
 
 fn expect_bad_arguments(yearly: &Host) {

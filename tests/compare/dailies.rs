@@ -32,10 +32,10 @@ const AT_3859: [u64; POSITION] = [0, 6, 60_783, 230_783, 2_308, 0, 0, 1_117, 1_8
 const FLOW_AT_GREATEST: u64 = (GREATEST_DEMAND * 1_100).div_ceil(920 * 2);
 const AT_GREATEST: [u64; POSITION] = [0, 6, 60_783, 230_783, FLOW_AT_GREATEST, 0, 0, 1_117, 1_829, 2_642, 3_360, 3_858];
 
-// Its daily service volumes in a town. A daily traffic is 0.0495 of itself an hour: 22,565 is 1,116.97 and 22,566 is 1,117.02; 36,949 is
-// 1,828.98 and 36,950 is 1,829.03; 53,373 is 2,641.96 and 53,374 is 2,642.01; 67,878 is 3,359.96 and 67,879 is 3,360.01; 77,939 is
-// 3,857.98 and 77,940 is 3,858.03.
-const IN_TOWN: [u64; 5] = [22_565, 36_949, 53_373, 67_878, 77_939];
+// Its daily service volumes on an urban road. A daily traffic is 0.0495 of itself an hour: 22,565 is 1,116.97 and 22,566 is 1,117.02;
+// 36,949 is 1,828.98 and 36,950 is 1,829.03; 53,373 is 2,641.96 and 53,374 is 2,642.01; 67,878 is 3,359.96 and 67,879 is 3,360.01;
+// 77,939 is 3,857.98 and 77,940 is 3,858.03.
+const ON_URBAN_ROADS: [u64; 5] = [22_565, 36_949, 53_373, 67_878, 77_939];
 const HOURLY: [u64; 5] = [1_117, 1_829, 2_642, 3_360, 3_858];
 
 // A given speed of 75,000 with eight lanes, H = 1,000 and P = 0: v is V / 8 rounded up, b = 100,000 and c = 240,000. The last flow rates of
@@ -62,31 +62,31 @@ const MULTILANE_AT_2161: [u64; POSITION] = [0, 3, 60_000, 220_000, 1_081, 60_000
 const MULTILANE_AT_3600: [u64; POSITION] = [0, 4, 60_000, 220_000, 1_800, 55_518, 325, 1_320, 2_160, 3_064, 3_786, 4_400];
 const MULTILANE_VOLUMES: [u64; 5] = [14_666, 24_000, 34_044, 42_066, 48_888];
 
-// The volumes of a day's snow, 1,566, 2,506, 3,294, 3,884 and 4,320, at 0.0605 an hour: 25,884 is 1,565.98, 41,421 is 2,505.97, 54,446 is
-// 3,293.98, 64,198 is 3,883.98 and 71,404 is 4,319.94, and one more is above each.
+// The service volumes of SNOW_AT_3000, 1,566, 2,506, 3,294, 3,884 and 4,320, at 0.0605 an hour: 25,884 is 1,565.98, 41,421 is 2,505.97,
+// 54,446 is 3,293.98, 64,198 is 3,883.98 and 71,404 is 4,319.94, and one more is above each.
 const SNOW: &str = "F G 75000 120 60 60 D 0 2 0 1000 0 L 950 900";
 const SNOW_VOLUMES: [u64; 5] = [25_884, 41_421, 54_446, 64_198, 71_404];
 
 // Lines, daily traffics, shares, the single answer to the hourly demand, and the daily service volumes. Blanks stand for tabs.
 const DAILIES: &[(&str, u64, Shares, [u64; POSITION], [u64; 5])] = &[
-    (LINE, 0, URBAN, AT_0, IN_TOWN),
-    (LINE, 1, URBAN, AT_1, IN_TOWN),
+    (LINE, 0, URBAN, AT_0, ON_URBAN_ROADS),
+    (LINE, 1, URBAN, AT_1, ON_URBAN_ROADS),
     // 0.594 an hour. Rounded twice, 12 × 0.09 would be 2, and 2 × 0.55 again 2.
-    (LINE, 12, URBAN, AT_1, IN_TOWN),
+    (LINE, 12, URBAN, AT_1, ON_URBAN_ROADS),
     // 9.999 an hour. Rounded twice it would be 11, whichever share comes first: 19 × 0.55 = 10.45, 112 × 0.09 = 10.08.
-    (LINE, 202, URBAN, AT_10, IN_TOWN),
-    (LINE, 202, [550, 90], AT_10, IN_TOWN),
-    (LINE, 53_373, URBAN, AT_2642, IN_TOWN),
-    (LINE, 53_374, URBAN, AT_2643, IN_TOWN),
-    (LINE, 77_939, URBAN, AT_3858, IN_TOWN),
-    (LINE, 77_940, URBAN, AT_3859, IN_TOWN),
+    (LINE, 202, URBAN, AT_10, ON_URBAN_ROADS),
+    (LINE, 202, [550, 90], AT_10, ON_URBAN_ROADS),
+    (LINE, 53_373, URBAN, AT_2642, ON_URBAN_ROADS),
+    (LINE, 53_374, URBAN, AT_2643, ON_URBAN_ROADS),
+    (LINE, 77_939, URBAN, AT_3858, ON_URBAN_ROADS),
+    (LINE, 77_940, URBAN, AT_3859, ON_URBAN_ROADS),
     (LINE, 2_000, WHOLE, AT_2000, HOURLY),
     (LINE, 2_643, WHOLE, AT_2643, HOURLY),
     (LINE, GREATEST_DEMAND, WHOLE, AT_GREATEST, HOURLY),
     // The line's own demand is not used. Clear weather is written out.
-    ("F E 75400 110 20 0 D 24 2 0 920 50 R", 53_373, URBAN, AT_2642, IN_TOWN),
-    ("F E 75400 110 20 0 D 24 2 54321 920 50 R", 53_374, URBAN, AT_2643, IN_TOWN),
-    ("F E 75400 110 20 0 D 24 2 2000 920 50 R 1000 1000", 0, URBAN, AT_0, IN_TOWN),
+    ("F E 75400 110 20 0 D 24 2 0 920 50 R", 53_373, URBAN, AT_2642, ON_URBAN_ROADS),
+    ("F E 75400 110 20 0 D 24 2 54321 920 50 R", 53_374, URBAN, AT_2643, ON_URBAN_ROADS),
+    ("F E 75400 110 20 0 D 24 2 2000 920 50 R 1000 1000", 0, URBAN, AT_0, ON_URBAN_ROADS),
     (WIDE, 4_000_000_000, [2, 2], WIDE_AT_16000, WIDE_BY_TWOS),
     (WIDE, 3_552_000_000, [2, 2], WIDE_AT_14208, WIDE_BY_TWOS),
     (WIDE, 3_552_000_001, [2, 2], WIDE_AT_14209, WIDE_BY_TWOS),

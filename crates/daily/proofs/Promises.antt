@@ -91,9 +91,10 @@ module _ (case : Case) (shares : Shares) (asked : ℕ) (z : AcceptedTraffic case
 -- above the end nothing is met
 pub meets-up-to-the-daily-volume : MeetsUpToTheDailyVolume
 meets-up-to-the-daily-volume case shares asked z n h k daily =
-    let within = met-iff case shares asked z n h k daily in (
+    let within = met-iff case shares asked z n h k daily in
+    let end = divided case shares asked z n h k in (
       λ m. let l = within (accepted-parts case shares daily (m .0) .0) .0 m in omega arith,
-      λ l. within (fits-of shares daily (fit-shares case shares asked z) (omega (arith, divided case shares asked z n h k))) .1 (omega arith),
+      λ l. within (fits-of shares daily (fit-shares case shares asked z) (omega (arith, end))) .1 (omega arith),
     )
 
 pub no-better-with-more-traffic : NoBetterWithMoreTraffic

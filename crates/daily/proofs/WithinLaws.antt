@@ -4,8 +4,8 @@
 --   passed             the same by the number that the code asks
 --   product-pos, product-le   K × D is from 1 to 1,000,000
 --   hourly-le-iff      the hourly demand is at most a volume exactly when daily traffic × K × D is at most as many millions
---   hourly-mono        it never falls with the traffic or a share
 --   within-iff         the same by the division of the volume's millions by K × D
+--   hourly-mono        it never falls with the traffic or a share
 --   trafficWithin-eq   the greatest daily traffic within a volume, by that division
 -- Assumes nothing.
 use mathlib.Core.Path.{_≡_}

@@ -78,8 +78,8 @@ hourlyInstances =
     ∷ []
 
 -- 20 before 21 before 1: a share of 0 and one of 1,001 with a daily traffic and a case that are refused too, and the others by themselves;
--- 4,000,000,001 and 2^64 - 1; then a case that breaks 1 to 10 and 19. 7 in its own place: an hourly demand of 4,000,000,000 on a road that 2
--- refuses, and with a peak-hour factor of 1, which 8 refuses where 7 does not; one more than the greatest demand on an accepted road. 19.
+-- 4,000,000,001 and 2^64 - 1; then a case that breaks 1 to 10 and 19. 7 in its own place: an hourly demand of 4,000,000,000 on a road that
+-- 2 refuses, and with a peak-hour factor of 1, which 8 refuses where 7 does not; one more than the greatest demand on an accepted road. 19.
 unfoldable pub refusalInstances : List Figure
 refusalInstances =
     figure (told (dailyAnswer refusedByAll (sharesOf 0 550) 5000000000)) (20 ∷ [])
@@ -96,8 +96,8 @@ refusalInstances =
     ∷ figure (told (dailyAnswer refusedBy19 urban 0)) (19 ∷ [])
     ∷ []
 
--- The printed road with 40,404 a day, in a town, and in snow, and with 33,057 in the country; its letters with 53,373 and 53,374 a day in a
--- town, and with 53,373 in the country; 8 lanes at 75,000 with hourly demands at the end of E, past it, and with the greatest; a multilane
+-- The printed road with 40,404 a day, urban, in clear weather and in snow, and with 33,057, rural; its letters with 53,373 and 53,374 a
+-- day, urban, and with 53,373, rural; 8 lanes at 75,000 with hourly demands at the end of E, past it, and with the greatest; a multilane
 -- highway with 2,160 an hour, which is B, and 2,161; the daily service volumes of the 8 lanes with K = D = 2, 1 and 1,000.
 unfoldable pub dailyInstances : List Figure
 dailyInstances =

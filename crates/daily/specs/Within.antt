@@ -2,7 +2,7 @@
 -- it, of the service volume in the engine's answer, and proofs/WithinLaws that a division finds it.
 --   trafficWithin shares volume   the greatest daily traffic whose hourly demand is at most a volume
 --   VolumesFit grade              no service volume of a grade is above the greatest demand
---   volumesWithin shares grade    those of its service volumes A to E
+--   volumesWithin shares grade    trafficWithin of each of its service volumes A to E
 -- Assumes nothing.
 use Prim.Native.Nat.{ℕ, _≤_}
 use lib.Dec.{leb}

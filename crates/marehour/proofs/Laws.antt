@@ -48,7 +48,8 @@ use Rattle.marehour.proofs.CallLaws.{count-length, buffer-short, buffer
 
 answer-ends : (case : Case) → WithinEnds 1 longestAnswer lastRefusal (caseReply case)
 answer-ends case =
-    unlessRefused-by (refusal case) (Answer.Graded (graded case)) Answer.Refused (λ a. WithinEnds 1 longestAnswer lastRefusal (answerReply a))
+    unlessRefused-by (refusal case) (Answer.Graded (graded case)) Answer.Refused
+    (λ a. WithinEnds 1 longestAnswer lastRefusal (answerReply a))
     (λ z. (answerText-pos (Answer.Graded (graded case)), rw (answerTo-accepted case z) at (answerText-le case)))
     (λ p. (p, omega (arith, refusal-le case)))
 
@@ -156,7 +157,8 @@ pub position-is-the-lines-answer : PositionIsTheLinesAnswer
 position-is-the-lines-answer line case demands old i e z h = (
   ap (position i) (day-call-is-the-day line case e demands old .1) ∙ position-holds-the-answer case demands old z i h,
   λ other room k long.
-      unlessRefused-none _ (lineReply caseReply (readLine other)) refusalReply (buffer-fits longestAnswer room long) ∙ ap (lineReply caseReply) k,
+      unlessRefused-none _ (lineReply caseReply (readLine other)) refusalReply (buffer-fits longestAnswer room long)
+      ∙ ap (lineReply caseReply) k,
 )
 
 -- ---- a daily traffic
@@ -185,5 +187,6 @@ daily-hands-back line shares traffic old = (
     read room = unlessRefused-none _ onLine refusalReply (buffer-fits daily.figureCount (length old) room)
 
     back : {n : ℕ} → dailyCall line shares traffic (length old) ≡ refusalReply n
-        → (result (dailyCall line shares traffic (length old)) ≡ negℤ (pos n)) × (content (dailyCall line shares traffic (length old)) old ≡ old)
+        → (result (dailyCall line shares traffic (length old)) ≡ negℤ (pos n))
+        × (content (dailyCall line shares traffic (length old)) old ≡ old)
     back e = (ap result e, ap (λ r. content r old) e)

@@ -43,9 +43,9 @@ snowAnswer = "C\t52273\t173372\t1196\t52222\t230\t961\t1572\t2221\t2636\t2898\n"
 abbrev pub longest : String
 longest = "M\tG\t99999\t99999\t99999\t99999\tT\t99999\t99999\t99999\t99999\t99999\tL\t99999\t99999"
 
--- Starred: the printed line. Not starred: what is printed for it between an empty line and a last line without newline; an empty input;
--- its day with 2,000, 1,000,000 and 2,643; its daily figures with 40,404 vehicles, K 90 and D 550; its 15 values, letters by their bytes;
--- the line with a leading zero, six digits and an empty field as its demand, with an empty 14th field, and with an unknown terrain; in snow;
+-- Starred: the printed line. Not starred: what is printed for it between an empty line and a last line without newline; an empty input; its
+-- day with 2,000, 1,000,000 and 2,643; its daily figures with 40,404 vehicles, K 90 and D 550; its 15 values, letters by their bytes; the
+-- line with a leading zero, six digits and an empty field as its demand, with an empty 14th field, and with an unknown terrain; in snow;
 -- with 14 fields, 16, and a leading zero in a factor; and with a factor of 99999, which is 19; and the longest line that is read.
 unfoldable pub addedFigures : List Figure
 addedFigures =

@@ -35,7 +35,8 @@ marehour-lanes-spec =
     tie.close
     (tie.spec (λ c κs. search needs)
     (λ c. let a = c .before .before .before .before .args in
-    call-lent length (lanesReply (a .letter)) (readLine (a .line .now)) (bufferRefusals longestAnswer _) (a .answer .now) (c .refused .result) 17
+    call-lent length (lanesReply (a .letter)) (readLine (a .line .now)) (bufferRefusals longestAnswer _) (a .answer .now)
+    (c .refused .result) 17
     (buffer-short longestAnswer _ (c .before .if1 .taken)) (omega arith) (omega arith) (c .refused .ensures))
     (λ c κs. search needs) (λ c. search needs) (λ c. search needs) (λ c κs. search needs) returns-2 (λ c κs. search needs)
     (λ c. search needs) returns-3)
