@@ -1,5 +1,5 @@
 -- The answer by its refusals (specs/Daily), and the daily service volumes by those in the engine's answer.
---   refused-in-order   the refusals as one list
+--   in-order           the refusals as one list
 --   number-le          no refusal has a number above 21
 --   accepted-parts, accepted-of   what is accepted: neither 20 nor 21 nor the engine refuses it
 --   answer-fits, number-fits, letter-fits   where 20 and 21 do not refuse: the engine's answer decides, its number and its letter too
@@ -53,7 +53,7 @@ use Rattle.daily.specs.declared.DailyAnswer.the-variants as DailyAnswer
 use Rattle.daily.specs.Daily.{greatestDailyTraffic, trafficRefusals, TrafficFits, hourlyDemand, hourlyCase, dailyVolume}
 use Rattle.daily.specs.Daily.{dailyVolumes, withVolumes, dailyAnswer, refusalNumber}
 use Rattle.daily.specs.Within.{trafficWithin, VolumesFit, volumesWithin}
-use Rattle.daily.specs.Promises.{AcceptedTraffic, letterIn, RefusedInOrder}
+use Rattle.daily.specs.Promises.{AcceptedTraffic, letterIn}
 
 -- ---- refusals
 number-of : (a : Answer) (volumes : Volumes) → refusalNumber (withVolumes a volumes) ≡ answers.refusalNumber a
@@ -77,7 +77,7 @@ module _ (case : Case) (shares : Shares) (daily : ℕ) where
   pub letter-fits : TrafficFits shares daily → letterIn (dailyAnswer case shares daily) ≡ engine.letterIn (answerTo hourly)
   letter-fits z = ap letterIn (answer-fits z) ∙ letter-of (answerTo hourly) (dailyVolumes case shares)
 
-  in-order : refusalNumber (dailyAnswer case shares daily) ≡ firstRefusal (trafficRefusals shares daily ++ refusals hourly)
+  pub in-order : refusalNumber (dailyAnswer case shares daily) ≡ firstRefusal (trafficRefusals shares daily ++ refusals hourly)
   unfolding trafficRefusals
   in-order =
       let first = trafficRefusals shares daily in
@@ -104,9 +104,6 @@ module _ (case : Case) (shares : Shares) (daily : ℕ) where
 pub refused-with : (a : DailyAnswer) (n : ℕ) → refusalNumber a ≡ n → 0 < n → a ≡ DailyAnswer.Refused n
 refused-with (DailyAnswer.Graded grade volumes) n e p = absurd (omega arith)
 refused-with (DailyAnswer.Refused number) n e p = ap DailyAnswer.Refused e
-
-pub refused-in-order : RefusedInOrder
-refused-in-order = in-order
 
 pub number-le : (case : Case) (shares : Shares) (daily : ℕ) → refusalNumber (dailyAnswer case shares daily) ≤ 21
 unfolding trafficRefusals

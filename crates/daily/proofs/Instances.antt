@@ -3,15 +3,15 @@
 --   no-traffic-meets-a  the printed road with no traffic
 --   instances-shown    each is what is to be shown
 -- Assumes nothing.
-use mathlib.Core.Path.{_≡_, refl, ap, _∙_}
+use mathlib.Core.Path.{_≡_, refl, ap}
 use mathlib.Core.Logic.{_↔_}
 use mathlib.Core.Bool.{Bool, not, _&&_}
 use mathlib.Core.List.{List, [], _∷_, _++_, map}
-use Prim.Native.Nat.{ℕ, suc, _+_, _≤_, _<_, zero-le}
+use Prim.Native.Nat.{ℕ, suc, _≤_, _<_, zero-le}
 use native.Mathlib.Omega.{arith}
 use native.Mathlib.Nat.{lt-of-not-le}
 use lib.Dec.{T, T-not, leb, eqb, leb→le, le→leb, eqb→eq, lit≤, lit<}
-use lib.ListN.{drop, getD}
+use lib.ListN.{drop}
 use Rattle.numbers.specs.Division.{divUp}
 use Rattle.numbers.specs.Search.{endsAt}
 use Rattle.numbers.proofs.BoolLaws.{and-left, and-right}
@@ -62,25 +62,24 @@ letter-by case shares asked daily n z h k within above =
     omega (arith, worse, met .1)
 
 -- ---- the printed road
+accepted : AcceptedTraffic example urban 40404 × AcceptedTraffic example rural 33057 × AcceptedTraffic (exampleInSnow 0) urban 40404
+unfolding divUp sharesUnfit trafficRefusals hourlyDemand
+accepted = (
+  accepted-of example urban 40404 refl example-accepted,
+  accepted-of example rural 33057 refl example-accepted,
+  accepted-of (exampleInSnow 0) urban 40404 refl (snow-accepted .1),
+)
+
 pub printed-accepted : AcceptedTraffic example urban 40404
-unfolding divUp sharesUnfit trafficRefusals hourlyDemand
-printed-accepted = accepted-of example urban 40404 refl example-accepted
-
-rural-accepted : AcceptedTraffic example rural 33057
-unfolding divUp sharesUnfit trafficRefusals hourlyDemand
-rural-accepted = accepted-of example rural 33057 refl example-accepted
-
-snowy-accepted : AcceptedTraffic (exampleInSnow 0) urban 40404
-unfolding divUp sharesUnfit trafficRefusals hourlyDemand
-snowy-accepted = accepted-of (exampleInSnow 0) urban 40404 refl (snow-accepted .1)
+printed-accepted = accepted .0
 
 all-told : (told (dailyAnswer example urban 40404) ≡ 0 ∷ printedFigures)
     × (told (dailyAnswer example rural 33057) ≡ 0 ∷ ruralFigures) × (told (dailyAnswer (exampleInSnow 0) urban 40404) ≡ 0 ∷ snowFigures)
 unfolding divUp hourlyDemand
 all-told = (
   told-by example urban 40404 _ printed-accepted example-figures,
-  told-by example rural 33057 _ rural-accepted example-figures,
-  told-by (exampleInSnow 0) urban 40404 _ snowy-accepted (ap (drop 1) example-in-snow),
+  told-by example rural 33057 _ (accepted .1) example-figures,
+  told-by (exampleInSnow 0) urban 40404 _ (accepted .2) (ap (drop 1) example-in-snow),
 )
 
 pub printed-figures : values (dailyAnswer example urban 40404) ≡ printedFigures
@@ -96,20 +95,12 @@ letters =
         by 53373 2 printed-accepted (omega arith) (omega arith) (rw printed-figures (lit≤ tt)) (rw printed-figures (lit< tt)),
         by 53374 3 printed-accepted (omega arith) (omega arith) (rw printed-figures (lit≤ tt)) (rw printed-figures (lit< tt)),
       ),
-      rw (letter-by example rural 33057 53373 3 rural-accepted (omega arith) (omega arith)
+      rw (letter-by example rural 33057 53373 3 (accepted .1) (omega arith) (omega arith)
           (rw rural-figures (lit≤ tt)) (rw rural-figures (lit< tt))),
     )
 
 pub no-traffic-meets-a : NoTrafficMeetsA
 no-traffic-meets-a = meets-up-to-the-daily-volume example urban 40404 printed-accepted 1 (omega arith) (omega arith) 0 .1 zero-le
-
--- ---- letters that are worked out
-worked-out : (lettersAt eightLanes (sharesOf 1000 1000) (19200 ∷ 19201 ∷ greatestDemand ∷ []) ≡ 5 ∷ 6 ∷ 6 ∷ [])
-    × (lettersAt (multilaneWith 0) (sharesOf 90 1000) (24000 ∷ 24001 ∷ []) ≡ 2 ∷ 3 ∷ [])
-unfolding divUp uncappedBy freeFlowSpeed weatherUnfit roadRefusals loadRefusals fieldRefusals adjustedSpeed speedRefusals refusals capacity
-    breakpoint adjustedCapacity adjustedBreakpoint curveUnder curveOf heavyFactor flowRate fallShareBy speed shownSpeed density
-    shownDensity densityLimit densityLetter letterAt performance measures graded sharesUnfit trafficRefusals hourlyDemand
-worked-out = (refl, refl)
 
 -- ---- 8 lanes at 75,000
 -- whether an answer has no number, and letter number n or a better one
@@ -156,13 +147,18 @@ module _ (shares : Shares) (z : AcceptedTraffic eightLanes shares 0) where
         volume-is shares 5 e z tt tt ends-e,
       )
 
-eight-lanes : (volumesIn (dailyAnswer eightLanes (sharesOf 2 2) 0) ≡ 1650000000 ∷ 2656000000 ∷ 3552000000 ∷ 4000000000 ∷ 4000000000 ∷ [])
+-- letters that are worked out, and the volumes by them
+worked-out : (lettersAt eightLanes (sharesOf 1000 1000) (19200 ∷ 19201 ∷ greatestDemand ∷ []) ≡ 5 ∷ 6 ∷ 6 ∷ [])
+    × (lettersAt (multilaneWith 0) (sharesOf 90 1000) (24000 ∷ 24001 ∷ []) ≡ 2 ∷ 3 ∷ [])
+    × (volumesIn (dailyAnswer eightLanes (sharesOf 2 2) 0) ≡ 1650000000 ∷ 2656000000 ∷ 3552000000 ∷ 4000000000 ∷ 4000000000 ∷ [])
     × (volumesIn (dailyAnswer eightLanes (sharesOf 1 1) 0) ≡ 4000000000 ∷ 4000000000 ∷ 4000000000 ∷ 4000000000 ∷ 4000000000 ∷ [])
     × (volumesIn (dailyAnswer eightLanes (sharesOf 1000 1000) 0) ≡ 6600 ∷ 10624 ∷ 14208 ∷ 17040 ∷ 19200 ∷ [])
 unfolding divUp uncappedBy freeFlowSpeed weatherUnfit roadRefusals loadRefusals fieldRefusals adjustedSpeed speedRefusals refusals capacity
     breakpoint adjustedCapacity adjustedBreakpoint curveUnder curveOf heavyFactor flowRate fallShareBy speed shownSpeed density
     shownDensity densityLimit densityLetter letterAt performance measures graded sharesUnfit trafficRefusals hourlyDemand endsAt met ends
-eight-lanes = (
+worked-out = (
+  refl,
+  refl,
   five (sharesOf 2 2) refl 1650000000 2656000000 3552000000 4000000000 4000000000 tt tt tt tt tt,
   five (sharesOf 1 1) refl 4000000000 4000000000 4000000000 4000000000 4000000000 tt tt tt tt tt,
   five (sharesOf 1000 1000) refl 6600 10624 14208 17040 19200 tt tt tt tt tt,
@@ -174,5 +170,4 @@ instances-shown =
     let t = all-told in
     let l = letters in
     let w = worked-out in
-    let eight = eight-lanes in
-    (t .0, (t .1, (t .2, (l .0, (l .1, (w .0, (w .1, (eight .0, (eight .1, (eight .2, tt))))))))))
+    (t .0, (t .1, (t .2, (l .0, (l .1, (w .0, (w .1, (w .2, (w .3, (w .4, tt))))))))))

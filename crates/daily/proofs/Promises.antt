@@ -24,23 +24,22 @@ use Rattle.answer.specs.Promises.{volumeIn}
 use Rattle.answer.proofs.AnswerLaws.{answerTo-accepted, answerTo-number}
 use Rattle.answer.proofs.Promises.{no-better-under-more-load}
 use Rattle.daily.specs.declared.Shares.{Shares}
-use Rattle.daily.specs.Daily.{greatestDailyTraffic, sharesUnfit, trafficRefusals, TrafficFits, hourlyDemand, hourlyCase}
+use Rattle.daily.specs.Daily.{greatestDailyTraffic, SharesInRange, sharesUnfit, trafficRefusals, TrafficFits, hourlyDemand, hourlyCase}
 use Rattle.daily.specs.Daily.{dailyVolume, dailyAnswer, refusalNumber}
 use Rattle.daily.specs.Within.{trafficWithin}
-use Rattle.daily.specs.Promises.{AcceptedTraffic, letterIn, dailyVolumeIn, MeetsByDay, MeetsUpToTheDailyVolume}
+use Rattle.daily.specs.Promises.{AcceptedTraffic, dailyVolumeIn, MeetsByDay, MeetsUpToTheDailyVolume}
 use Rattle.daily.specs.Promises.{NoBetterWithMoreTraffic, byTheDay, FiguresOfTheHour, RoundedUpOnce, OwnDemandIsNotRead}
-use Rattle.daily.specs.Promises.{RefusedInOrder, SharesInRange, RefusedExactly}
+use Rattle.daily.specs.Promises.{RefusedInOrder, RefusedExactly}
 use Rattle.daily.proofs.WithinLaws.{in-range, not-unfit, shares-fit, traffic-fits, fits-of, product-pos, hourly-le-iff}
 use Rattle.daily.proofs.WithinLaws.{hourly-mono, within-iff, trafficWithin-eq}
-use Rattle.daily.proofs.DailyLaws as laws
-use Rattle.daily.proofs.DailyLaws.{number-fits, letter-fits, accepted-parts, meets-iff}
+use Rattle.daily.proofs.DailyLaws.{number-fits, letter-fits, in-order, accepted-parts, meets-iff}
 use Rattle.daily.proofs.DailyLaws.{answer-graded, by-letter}
 
 pub rounded-up-once : RoundedUpOnce
 rounded-up-once = hourly-le-iff
 
 pub refused-in-order : RefusedInOrder
-refused-in-order = laws.refused-in-order
+refused-in-order = in-order
 
 pub own-demand-is-not-read : OwnDemandIsNotRead
 unfolding dailyVolume
@@ -116,7 +115,7 @@ module _ (case : Case) (shares : Shares) (daily : ℕ) where
   -- the two tests and then the engine's number
   listed : number ≡ cond (sharesUnfit shares) 20 (cond (ltb greatestDailyTraffic daily) 21 engine-number)
   unfolding trafficRefusals
-  listed = laws.refused-in-order case shares daily
+  listed = in-order case shares daily
 
   exactly : (unfit large : Bool) → sharesUnfit shares ≡ unfit → ltb greatestDailyTraffic daily ≡ large
       → ((number ≡ 20) ↔ (SharesInRange shares → ⊥)) × ((number ≡ 21) ↔ (SharesInRange shares × (greatestDailyTraffic < daily)))

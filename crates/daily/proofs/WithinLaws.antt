@@ -2,6 +2,7 @@
 --   in-range, not-unfit   shares that 20 lets pass, by their ends
 --   shares-fit, traffic-fits, fits-of   what 20 and 21 let pass: shares in range, and traffic up to its end; the converse
 --   passed             the same by the number that the code asks
+--   scaled-le          daily traffic × K is at most 4,000,000,000 × 1,000
 --   product-pos, product-le   K × D is from 1 to 1,000,000
 --   hourly-le-iff      the hourly demand is at most a volume exactly when daily traffic × K × D is at most as many millions
 --   within-iff         the same by the division of the volume's millions by K × D
@@ -11,7 +12,7 @@
 use mathlib.Core.Path.{_≡_}
 use mathlib.Core.Bool.{false}
 use mathlib.Core.Logic.{_↔_}
-use Prim.Native.Nat.{ℕ, _*_, _/_, _≤_, _<_, min}
+use Prim.Native.Nat.{ℕ, _*_, _/_, _≤_, _<_}
 use native.Mathlib.Omega.{arith}
 use native.Mathlib.Nat.{le-refl, mul-pos, mul-le-mul, le-div-iff-mul-le}
 use borrow.Author.Tests.{ltb-false, le-ltb}
@@ -22,9 +23,9 @@ use Rattle.numbers.proofs.SearchLaws.{greatest-eq}
 use Rattle.checks.specs.Refusals.{firstRefusal, outside}
 use Rattle.checks.proofs.RefusalLaws.{none-met, within, inside}
 use Rattle.daily.specs.declared.Shares.{Shares}
-use Rattle.daily.specs.Daily.{greatestDailyTraffic, sharesUnfit, trafficRefusals, TrafficFits, hourlyDemand}
+use Rattle.daily.specs.Daily.{greatestDailyTraffic, SharesInRange, sharesUnfit, trafficRefusals, TrafficFits, hourlyDemand}
 use Rattle.daily.specs.Within.{trafficWithin}
-use Rattle.daily.specs.Promises.{SharesInRange, RoundedUpOnce}
+use Rattle.daily.specs.Promises.{byTheDay, RoundedUpOnce}
 
 pub in-range : (shares : Shares) → sharesUnfit shares ≡ false → SharesInRange shares
 unfolding sharesUnfit
@@ -56,6 +57,10 @@ pub passed : (shares : Shares) (daily number : ℕ) → number ≡ firstRefusal 
     → TrafficFits shares daily
 passed shares daily number e left = omega (arith, e)
 
+-- daily traffic × K
+pub scaled-le : (shares : Shares) (daily : ℕ) → TrafficFits shares daily → daily * shares .peak ≤ 4000000000 * 1000
+scaled-le shares daily z = mul-le-mul {n₂ = 4000000000} {m₂ = 1000} (traffic-fits shares daily z) (shares-fit shares daily z .1)
+
 pub product-pos : (shares : Shares) → SharesInRange shares → 0 < shares .peak * shares .direction
 product-pos shares (peak-low, _, direction-low, _) = mul-pos peak-low direction-low
 
@@ -80,12 +85,10 @@ module _ (shares : Shares) (volume : ℕ) (pos : 0 < shares .peak * shares .dire
       let down = le-div-iff-mul-le {x = daily} {y = volume * 1000000} pos in
       (λ h. down .1 (omega (arith, up .0 h)), λ h. up .1 (omega (arith, down .0 h)))
 
-  pub trafficWithin-eq : trafficWithin shares volume
-      ≡ min (volume * 1000000 / (shares .peak * shares .direction)) greatestDailyTraffic
+  pub trafficWithin-eq : trafficWithin shares volume ≡ byTheDay shares volume
   unfolding trafficWithin
   trafficWithin-eq =
-      let quotient : ℕ = volume * 1000000 / (shares .peak * shares .direction) in
-      let found : ℕ = min quotient greatestDailyTraffic in
+      let found : ℕ = byTheDay shares volume in
       greatest-eq (λ daily. leb (hourlyDemand shares daily) volume) greatestDailyTraffic found (omega arith)
       (le→leb (hourlyDemand shares found) volume (within-iff found .1 (omega arith)))
       (λ k above most t. omega (arith, within-iff k .0 (leb→le (hourlyDemand shares k) volume t)))

@@ -2,6 +2,7 @@
 -- daily traffic. Letter numbers: A is 1.
 --   greatestDailyTraffic          the greatest daily traffic that 21 lets pass
 --   sharesOf k d                  the shares K and D
+--   SharesInRange shares          both are from 1 to 1,000
 --   sharesUnfit shares            shares that 20 refuses
 --   trafficRefusals shares daily  20 and 21
 --   TrafficFits shares daily      neither refuses them
@@ -15,7 +16,7 @@
 --   refusalNumber a               the number of the refusal, 0 where there is none
 --   values a                      the eleven figures of the engine's answer, then the daily service volumes A to E; of a refusal no value
 -- Assumes nothing.
-use Prim.Native.Nat.{ℕ, _*_}
+use Prim.Native.Nat.{ℕ, _*_, _≤_}
 use mathlib.Core.Path.{_≡_}
 use mathlib.Core.Bool.{Bool, _||_}
 use mathlib.Core.List.{List, [], _∷_, _++_}
@@ -42,7 +43,11 @@ greatestDailyTraffic = 4000000000
 abbrev pub sharesOf : (k d : ℕ) → Shares
 sharesOf k d = record { peak = k; direction = d }
 
--- "K or D out of range", "thousandths from 1 to 1,000"
+-- "thousandths from 1 to 1,000"
+abbrev pub SharesInRange : Shares → Type 0
+SharesInRange shares = (1 ≤ shares .peak) × (shares .peak ≤ 1000) × (1 ≤ shares .direction) × (shares .direction ≤ 1000)
+
+-- "K or D out of range"
 unfoldable pub sharesUnfit : Shares → Bool
 sharesUnfit shares = outside 1 1000 (shares .peak) || outside 1 1000 (shares .direction)
 

@@ -10,7 +10,6 @@
 --   RoundedUpOnce                the hourly demand is at most a number exactly when daily traffic × K × D is at most as many millions
 --   OwnDemandIsNotRead           whatever demand the case carries, the answer is the same
 --   RefusedInOrder               the refusals as one list: 20, 21, and those of the case with the hourly demand
---   SharesInRange shares         K and D are thousandths from 1 to 1,000
 --   RefusedExactly               20 exactly by a share out of range, 21 exactly by the traffic, else what the engine says
 -- Assumes nothing.
 use mathlib.Core.Path.{_≡_}
@@ -26,7 +25,7 @@ use Rattle.answer.specs.Answers as answers
 use Rattle.answer.specs.Answers.{answerTo}
 use Rattle.daily.specs.declared.Shares.{Shares}
 use Rattle.daily.specs.declared.DailyAnswer.{DailyAnswer}
-use Rattle.daily.specs.Daily.{greatestDailyTraffic, trafficRefusals, hourlyDemand, dailyAnswer}
+use Rattle.daily.specs.Daily.{greatestDailyTraffic, SharesInRange, trafficRefusals, hourlyDemand, dailyAnswer}
 use Rattle.daily.specs.Daily.{figureCount, refusalNumber, values}
 
 abbrev pub AcceptedTraffic : Case → Shares → ℕ → Type 0
@@ -82,10 +81,6 @@ RefusedInOrder =
     (case : Case) (shares : Shares) (daily : ℕ)
     → refusalNumber (dailyAnswer case shares daily)
     ≡ firstRefusal (trafficRefusals shares daily ++ refusals (withDemand case (hourlyDemand shares daily)))
-
--- "thousandths from 1 to 1,000"
-abbrev pub SharesInRange : Shares → Type 0
-SharesInRange shares = (1 ≤ shares .peak) × (shares .peak ≤ 1000) × (1 ≤ shares .direction) × (shares .direction ≤ 1000)
 
 abbrev pub RefusedExactly : Type 0
 RefusedExactly =

@@ -18,7 +18,8 @@ ghost use Rattle.checks.specs.Refusals.{firstRefusal};
 ghost use Rattle.text.specs.Buffer.{Wrote};
 ghost use Rattle.road.specs.Refusals.{greatestDemand};
 ghost use Rattle.daily.specs.declared.DailyAnswer.the-variants.{Graded};
-ghost use Rattle.daily.specs.Daily.{sharesUnfit, trafficRefusals, TrafficFits, hourlyDemand, dailyAnswer, figureCount, values};
+ghost use Rattle.daily.specs.Daily.{SharesInRange, sharesUnfit, trafficRefusals, TrafficFits, hourlyDemand, dailyAnswer};
+ghost use Rattle.daily.specs.Daily.{figureCount, values};
 ghost use Rattle.daily.specs.Within.{trafficWithin, VolumesFit, volumesWithin};
 
 pub const GREATEST_DAILY_TRAFFIC: u64 = 4_000_000_000;
@@ -70,7 +71,7 @@ fn hourly_demand(shares: Shares, daily_traffic: u64) -> u64
 
 // The greatest daily traffic whose hourly demand is at most a volume.
 fn traffic_within(shares: Shares, volume: u64) -> u64
-    requires { ⌜ TrafficFits shares 0 × (volume ≤ greatestDemand) ⌝ }
+    requires { ⌜ SharesInRange shares × (volume ≤ greatestDemand) ⌝ }
     ensures { λ r. ⌜ r ≡ trafficWithin shares volume ⌝ }
 {
     numbers::lesser(
@@ -81,7 +82,7 @@ fn traffic_within(shares: Shares, volume: u64) -> u64
 
 // No search: what the engine promises of its service volumes carries over to the daily traffic.
 fn volumes_within(shares: Shares, grade: Grade) -> Volumes
-    requires { ⌜ TrafficFits shares 0 × VolumesFit grade ⌝ }
+    requires { ⌜ SharesInRange shares × VolumesFit grade ⌝ }
     ensures { λ r. ⌜ r ≡ volumesWithin shares grade ⌝ }
 {
     Volumes {

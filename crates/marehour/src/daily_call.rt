@@ -14,8 +14,6 @@ ghost use lib.ListN.{length};
 ghost use Rattle.daily.specs.Daily.{sharesOf, figureCount};
 ghost use Rattle.marehour.specs.Calls.{dailyReply, dailyCall, result, content};
 
-const FIGURE_COUNT: usize = FIGURES;
-
 fn daily_case(case: Case, shares: Shares, daily_traffic: u64, figures: &mut [u64]) -> i32
     requires { ⌜ figureCount ≤ length (now figures) ⌝ }
     ensures result { λ r. ⌜ r ≡ result (dailyReply shares «daily_traffic» case) ⌝ }
@@ -44,7 +42,7 @@ pub extern "C" fn marehour_daily(
     ensures figures { λ _. ⌜ now (figures .exit) ≡ content (dailyCall (now (line .entry)) (sharesOf «peak_share» «direction_share»)
         «daily_traffic» (length (now (figures .entry)))) (now (figures .entry)) ⌝ }
 {
-    if figures.len() < FIGURE_COUNT {
+    if figures.len() < FIGURES {
         return refused(BUFFER_TOO_SHORT);
     }
     let reading = read::read_line(line);

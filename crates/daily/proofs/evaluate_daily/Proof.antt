@@ -1,7 +1,6 @@
 -- `daily::evaluate_daily` meets its contract: 20 and 21 come first; then the engine's answer decides, and a grade gets its daily volumes.
 -- Assumes nothing.
-use native.Mathlib.Omega.{arith}
-use Rattle.daily.proofs.WithinLaws.{passed, shares-fit, fits-of}
+use Rattle.daily.proofs.WithinLaws.{passed, shares-fit}
 use Rattle.daily.proofs.DailyLaws.{answer-stopped, engine-answers, engine-accepted, answer-graded, answer-refused, volumes-fit}
 use borrow.Author.Needs.{needs}
 use Rattle.daily.proofs.evaluate_daily.Statement.{statement}
@@ -22,10 +21,8 @@ volumes-within-requires c κs =
     let a = asked .before .before .args in
     let fits = passed (a .shares) (a .daily-traffic) _ (asked .before .traffic-refusal .ensures) (asked .if1 .left) in
     let e = engine-answers (a .case) (a .shares) (a .daily-traffic) (engine .before .before .hourly-demand .ensures)
-    (engine .before .with-demand .ensures) (engine .evaluate .ensures) (c .before .answer .given .1) in (
-      fits-of (a .shares) 0 (shares-fit (a .shares) (a .daily-traffic) fits) (omega arith),
-      volumes-fit _ (engine-accepted _ _ e) _ e,
-    )
+    (engine .before .with-demand .ensures) (engine .evaluate .ensures) (c .before .answer .given .1) in
+    (shares-fit (a .shares) (a .daily-traffic) fits, volumes-fit _ (engine-accepted _ _ e) _ e)
 
 returns-2 : tie.Need-returns-2
 returns-2 c =
