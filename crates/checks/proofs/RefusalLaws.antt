@@ -10,6 +10,11 @@
 --   unlessRefused-refused  an answer that is another was refused
 --   unlessRefused-number   where a definition gives each answer's number: that of this one
 --   unlessRefused-found    an answer with number 0 was not refused
+--   firstRefusal-found     a number that was found stands for the list that it was found in
+--   found-none             a number and a list that refuse nothing: neither does
+--   risesWith rs ss        two lists with the same numbers above 0, each greater than those before it
+--   lesserRefusal-same     the lesser of a number and itself
+--   firstRefusal-byTurns   of two such lists that are asked by turns: the lesser number
 --   firstRefusal-met       a refusal that is met, behind those of no greater number and before those of no smaller one: by the list
 --                          in which it is not met
 -- Assumes nothing.
@@ -17,13 +22,13 @@ use mathlib.Core.Path.{_≡_, refl, sym, ap, _∙_}
 use mathlib.Core.Bool.{Bool, true, false, cond, _&&_}
 use mathlib.Core.List.{List, [], _∷_, _++_}
 use mathlib.Core.Logic.{⊎-elim}
-use Prim.Native.Nat.{ℕ, _≤_, _<_, min}
+use Prim.Native.Nat.{ℕ, suc, _≤_, _<_, min}
 use native.Mathlib.Nat.{eq-zero-or-pos}
 use native.Mathlib.Omega.{arith}
-use borrow.Author.Tests.{ltb-false, le-ltb, ne-eqb}
-use lib.Dec.{T, leb, ltb, leb→le, ltb→lt}
+use borrow.Author.Tests.{ltb-false, lt-ltb, le-ltb, ne-eqb}
+use lib.Dec.{T, leb, ltb, eqb, leb→le, ltb→lt, eqb→eq}
 use Rattle.numbers.proofs.BoolLaws.{and-left, and-right, or-false, cond-le}
-use Rattle.checks.specs.Refusals.{Refusal, refuses, firstRefusal, unlessRefused, outside}
+use Rattle.checks.specs.Refusals.{Refusal, refuses, firstRefusal, found, byTurns, lesserRefusal, unlessRefused, outside}
 
 -- ---- the first of a list
 abbrev pub numbered : List Refusal → Bool
@@ -100,6 +105,63 @@ firstRefusal-ge m (r ∷ rs) t p = go (r .met) p (firstRefusal-ge m rs (and-righ
         → m ≤ cond b (r .number) (firstRefusal rs)
     go true q rest = leb→le m (r .number) (and-left (leb m (r .number)) (atLeast m rs) t)
     go false q rest = rest q
+
+-- ---- a number in the place of a list
+pub firstRefusal-found : (rs ls ss : List Refusal) → T (numbered ls)
+    → firstRefusal (rs ++ (found (firstRefusal ls) ++ ss)) ≡ firstRefusal (rs ++ (ls ++ ss))
+firstRefusal-found [] ls ss t =
+    ⊎-elim (λ z. rw z (sym (firstRefusal-none ls ss t z)))
+    (λ p. rw (lt-ltb 0 (firstRefusal ls) p) (sym (firstRefusal-some ls ss p))) (eq-zero-or-pos (firstRefusal ls))
+firstRefusal-found (r ∷ rs) ls ss t = ap (cond (r .met) (r .number)) (firstRefusal-found rs ls ss t)
+
+pub found-none : (n : ℕ) (ss : List Refusal) → firstRefusal (found n ++ ss) ≡ 0 → (n ≡ 0) × (firstRefusal ss ≡ 0)
+found-none n ss z =
+    ⊎-elim (λ e. (e, rw e at z)) (λ p. absurd (let e : n ≡ 0 = rw (lt-ltb 0 n p) at z in omega arith)) (eq-zero-or-pos n)
+
+-- ---- two lists by turns
+abbrev pub risesWith : List Refusal → List Refusal → Bool
+risesWith [] [] = true
+risesWith [] (s ∷ ss) = false
+risesWith (r ∷ rs) [] = false
+risesWith (r ∷ rs) (s ∷ ss) =
+    (ltb 0 (r .number) && eqb (r .number) (s .number))
+    && ((atLeast (suc (r .number)) rs && atLeast (suc (r .number)) ss) && risesWith rs ss)
+
+pub lesserRefusal-same : (n : ℕ) → lesserRefusal n n ≡ n
+unfolding lesserRefusal
+lesserRefusal-same n = ⊎-elim (λ z. rw z) (λ p. simp (ne-eqb n 0 (λ e. omega arith)) (omega arith)) (eq-zero-or-pos n)
+
+-- the number that two lines share, met in the one or the other, before what the lines after them say
+lesser-head : (n f g : ℕ) (a b : Bool) → 0 < n → (0 < f → suc n ≤ f) → (0 < g → suc n ≤ g)
+    → cond a n (cond b n (lesserRefusal f g)) ≡ lesserRefusal (cond a n f) (cond b n g)
+unfolding lesserRefusal
+lesser-head n f g false false p h k = refl
+lesser-head n f g true true p h k = simp (ne-eqb n 0 (λ e. omega arith)) (omega arith)
+lesser-head n f g true false p h k =
+    simp (ne-eqb n 0 (λ e. omega arith))
+    (⊎-elim (λ z. rw z) (λ q. simp (ne-eqb g 0 (λ e. omega arith)) (omega (arith, k q))) (eq-zero-or-pos g))
+lesser-head n f g false true p h k =
+    ⊎-elim (λ z. rw z)
+    (λ q. simp (ne-eqb f 0 (λ e. omega arith), ne-eqb n 0 (λ e. omega arith)) (omega (arith, h q))) (eq-zero-or-pos f)
+
+pub firstRefusal-byTurns : (rs ss : List Refusal) → T (risesWith rs ss)
+    → firstRefusal (byTurns rs ss) ≡ lesserRefusal (firstRefusal rs) (firstRefusal ss)
+unfolding lesserRefusal
+firstRefusal-byTurns [] [] t = refl
+firstRefusal-byTurns [] (s ∷ ss) t = absurd t
+firstRefusal-byTurns (r ∷ rs) [] t = absurd t
+firstRefusal-byTurns (r ∷ rs) (s ∷ ss) t =
+    let n = r .number in
+    let shared = and-left (ltb 0 n && eqb n (s .number)) _ t in
+    let rest = and-right (ltb 0 n && eqb n (s .number)) _ t in
+    let later = and-left (atLeast (suc n) rs && atLeast (suc n) ss) (risesWith rs ss) rest in
+    rw (
+      sym (eqb→eq n (s .number) (and-right (ltb 0 n) _ shared)),
+      firstRefusal-byTurns rs ss (and-right (atLeast (suc n) rs && atLeast (suc n) ss) (risesWith rs ss) rest),
+    )
+    (lesser-head n (firstRefusal rs) (firstRefusal ss) (r .met) (s .met) (ltb→lt 0 n (and-left (ltb 0 n) _ shared))
+    (firstRefusal-ge (suc n) rs (and-left (atLeast (suc n) rs) _ later))
+    (firstRefusal-ge (suc n) ss (and-right (atLeast (suc n) rs) _ later)))
 
 -- ---- ranges
 pub within : (low high n : ℕ) → outside low high n ≡ false → (low ≤ n) × (n ≤ high)

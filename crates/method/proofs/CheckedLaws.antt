@@ -2,6 +2,7 @@
 --   caseCurve-wellFormed, caseCurve-sized   the curve of an accepted case
 --   caseCurve-kind       its kind is the road's
 --   checkedCurve-eq      a case that 1 to 9 and 19 do not refuse: 10 alone is checked
+--   found-curve, found-refusal   what a check by any number found: a curve, its own, where the number is 0; else that refusal
 --   checked-accepted     a case that is checked and found with a curve is accepted, and the curve is its own
 --   checked-curve        which is well formed and within the sizes
 --   checked-refused      a case that is checked and refused is not
@@ -49,11 +50,24 @@ pub checkedCurve-eq : (case : Case) → FieldsFit case → checkedCurve (case .r
 checkedCurve-eq case z =
     ap (λ n. unlessRefused n (Checked.Accepted (caseCurve case)) Checked.Refused) (sym (refusals-fields case z))
 
+module _ (number : ℕ) (own : Curve) where
+  pub found-curve : (curve : Curve) → unlessRefused number (Checked.Accepted own) Checked.Refused ≡ Checked.Accepted curve
+      → (number ≡ 0) × (curve ≡ own)
+  found-curve curve e =
+      let found = unlessRefused-found number (Checked.Accepted own) Checked.Refused refusalNumber refl (λ k. refl)
+      (Checked.Accepted curve) e refl in
+      (found .0, cc (found .1))
+
+  pub found-refusal : (n : ℕ) → unlessRefused number (Checked.Accepted own) Checked.Refused ≡ Checked.Refused n
+      → (0 < number) × (number ≡ n)
+  found-refusal n e = (
+    unlessRefused-refused number (Checked.Accepted own) Checked.Refused (Checked.Refused n) e
+        (λ d. let o : _≡_ {A = ℕ} 0 1 = cc d in omega arith),
+    sym (unlessRefused-number number (Checked.Accepted own) Checked.Refused refusalNumber refl (λ k. refl)) ∙ ap refusalNumber e,
+  )
+
 pub checked-accepted : (case : Case) (curve : Curve) → checked case ≡ Checked.Accepted curve → Accepted case × (curve ≡ caseCurve case)
-checked-accepted case curve e =
-    let found = unlessRefused-found (refusal case) (Checked.Accepted (caseCurve case)) Checked.Refused refusalNumber refl
-    (λ k. refl) (Checked.Accepted curve) e refl in
-    (found .0, cc (found .1))
+checked-accepted case curve e = found-curve (refusal case) (caseCurve case) curve e
 
 -- what is found is well formed and within the sizes
 pub checked-curve : (case : Case) (curve : Curve) → checked case ≡ Checked.Accepted curve → WellFormed curve × Sized curve
@@ -61,14 +75,10 @@ checked-curve case curve e =
     let found = checked-accepted case curve e in rw (found .1) (caseCurve-wellFormed case (found .0), caseCurve-sized case (found .0))
 
 pub checked-refused : (case : Case) (n : ℕ) → checked case ≡ Checked.Refused n → 0 < refusal case
-checked-refused case n e =
-    unlessRefused-refused (refusal case) (Checked.Accepted (caseCurve case)) Checked.Refused (Checked.Refused n) e
-    (λ d. let o : _≡_ {A = ℕ} 0 1 = cc d in omega arith)
+checked-refused case n e = found-refusal (refusal case) (caseCurve case) n e .0
 
 pub checked-number : (case : Case) (n : ℕ) → checked case ≡ Checked.Refused n → refusal case ≡ n
-checked-number case n e =
-    sym (unlessRefused-number (refusal case) (Checked.Accepted (caseCurve case)) Checked.Refused refusalNumber refl (λ k. refl))
-    ∙ ap refusalNumber e
+checked-number case n e = found-refusal (refusal case) (caseCurve case) n e .1
 
 module _ {A : Type 0} (case : Case) (answer : A) (refused : ℕ → A) where
   pub by-accepted : (curve : Curve) → checked case ≡ Checked.Accepted curve → answer ≡ unlessRefused (refusal case) answer refused

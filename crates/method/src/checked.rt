@@ -2,6 +2,7 @@
 //   SPEED_BELOW_LOWER_END   refusal 10
 //   Checked                 a curve or a refusal
 //   checked_curve           the curve of a road with a lane count under weather, or 10
+//   check_with              the curve of a case, or the first of 1 to 6, of a number found in the place of 7 to 9, of 19 and of 10
 //   check                   the curve of a case, or the first of 1 to 9, 19 and 10 that refuses it
 use curve::Curve;
 use curve::Weather;
@@ -12,9 +13,10 @@ use road::Road;
 use road::free_flow;
 use road::refusal;
 ghost use mathlib.Core.Path.{_≡_};
+ghost use Rattle.checks.specs.Refusals.{found};
 ghost use Rattle.curve.specs.Weather.{FactorsFit};
 ghost use Rattle.road.specs.Refusals.{RoadFits};
-ghost use Rattle.method.specs.Checked.{checkedCurve, checked};
+ghost use Rattle.method.specs.Checked.{checkedCurve, checkedWith, checked};
 
 pub const SPEED_BELOW_LOWER_END: u64 = 10;
 
@@ -39,14 +41,20 @@ pub fn checked_curve(road: Road, weather: Weather, lanes: u64) -> Checked
     Checked::Accepted(curve)
 }
 
-pub fn check(case: Case) -> Checked
-    ensures { λ r. ⌜ r ≡ checked case ⌝ }
+pub fn check_with(case: Case, loads: u64) -> Checked
+    ensures { λ r. ⌜ r ≡ checkedWith (found loads) case ⌝ }
 {
-    let number = refusal::field_refusal(case);
+    let number = refusal::field_refusal_with(case, loads);
     if number == 0 {
         let road = case.road;
         let weather = case.weather;
         return checked_curve(road, weather, case.lanes);
     }
     Checked::Refused(number)
+}
+
+pub fn check(case: Case) -> Checked
+    ensures { λ r. ⌜ r ≡ checked case ⌝ }
+{
+    check_with(case, refusal::load_refusal(case))
 }

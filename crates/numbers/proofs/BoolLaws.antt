@@ -1,6 +1,6 @@
 -- Tests, and choices by a test.
 --   T-true, T-false     a test that is true passes; one that is false does not
---   and-left, and-right   two tests that both pass
+--   and-both, and-left, and-right   two tests that both pass
 --   or-false            two tests of which none is met
 --   leb-iff             tests of facts that hold together are equal
 --   leb-test            a test of a fact is equal to a test that passes exactly when it holds
@@ -25,6 +25,10 @@ T-true b e = subst T (sym e) tt
 
 pub T-false : (b : Bool) → b ≡ false → T b → ⊥
 T-false b e t = subst T e t
+
+pub and-both : (a b : Bool) → T a → T b → T (a && b)
+and-both true b s t = t
+and-both false b s t = s
 
 pub and-left : (a b : Bool) → T (a && b) → T a
 and-left true b t = tt

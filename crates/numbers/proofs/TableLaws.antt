@@ -1,6 +1,6 @@
 -- A test of every entry of a table, and of every number up to an end (specs/Table).
 --   everyEntry-at   the test passes at each place
---   everyUpTo-at    the test passes at each number
+--   everyUpTo-at, everyUpTo-of   the test passes at each number; the converse
 -- Assumes nothing.
 use mathlib.Core.Path.{_≡_, _∙_, subst, sym}
 use mathlib.Core.Bool.{Bool}
@@ -8,11 +8,11 @@ use mathlib.Core.List.{List, [], _∷_}
 use Prim.Native.Nat.{ℕ, zero, suc, _+_, _≤_, _<_}
 use native.Mathlib.Omega.{arith}
 use native.Mathlib.Decide.{decLe}
-use native.Mathlib.Nat.{add-zero, zero-add, add-suc, suc-add, le-of-suc-le-suc, not-suc-le-zero}
+use native.Mathlib.Nat.{le-refl, add-zero, zero-add, add-suc, suc-add, le-of-suc-le-suc, not-suc-le-zero}
 use lib.Dec.{T}
 use lib.ListN.{length, getD}
 use Rattle.numbers.specs.Table.{everyFrom, everyEntry, everyUpTo}
-use Rattle.numbers.proofs.BoolLaws.{and-left, and-right}
+use Rattle.numbers.proofs.BoolLaws.{and-both, and-left, and-right}
 
 everyFrom-at : (f : ℕ → ℕ → ℕ → Bool) (xs : List ℕ) (i before : ℕ) → T (everyFrom f i before xs)
     → (k : ℕ) → k < length xs → T (f (i + k) (getD (before ∷ xs) k 0) (getD xs k 0))
@@ -36,3 +36,8 @@ everyUpTo-at p (suc n) t k h =
     go : (k ≤ n → T (p k)) → Dec (k ≤ n) → T (p k)
     go below (yes b) = below b
     go below (no b) = let e : k ≡ suc n = omega arith in rw e (and-left (p (suc n)) (everyUpTo p n) t)
+
+pub everyUpTo-of : (p : ℕ → Bool) (n : ℕ) → ((k : ℕ) → k ≤ n → T (p k)) → T (everyUpTo p n)
+everyUpTo-of p zero all = all 0 (le-refl 0)
+everyUpTo-of p (suc n) all =
+    and-both (p (suc n)) (everyUpTo p n) (all (suc n) (le-refl (suc n))) (everyUpTo-of p n (λ k h. all k (omega arith)))

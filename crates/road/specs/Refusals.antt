@@ -4,9 +4,14 @@
 --   greatestDemand       the greatest demand that 7 lets pass
 --   weatherUnfit kind w  factors that 19 refuses
 --   roadRefusals road    1 to 5, of the road's fields
---   loadRefusals case    6 to 9 and 19, of the other fields
+--   laneRefusals case    6, of the lanes
+--   sectionRefusals case   1 to 6
+--   loadRefusals case    7 to 9, of demand, peak-hour factor and heavy share
+--   weatherRefusals case   19, of the weather's factors
+--   fieldRefusalsWith loads case   1 to 6, what is asked in the place of 7 to 9, and 19
 --   fieldRefusals case   1 to 9 and 19
 --   RoadFits road        none of 1 to 5 refuses the road
+--   SectionFits case     none of 1 to 6 refuses the case
 --   FieldsFit case       none of 1 to 9 nor 19 refuses the case
 -- Assumes nothing.
 use Prim.Native.Nat.{ℕ}
@@ -56,21 +61,36 @@ roadRefusals road =
     ∷ refuses 5 (ltb (mostAccess (road .kind)) (road .access))
     ∷ []
 
--- "6 lanes not of the kind; 7 V above 99,999", "8 H not 250 to 1,000; 9 P above 1,000", "19 .. after 9"
+-- "6 lanes not of the kind"
+abbrev pub laneRefusals : Case → List Refusal
+laneRefusals case = refuses 6 (outside (fewestLanes (case .road .kind)) (mostLanes (case .road .kind)) (case .lanes)) ∷ []
+
+abbrev pub sectionRefusals : Case → List Refusal
+sectionRefusals case = roadRefusals (case .road) ++ laneRefusals case
+
+-- "7 V above 99,999", "8 H not 250 to 1,000; 9 P above 1,000"
 unfoldable pub loadRefusals : Case → List Refusal
 loadRefusals case =
-    refuses 6 (outside (fewestLanes (case .road .kind)) (mostLanes (case .road .kind)) (case .lanes))
-    ∷ refuses 7 (ltb greatestDemand (case .demand))
+    refuses 7 (ltb greatestDemand (case .demand))
     ∷ refuses 8 (outside 250 1000 (case .«peak_hour_factor»))
     ∷ refuses 9 (ltb 1000 (case .«heavy_share»))
-    ∷ refuses 19 (weatherUnfit (case .road .kind) (case .weather))
     ∷ []
 
+abbrev pub weatherRefusals : Case → List Refusal
+weatherRefusals case = refuses 19 (weatherUnfit (case .road .kind) (case .weather)) ∷ []
+
+-- "19 .. after 9"
+abbrev pub fieldRefusalsWith : List Refusal → Case → List Refusal
+fieldRefusalsWith loads case = sectionRefusals case ++ (loads ++ weatherRefusals case)
+
 unfoldable pub fieldRefusals : Case → List Refusal
-fieldRefusals case = roadRefusals (case .road) ++ loadRefusals case
+fieldRefusals case = fieldRefusalsWith (loadRefusals case) case
 
 abbrev pub RoadFits : Road → Type 0
 RoadFits road = firstRefusal (roadRefusals road) ≡ 0
+
+abbrev pub SectionFits : Case → Type 0
+SectionFits case = firstRefusal (sectionRefusals case) ≡ 0
 
 abbrev pub FieldsFit : Case → Type 0
 FieldsFit case = firstRefusal (fieldRefusals case) ≡ 0

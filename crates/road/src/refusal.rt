@@ -2,8 +2,9 @@
 //   SPEED_OUT_OF_RANGE to SHARE_TOO_LARGE   the numbers 1 to 9
 //   WEATHER_UNFIT                           the number 19
 //   GREATEST_DEMAND                         the greatest demand that 7 lets pass
-//   road_refusal    the first of 1 to 5 that refuses a road, 0 where none does
-//   field_refusal   the first of 1 to 9 and 19 that refuses a case, 0 where none does
+//   load_refusal    the first of 7 to 9 that refuses a case, 0 where none does
+//   field_refusal_with   the same of 1 to 6, of a number found in the place of 7 to 9, and of 19
+//   field_refusal   the same of 1 to 9 and 19
 use crate::Case;
 use crate::Median;
 use crate::Road;
@@ -15,8 +16,9 @@ use curve::kind::Kind;
 ghost use mathlib.Core.Path.{_≡_};
 ghost use mathlib.Core.Bool.{_||_};
 ghost use lib.Dec.{ltb};
-ghost use Rattle.checks.specs.Refusals.{firstRefusal};
-ghost use Rattle.road.specs.Refusals.{medianUnfit, mostAccess, weatherUnfit, roadRefusals, loadRefusals, fieldRefusals};
+ghost use Rattle.checks.specs.Refusals.{firstRefusal, found};
+ghost use Rattle.road.specs.Refusals.{medianUnfit, mostAccess, weatherUnfit, roadRefusals, sectionRefusals, loadRefusals};
+ghost use Rattle.road.specs.Refusals.{fieldRefusalsWith, fieldRefusals};
 
 pub const SPEED_OUT_OF_RANGE: u64 = 1;
 
@@ -76,7 +78,7 @@ fn weather_unfit(kind: Kind, weather: Weather) -> bool
     outside(lowest, 1_000, weather.speed_factor) || outside(lowest, 1_000, weather.capacity_factor)
 }
 
-pub fn road_refusal(road: Road) -> u64
+fn road_refusal(road: Road) -> u64
     ensures { λ r. ⌜ r ≡ firstRefusal (roadRefusals road) ⌝ }
 {
     let kind = road.kind;
@@ -101,39 +103,55 @@ pub fn road_refusal(road: Road) -> u64
     )
 }
 
-fn load_refusal(case: Case) -> u64
-    ensures { λ r. ⌜ r ≡ firstRefusal (loadRefusals case) ⌝ }
+// 1 to 6.
+fn section_refusal(case: Case) -> u64
+    ensures { λ r. ⌜ r ≡ firstRefusal (sectionRefusals case) ⌝ }
 {
     let road = case.road;
     let kind = road.kind;
     let lanes = outside(kind::fewest_lanes(kind), kind::most_lanes(kind), case.lanes);
+    let number = road_refusal(road);
+    refused_if(
+        0 < number,
+        number,
+        refused_if(lanes, LANES_NOT_OF_THE_KIND, 0),
+    )
+}
+
+pub fn load_refusal(case: Case) -> u64
+    ensures { λ r. ⌜ r ≡ firstRefusal (loadRefusals case) ⌝ }
+{
     let demand = GREATEST_DEMAND < case.demand;
     let factor = outside(250, 1_000, case.peak_hour_factor);
     let share = 1_000 < case.heavy_share;
+    refused_if(
+        demand,
+        DEMAND_TOO_LARGE,
+        refused_if(
+            factor,
+            FACTOR_OUT_OF_RANGE,
+            refused_if(share, SHARE_TOO_LARGE, 0),
+        ),
+    )
+}
+
+pub fn field_refusal_with(case: Case, loads: u64) -> u64
+    ensures { λ r. ⌜ r ≡ firstRefusal (fieldRefusalsWith (found loads) case) ⌝ }
+{
+    let road = case.road;
+    let kind = road.kind;
     let weather = case.weather;
     let unfit = weather_unfit(kind, weather);
+    let number = section_refusal(case);
     refused_if(
-        lanes,
-        LANES_NOT_OF_THE_KIND,
-        refused_if(
-            demand,
-            DEMAND_TOO_LARGE,
-            refused_if(
-                factor,
-                FACTOR_OUT_OF_RANGE,
-                refused_if(share, SHARE_TOO_LARGE, refused_if(unfit, WEATHER_UNFIT, 0)),
-            ),
-        ),
+        0 < number,
+        number,
+        refused_if(0 < loads, loads, refused_if(unfit, WEATHER_UNFIT, 0)),
     )
 }
 
 pub fn field_refusal(case: Case) -> u64
     ensures { λ r. ⌜ r ≡ firstRefusal (fieldRefusals case) ⌝ }
 {
-    let road = case.road;
-    let number = road_refusal(road);
-    if number == 0 {
-        return load_refusal(case);
-    }
-    number
+    field_refusal_with(case, load_refusal(case))
 }

@@ -9,20 +9,12 @@ returns : tie.Need-returns
 unfolding loadRefusals
 returns c =
     simp (
-      c .refused-if5 .ensures,
-      c .before .refused-if4 .ensures,
-      c .before .before .refused-if3 .ensures,
-      c .before .before .before .refused-if2 .ensures,
-      c .before .before .before .before .refused-if .ensures,
-      c .before .before .before .before .before .weather-unfit .ensures,
-      c .before .before .before .before .before .before .before .before .outside2 .ensures,
-      c .before .before .before .before .before .before .before .before .before .before .outside .ensures,
-      c .before .before .before .before .before .before .before .before .before .before .before .most-lanes .ensures,
-      c .before .before .before .before .before .before .before .before .before .before .before .before .fewest-lanes .ensures,
+      c .refused-if3 .ensures,
+      c .before .refused-if2 .ensures,
+      c .before .before .refused-if .ensures,
+      c .before .before .before .before .outside .ensures,
     )
 
 pub load-refusal-spec : {M : Type 1} → statement M
 load-refusal-spec =
-    tie.close
-    (tie.spec (λ c κs. search needs) (λ c κs. search needs) (λ c κs. search needs) (λ c κs. search needs) (λ c κs. search needs)
-    (λ c κs. search needs) (λ c κs. search needs) (λ c κs. search needs) (λ c κs. search needs) (λ c κs. search needs) returns)
+    tie.close (tie.spec (λ c κs. search needs) (λ c κs. search needs) (λ c κs. search needs) (λ c κs. search needs) returns)
