@@ -6,6 +6,7 @@
      marehour_lanes        the least lane count with which a section meets a letter
      marehour_day          a section's answers for up to 24 demands
      marehour_daily        a section's answer for a daily traffic, and its daily service volumes
+     marehour_forecast     a section's best and worst letter for a load known within ranges
      marehour_tries        how many demands the search for a section's service volumes tries
      marehour_survey_mph   a surveyed speed, from miles per hour
      marehour_survey_kmh   a surveyed speed, from kilometres per hour
@@ -74,11 +75,14 @@ extern "C" {
 #define MAREHOUR_DAILY_FIGURES 16
 #define MAREHOUR_GREATEST_DAILY_TRAFFIC 4000000000
 
+/* How many numbers the answer for a forecast has. */
+#define MAREHOUR_FORECAST_FIGURES 8
+
 /* No search for a section's service volumes tries more demands. */
 #define MAREHOUR_MOST_TRIES 80
 
-/* Numbers of the letters: marehour_lanes takes A to E, marehour_day and marehour_daily answer A to
-   F. */
+/* Numbers of the letters: marehour_lanes takes A to E; marehour_day, marehour_daily and
+   marehour_forecast answer A to F. */
 enum {
     MAREHOUR_LETTER_A = 1,
     MAREHOUR_LETTER_B = 2,
@@ -97,9 +101,10 @@ enum {
     MAREHOUR_ACCESS_TOO_LARGE = 5,       /* ramps above 48 (F), access points above 200 (M) */
     MAREHOUR_LANES_NOT_OF_THE_KIND = 6,  /* lanes not 2 to 8 (F), not 2 to 3 (M) */
     MAREHOUR_DEMAND_TOO_LARGE = 7,       /* demand above 99,999, which no line can hold: one of a
-                                            day, or the hourly demand of a daily traffic */
-    MAREHOUR_FACTOR_OUT_OF_RANGE = 8,    /* peak-hour factor not 250 to 1,000 */
-    MAREHOUR_SHARE_TOO_LARGE = 9,        /* heavy share above 1,000 */
+                                            day, the hourly demand of a daily traffic, or an end of
+                                            a forecast demand */
+    MAREHOUR_FACTOR_OUT_OF_RANGE = 8,    /* peak-hour factor, or an end of it, not 250 to 1,000 */
+    MAREHOUR_SHARE_TOO_LARGE = 9,        /* heavy share, or an end of it, above 1,000 */
     MAREHOUR_SPEED_BELOW_LOWER_END = 10, /* free-flow speed F below 55,000 (F), 45,000 (M), or
                                             below 50,000 (F) after the speed factor */
     MAREHOUR_CARS_TOO_FEW = 11,          /* fewer than 100 cars counted */
@@ -111,13 +116,15 @@ enum {
     MAREHOUR_LETTER_UNKNOWN = 16,        /* letter number not 1 to 5 */
     MAREHOUR_BUFFER_TOO_SHORT = 17,      /* answer buffer under MAREHOUR_ANSWER_SIZE bytes; with a
                                             daily traffic, room for fewer than
-                                            MAREHOUR_DAILY_FIGURES numbers */
+                                            MAREHOUR_DAILY_FIGURES numbers, with a forecast for
+                                            fewer than MAREHOUR_FORECAST_FIGURES */
     MAREHOUR_DAY_UNFIT = 18,             /* no demand, more than MAREHOUR_DAY_DEMANDS, or room for
                                             fewer answers than demands */
     MAREHOUR_WEATHER_UNFIT = 19,         /* speed or capacity factor not 500 to 1,000 (F), not 1,000
                                             (M) */
     MAREHOUR_SHARES_UNFIT = 20,          /* peak share or direction share not 1 to 1,000 */
-    MAREHOUR_DAILY_TRAFFIC_TOO_LARGE = 21 /* daily traffic above MAREHOUR_GREATEST_DAILY_TRAFFIC */
+    MAREHOUR_DAILY_TRAFFIC_TOO_LARGE = 21, /* daily traffic above MAREHOUR_GREATEST_DAILY_TRAFFIC */
+    MAREHOUR_ENDS_REVERSED = 22          /* a low end of a forecast above its high end */
 };
 
 int32_t marehour_answer(const uint8_t *line, size_t line_length, uint8_t *answer,
@@ -228,6 +235,40 @@ int32_t marehour_daily(const uint8_t *line, size_t line_length, uint64_t daily_t
      1 to 9, 19, 10  in this order; 7 looks at the hourly demand
 
    Afterwards the first MAREHOUR_DAILY_FIGURES numbers are the answer. Those past them keep their
+   content. A refusal changes no number.
+*/
+
+int32_t marehour_forecast(const uint8_t *line, size_t line_length, uint64_t demand_low,
+                          uint64_t demand_high, uint64_t share_low, uint64_t share_high,
+                          uint64_t factor_low, uint64_t factor_high, uint64_t *figures,
+                          size_t figures_length);
+/* Answers a section whose demand, heavy share and peak-hour factor are forecast, each between a low
+   and a high end: the best and the worst letter over all whole combinations within the ends, the
+   ends included, and for each of the two a combination that gets it. The line's own demand, factor
+   and share have to be well formed and are not used: 7, 8 and 9 look at the ends. Any numbers may
+   be passed. The order is demand, share, factor here, and demand, factor, share on a line.
+
+   figures_length counts numbers. MAREHOUR_FORECAST_FIGURES are written:
+
+     from figures[0] on  best letter by its number, A to F; demand_low; share_low; factor_high
+     from figures[4] on  worst letter by its number; demand_high; share_high; factor_low
+
+   A high peak-hour factor is the good end. The best letter is the one that marehour_answer answers
+   for the same section with demand_low, share_low and factor_high, the worst the one with the
+   opposite ends; every combination within the ends is answered with a letter from the best to the
+   worst. Equal ends give one letter twice.
+
+   The result is MAREHOUR_FORECAST_FIGURES; or minus the first of these refusals that holds, in this
+   order:
+
+     17  figures_length under MAREHOUR_FORECAST_FIGURES; the line is not read
+     15  malformed line
+     1 to 6  in this order
+     22  a low end above its high end
+     7 to 9  in this order; each looks at both ends before the next is asked
+     19, 10  in this order
+
+   Afterwards the first MAREHOUR_FORECAST_FIGURES numbers are the answer. Those past them keep their
    content. A refusal changes no number.
 */
 

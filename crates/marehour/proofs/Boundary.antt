@@ -24,6 +24,8 @@ use Rattle.day.specs.Instances.{exampleDemands, exampleDay}
 use Rattle.day.proofs.Instances.{example-day}
 use Rattle.daily.specs.Instances.{urban, printedFigures}
 use Rattle.daily.proofs.Instances.{printed-accepted, printed-figures}
+use Rattle.forecast.specs.Instances.{wide}
+use Rattle.forecast.proofs.Instances.{wide-told}
 use Rattle.survey.specs.Boundary.{surveyFigures}
 use Rattle.survey.proofs.Boundary.{survey-shown}
 use Rattle.lines.specs.declared.read.LineRead.the-variants as LineRead
@@ -33,8 +35,8 @@ use Rattle.replies.specs.Texts.{refusalText, textOf, lineText}
 use Rattle.stream.specs.Stream.{texts, lastLine, withoutEmptyLast, linesOf, outputOf}
 use Rattle.replies.specs.Output.{lineTexts}
 use Rattle.replies.proofs.TextsLaws.{lineText-refused, lineText-case}
-use Rattle.marehour.specs.Calls.{dayCall, dailyCall, content}
-use Rattle.marehour.proofs.Laws.{day-call-is-the-day, daily-hands-back}
+use Rattle.marehour.specs.Calls.{dayCall, dailyCall, forecastCall, content}
+use Rattle.marehour.proofs.Laws.{day-call-is-the-day, daily-hands-back, forecast-hands-back}
 use Rattle.marehour.specs.Boundary.{printedLine, printedAnswer, snowAnswer, longest, addedFigures, boundaryFigures}
 
 pub line-read : readLine (bytesOf printedLine) ≡ LineRead.Case example
@@ -81,8 +83,14 @@ day-shown = day-call-is-the-day (bytesOf printedLine) example line-read exampleD
 
 daily-shown : content (dailyCall (bytesOf printedLine) urban 40404 17) (replicate 17 9) ≡ printedFigures ++ (9 ∷ [])
 daily-shown =
-    daily-hands-back (bytesOf printedLine) urban 40404 (replicate 17 9) .2 (lit≤ tt) example line-read .1 printed-accepted .1
+    daily-hands-back urban 40404 (bytesOf printedLine) (replicate 17 9) .2 (lit≤ tt) example line-read .1 printed-accepted .1
     ∙ ap (λ figures. figures ++ (9 ∷ [])) printed-figures
+
+forecast-shown : content (forecastCall (bytesOf printedLine) wide 9) (replicate 9 9)
+    ≡ 1 ∷ 1000 ∷ 0 ∷ 950 ∷ 6 ∷ 4000 ∷ 100 ∷ 850 ∷ 9 ∷ []
+forecast-shown =
+    forecast-hands-back wide (bytesOf printedLine) (replicate 9 9) .2 (lit≤ tt) example line-read .1 (ap (λ ns. getD ns 0 0) wide-told) .1
+    ∙ ap (λ figures. drop 1 figures ++ (9 ∷ [])) wide-told
 
 added-shown : Shown addedFigures
 unfolding flatMap onFirst parts layout completed spelled number oneOf letter fieldAs valuesOf readValues readLine texts lastLine
@@ -98,8 +106,11 @@ added-shown = (
         (
           daily-shown,
           (
-            ap (λ r. refusalNumber r ∷ values r) line-read,
-            (refl, (refl, (refl, (refl, (refl, (snow-shown, (refl, (refl, (refl, (factor-shown, (longest-shown, tt))))))))))),
+            forecast-shown,
+            (
+              ap (λ r. refusalNumber r ∷ values r) line-read,
+              (refl, (refl, (refl, (refl, (refl, (snow-shown, (refl, (refl, (refl, (factor-shown, (longest-shown, tt))))))))))),
+            ),
           ),
         ),
       ),

@@ -7,9 +7,10 @@
 --   call-lent, call-refused, call-case, call-wrote   a call over a line that was read: refused lent memory; no case; a case that another
 --                            function answers; a case that was answered
 --   buffer-short, buffer-fits   a buffer that 17 refuses; one that it does not
+--   FiguresFit, figures-written, figures-refused   an answer in figures: so many, or a refusal
 --   count-length, count-written   the two bytes of a lane count
 -- Assumes nothing.
-use mathlib.Core.Path.{_≡_, sym, ap, _∙_}
+use mathlib.Core.Path.{_≡_, refl, sym, ap, _∙_}
 use mathlib.Core.List.{List, [], _∷_}
 use Prim.Native.Nat.{ℕ, zero, suc, _+_, _≤_, _<_}
 use native.Mathlib.Nat.{lt-of-le-of-lt}
@@ -30,7 +31,8 @@ use Rattle.text.proofs.BufferLaws.{first-byte, then-byte}
 use Rattle.road.specs.declared.Case.{Case}
 use Rattle.lines.specs.declared.read.LineRead.{LineRead}
 use Rattle.lines.specs.declared.read.LineRead.the-variants as LineRead
-use Rattle.marehour.specs.Calls.{Reply, writes, refusal, countText, lineReply, lineCall, bufferRefusals, handedBack, result, content}
+use Rattle.marehour.specs.Calls.{Reply, writes, refusal, countText, figuresReply, lineReply, lineCall, bufferRefusals}
+use Rattle.marehour.specs.Calls.{handedBack, result, content}
 
 -- ---- numbers in 32 bits
 small : (n : ℕ) → n ≤ 90000 → n < 2147483648
@@ -109,6 +111,19 @@ buffer-short least room h = rw (lt-ltb room least h)
 pub buffer-fits : (least room : ℕ) → least ≤ room → firstRefusal (bufferRefusals least room) ≡ 0
 unfolding bufferRefusals
 buffer-fits least room h = rw (le-ltb room least h)
+
+-- ---- an answer in figures
+pub record FiguresFit (count last number : ℕ) (values : List ℕ) : Type 0 where
+  pub some : number ≡ 0 → length values ≡ count
+  pub none : 0 < number → values ≡ []
+  pub most : number ≤ last
+
+pub figures-written : (number : ℕ) (values : List ℕ) → 1 ≤ length values → figuresReply number values ≡ writes values
+figures-written number [] h = absurd (omega arith)
+figures-written number (v ∷ vs) h = refl
+
+pub figures-refused : (number : ℕ) (values : List ℕ) → values ≡ [] → figuresReply number values ≡ refusal number
+figures-refused number values e = ap (figuresReply number) e
 
 -- ---- a lane count
 pub count-length : (count : ℕ) → count ≤ 9 → length (countText (count ∷ [])) ≡ 2

@@ -1,14 +1,13 @@
 -- The laws of specs/Laws, proved.
 --   replies-within-ends, buffer-too-short, no-demand-is-refused, last-refusal-is-reached, day-hands-back, day-call-is-the-day,
---   position-is-the-lines-answer, daily-hands-back
+--   position-is-the-lines-answer, daily-hands-back, forecast-hands-back
 -- Assumes nothing.
 use mathlib.Core.List.{List}
 use mathlib.Core.Logic.{⊎-elim}
 use mathlib.Core.Path.{_≡_, refl, sym, ap, subst, _∙_}
 use Prim.Native.Nat.{ℕ, _*_, _≤_, _<_}
-use native.Mathlib.Nat.{eq-zero-or-pos}
+use native.Mathlib.Nat.{eq-zero-or-pos, zero-add}
 use native.Mathlib.Omega.{arith}
-use lib.Dec.{lit≤}
 use lib.IntN.{pos, negℤ}
 use lib.ListN.{length}
 use Rattle.checks.specs.Refusals.{Refusal, firstRefusal}
@@ -32,7 +31,15 @@ use Rattle.day.proofs.Promises.{position-holds-the-answer, lent-fits-exactly}
 use Rattle.daily.specs.declared.Shares.{Shares}
 use Rattle.daily.specs.Daily as daily
 use Rattle.daily.specs.Daily.{sharesUnfit, trafficRefusals, dailyAnswer}
-use Rattle.daily.proofs.DailyLaws.{number-le, answer-accepted, refused-with}
+use Rattle.daily.proofs.DailyLaws as daily-laws
+use Rattle.daily.proofs.DailyLaws.{refused-with}
+use Rattle.daily.proofs.Promises.{figures-of-the-hour}
+use Rattle.forecast.specs.declared.Forecast.{Forecast}
+use Rattle.forecast.specs.Forecasts as forecasts
+use Rattle.forecast.specs.Forecasts.{rangeRefusals, forecastRefusals, forecastAnswer}
+use Rattle.forecast.proofs.ForecastLaws as forecast-laws
+use Rattle.forecast.proofs.ForecastLaws.{refused-values}
+use Rattle.forecast.proofs.Promises.{shown}
 use Rattle.lines.specs.declared.read.LineRead.the-variants as LineRead
 use Rattle.lines.specs.Fields.{layout, completed, spelled, number, oneOf, letter, fieldAs, valuesOf}
 use Rattle.lines.specs.Reading.{caseOf, readValues, readLine}
@@ -40,11 +47,12 @@ use Rattle.lines.proofs.ReadingLaws.{readLine-by, readLine-refused}
 use Rattle.replies.specs.Texts.{longestAnswer}
 use Rattle.replies.proofs.TextsLaws.{answerText-le, answerText-pos}
 use Rattle.marehour.specs.Calls.{Reply, refusal as refusalReply, answerReply, countReply, caseReply, lanesReply, dayReply, lineReply}
-use Rattle.marehour.specs.Calls.{figuresReply, dailyReply, lineCall, bufferRefusals, dayCall, dailyCall, result, dayResult, content}
-use Rattle.marehour.specs.Calls.{resultOf}
-use Rattle.marehour.specs.Laws.{lastRefusal, lastDailyRefusal, WithinEnds, RepliesWithinEnds, BufferTooShort, NoDemandIsRefused}
-use Rattle.marehour.specs.Laws.{LastRefusalIsReached, DailyHandsBack, DayHandsBack, DayCallIsTheDay, PositionIsTheLinesAnswer}
-use Rattle.marehour.proofs.CallLaws.{count-length, buffer-short, buffer-fits}
+use Rattle.marehour.specs.Calls.{figuresReply, dailyReply, forecastReply, lineCall, bufferRefusals, dayCall, result, dayResult}
+use Rattle.marehour.specs.Calls.{content, resultOf}
+use Rattle.marehour.specs.Laws.{lastRefusal, lastDailyRefusal, lastForecastRefusal, WithinEnds, RepliesWithinEnds, BufferTooShort}
+use Rattle.marehour.specs.Laws.{NoDemandIsRefused, LastRefusalIsReached, HandsBackFigures, DailyHandsBack, ForecastHandsBack}
+use Rattle.marehour.specs.Laws.{DayHandsBack, DayCallIsTheDay, PositionIsTheLinesAnswer}
+use Rattle.marehour.proofs.CallLaws.{FiguresFit, figures-written, figures-refused, count-length, buffer-short, buffer-fits}
 
 answer-ends : (case : Case) → WithinEnds 1 longestAnswer lastRefusal (caseReply case)
 answer-ends case =
@@ -68,13 +76,34 @@ day-ends demands room z case =
     let fits = lent-fits-exactly (length demands) room .0 z in
     (omega (arith, dayFigures-length case demands, fits .0), omega (arith, dayFigures-length case demands, fits .1))
 
-daily-ends : (shares : Shares) (traffic : ℕ) (case : Case)
-    → WithinEnds daily.figureCount daily.figureCount lastDailyRefusal (dailyReply shares traffic case)
-daily-ends shares traffic case =
-    let answer = dailyAnswer case shares traffic in
-    let ends : Reply → Type 0 = WithinEnds daily.figureCount daily.figureCount lastDailyRefusal in
-    ⊎-elim (λ z. subst ends (sym (ap figuresReply (answer-accepted case shares traffic z))) (lit≤ tt, lit≤ tt))
-    (λ p. subst ends (sym (ap figuresReply (refused-with answer _ refl p))) (p, number-le case shares traffic)) (eq-zero-or-pos _)
+-- an answer in figures, of which there is one at least
+figures-ends : (count last : ℕ) → 1 ≤ count → (number : ℕ) (values : List ℕ) → FiguresFit count last number values
+    → WithinEnds count count last (figuresReply number values)
+figures-ends count last h number values fit =
+    let ends : Reply → Type 0 = WithinEnds count count last in
+    ⊎-elim
+    (λ z. let long = fit .some z in subst ends (sym (figures-written number values (omega arith))) (omega arith, omega arith))
+    (λ p. subst ends (sym (figures-refused number values (fit .none p))) (p, fit .most)) (eq-zero-or-pos number)
+
+daily-fit : (shares : Shares) (traffic : ℕ) (case : Case)
+    → let answer = dailyAnswer case shares traffic in
+    FiguresFit daily.figureCount lastDailyRefusal (daily.refusalNumber answer) (daily.values answer)
+daily-fit shares traffic case =
+    record {
+      some = λ z. figures-of-the-hour case shares traffic z .1;
+      none = λ p. ap daily.values (refused-with (dailyAnswer case shares traffic) _ refl p);
+      most = daily-laws.number-le case shares traffic;
+    }
+
+forecast-fit : (forecast : Forecast) (case : Case)
+    → let answer = forecastAnswer case forecast in
+    FiguresFit forecasts.figureCount lastForecastRefusal (forecasts.refusalNumber answer) (forecasts.values answer)
+forecast-fit forecast case =
+    record {
+      some = λ z. ap length (shown case forecast z);
+      none = refused-values (forecastAnswer case forecast);
+      most = forecast-laws.number-le case forecast;
+    }
 
 -- lent memory that is refused, a line that is refused with 15, or a case
 of-line : (least most last : ℕ) (reply : Case → Reply) (lent : List Refusal) → 15 ≤ last → firstRefusal lent ≤ last
@@ -86,22 +115,27 @@ of-line least most last reply lent k h ends line =
 
 pub replies-within-ends : RepliesWithinEnds
 unfolding bufferRefusals lentRefusals
-replies-within-ends line letter room demands shares traffic =
+replies-within-ends line letter room demands shares traffic forecast =
     let buffer = bufferRefusals longestAnswer room in
-    let figures = bufferRefusals daily.figureCount room in
+    let sixteen = bufferRefusals daily.figureCount room in
+    let eight = bufferRefusals forecasts.figureCount room in
     let lent = lentRefusals (length demands) room in (
       of-line 1 longestAnswer lastRefusal caseReply buffer (omega arith) (firstRefusal-le lastRefusal buffer tt) (λ z. answer-ends) line,
       of-line 1 longestAnswer lastRefusal (lanesReply letter) buffer (omega arith) (firstRefusal-le lastRefusal buffer tt)
           (λ z. count-ends letter) line,
       of-line figureCount (mostDemands * figureCount) lastRefusal (dayReply demands) lent (omega arith)
           (firstRefusal-le lastRefusal lent tt) (day-ends demands room) line,
-      of-line daily.figureCount daily.figureCount lastDailyRefusal (dailyReply shares traffic) figures (omega arith)
-          (firstRefusal-le lastDailyRefusal figures tt) (λ z. daily-ends shares traffic) line,
+      of-line daily.figureCount daily.figureCount lastDailyRefusal (dailyReply shares traffic) sixteen (omega arith)
+          (firstRefusal-le lastDailyRefusal sixteen tt)
+          (λ z case. figures-ends daily.figureCount lastDailyRefusal (omega arith) _ _ (daily-fit shares traffic case)) line,
+      of-line forecasts.figureCount forecasts.figureCount lastForecastRefusal (forecastReply forecast) eight (omega arith)
+          (firstRefusal-le lastForecastRefusal eight tt)
+          (λ z case. figures-ends forecasts.figureCount lastForecastRefusal (omega arith) _ _ (forecast-fit forecast case)) line,
     )
 
 pub buffer-too-short : BufferTooShort
 unfolding bufferRefusals
-buffer-too-short line letter shares traffic = (refl, refl, refl)
+buffer-too-short line letter shares traffic forecast = (refl, refl, refl, refl)
 
 pub no-demand-is-refused : NoDemandIsRefused
 unfolding lentUnfit lentRefusals
@@ -109,8 +143,8 @@ no-demand-is-refused line room = refl
 
 pub last-refusal-is-reached : LastRefusalIsReached
 unfolding onFirst parts layout completed spelled number oneOf letter fieldAs valuesOf caseOf readValues readLine weatherUnfit roadRefusals
-    loadRefusals fieldRefusals refusals lanesRefusals bufferRefusals sharesUnfit trafficRefusals
-last-refusal-is-reached = (refl, refl, refl)
+    loadRefusals fieldRefusals refusals lanesRefusals bufferRefusals sharesUnfit trafficRefusals rangeRefusals forecastRefusals
+last-refusal-is-reached = (refl, refl, refl, refl)
 
 -- ---- a day
 -- lent memory that fits: the line decides
@@ -161,32 +195,43 @@ position-is-the-lines-answer line case demands old i e z h = (
       ∙ ap (lineReply caseReply) k,
 )
 
--- ---- a daily traffic
+-- ---- an answer in figures
+module _ (count last : ℕ) (h : 1 ≤ count) (number : Case → ℕ) (values : Case → List ℕ)
+    (fit : (case : Case) → FiguresFit count last (number case) (values case)) where
+  abbrev reply : Case → Reply
+  reply case = figuresReply (number case) (values case)
+
+  abbrev call : List ℕ → ℕ → Reply
+  call line room = lineCall reply (readLine line) (bufferRefusals count room)
+
+  hand-back-figures : HandsBackFigures count number values call
+  unfolding written
+  hand-back-figures line old = (
+    λ short.
+        let own = buffer-short count (length old) short in
+        back (unlessRefused-some _ onLine refusalReply (omega (arith, own)) ∙ ap refusalReply (sym own)),
+    λ room n e. back (read room ∙ ap (lineReply reply) (e ∙ ap LineRead.Refused (readLine-refused line n e))),
+    λ room case e. (
+      λ n k p. back (read room ∙ ap (lineReply reply) e ∙ figures-refused _ _ (fit case .none (omega (arith, k))) ∙ ap refusalReply k),
+      λ z.
+          let long = fit case .some z in
+          let wrote = read room ∙ ap (lineReply reply) e ∙ figures-written (number case) (values case) (omega arith) in
+          (ap result wrote ∙ ap pos long, ap (λ r. content r old) wrote ∙ rw (zero-add (length (values case)), long)),
+    ),
+  )
+    where
+      onLine : Reply
+      onLine = lineReply reply (readLine line)
+
+      read : count ≤ length old → call line (length old) ≡ onLine
+      read room = unlessRefused-none _ onLine refusalReply (buffer-fits count (length old) room)
+
+      back : {n : ℕ} → call line (length old) ≡ refusalReply n
+          → (result (call line (length old)) ≡ negℤ (pos n)) × (content (call line (length old)) old ≡ old)
+      back e = (ap result e, ap (λ r. content r old) e)
+
 pub daily-hands-back : DailyHandsBack
-unfolding written
-daily-hands-back line shares traffic old = (
-  λ short.
-      let own = buffer-short daily.figureCount (length old) short in
-      back (unlessRefused-some _ onLine refusalReply (omega (arith, own)) ∙ ap refusalReply (sym own)),
-  λ room n e. back (read room ∙ ap (lineReply reply) (e ∙ ap LineRead.Refused (readLine-refused line n e))),
-  λ room case e. (
-    λ n k p. back (read room ∙ ap (lineReply reply) e ∙ ap figuresReply (refused-with (dailyAnswer case shares traffic) n k p)),
-    λ z.
-        let wrote = read room ∙ ap (lineReply reply) e ∙ ap figuresReply (answer-accepted case shares traffic z) in
-        (ap result wrote, ap (λ r. content r old) wrote ∙ rw (answer-accepted case shares traffic z)),
-  ),
-)
-  where
-    reply : Case → Reply
-    reply = dailyReply shares traffic
+daily-hands-back shares traffic = hand-back-figures daily.figureCount lastDailyRefusal (omega arith) _ _ (daily-fit shares traffic)
 
-    onLine : Reply
-    onLine = lineReply reply (readLine line)
-
-    read : daily.figureCount ≤ length old → dailyCall line shares traffic (length old) ≡ onLine
-    read room = unlessRefused-none _ onLine refusalReply (buffer-fits daily.figureCount (length old) room)
-
-    back : {n : ℕ} → dailyCall line shares traffic (length old) ≡ refusalReply n
-        → (result (dailyCall line shares traffic (length old)) ≡ negℤ (pos n))
-        × (content (dailyCall line shares traffic (length old)) old ≡ old)
-    back e = (ap result e, ap (λ r. content r old) e)
+pub forecast-hands-back : ForecastHandsBack
+forecast-hands-back forecast = hand-back-figures forecasts.figureCount lastForecastRefusal (omega arith) _ _ (forecast-fit forecast)

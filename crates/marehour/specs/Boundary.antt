@@ -16,12 +16,13 @@ use Rattle.checks.specs.Figures.{Figure, figure}
 use Rattle.answer.specs.Boundary as answer
 use Rattle.day.specs.Instances.{exampleDemands, exampleDay}
 use Rattle.daily.specs.Instances.{urban, printedFigures}
+use Rattle.forecast.specs.Instances.{wide}
 use Rattle.survey.specs.Boundary.{surveyFigures}
 use Rattle.lines.specs.Reading.{readLine, refusalNumber, values}
 use Rattle.replies.specs.Texts.{lineText}
 use Rattle.stream.specs.Stream.{outputOf}
 use Rattle.replies.specs.Output.{lineTexts}
-use Rattle.marehour.specs.Calls.{dayCall, dailyCall, content}
+use Rattle.marehour.specs.Calls.{dayCall, dailyCall, forecastCall, content}
 
 -- tabs as blanks: F E 75400 110 20 0 D 24 2 V 920 50, and the terrain
 abbrev pub printedLineWith : String → String → String
@@ -44,9 +45,10 @@ abbrev pub longest : String
 longest = "M\tG\t99999\t99999\t99999\t99999\tT\t99999\t99999\t99999\t99999\t99999\tL\t99999\t99999"
 
 -- Starred: the printed line. Not starred: what is printed for it between an empty line and a last line without newline; an empty input; its
--- day with 2,000, 1,000,000 and 2,643; its daily figures with 40,404 vehicles, K 90 and D 550; its 15 values, letters by their bytes; the
--- line with a leading zero, six digits and an empty field as its demand, with an empty 14th field, and with an unknown terrain; in snow;
--- with 14 fields, 16, and a leading zero in a factor; and with a factor of 99999, which is 19; and the longest line that is read.
+-- day with 2,000, 1,000,000 and 2,643; its daily figures with 40,404 vehicles, K 90 and D 550; its letters with a demand of 1,000 to 4,000,
+-- a share of 0 to 100 and a factor of 850 to 950; its 15 values, letters by their bytes; the line with a leading zero, six digits and an
+-- empty field as its demand, with an empty 14th field, and with an unknown terrain; in snow; with 14 fields, 16, and a leading zero in a
+-- factor; and with a factor of 99999, which is 19; and the longest line that is read.
 unfoldable pub addedFigures : List Figure
 addedFigures =
     figure (lineText (bytesOf printedLine)) (bytesOf printedAnswer)
@@ -54,6 +56,7 @@ addedFigures =
     ∷ figure (outputOf lineTexts (bytesOf "")) (bytesOf "")
     ∷ figure (content (dayCall (bytesOf printedLine) exampleDemands 38) (replicate 38 9)) exampleDay
     ∷ figure (content (dailyCall (bytesOf printedLine) urban 40404 17) (replicate 17 9)) (printedFigures ++ (9 ∷ []))
+    ∷ figure (content (forecastCall (bytesOf printedLine) wide 9) (replicate 9 9)) (1 ∷ 1000 ∷ 0 ∷ 950 ∷ 6 ∷ 4000 ∷ 100 ∷ 850 ∷ 9 ∷ [])
     ∷ figure (readAs printedLine) (0 ∷ 70 ∷ 69 ∷ 75400 ∷ 110 ∷ 20 ∷ 0 ∷ 68 ∷ 24 ∷ 2 ∷ 2000 ∷ 920 ∷ 50 ∷ 82 ∷ 1000 ∷ 1000 ∷ [])
     ∷ figure (readAs (printedLineWith "02000" "R")) (15 ∷ [])
     ∷ figure (readAs (printedLineWith "100000" "R")) (15 ∷ [])

@@ -1,5 +1,5 @@
 -- What the calls of a host in C hand back, and what the lent memory then holds (document 01, "Lines", "Refused, by who can cause it";
--- document 02, T-01 and T-06).
+-- document 02, T-01, T-06 and T-07).
 --   Reply                  what is written from the start of the lent memory on, or a refusal's number
 --   replyOf n vs text      the reply of an answer with number n and values vs: its text, or the refusal where it has no values
 --   answerReply a          the reply of an answer
@@ -8,8 +8,9 @@
 --   caseReply case         the reply to a case
 --   lanesReply n case      the same for the lanes question and letter number n
 --   dayReply demands case  the same for a day of demands
---   figuresReply a         the reply of an answer to a daily traffic
---   dailyReply shares traffic case   the same for a daily traffic and its shares
+--   figuresReply n vs      the reply of an answer with number n and values vs: its values, or the refusal where it has none
+--   dailyReply shares traffic case   the reply to a case for a daily traffic and its shares
+--   forecastReply forecast case   the same for a forecast
 --   lineReply reply r      the reply to a line that was read, by the reply to its case
 --   lineCall reply r lent  the reply of a call to a line that was read, by what refuses the lent memory
 --   bufferRefusals least room   17, of lent memory of room bytes or numbers that must have so many at least
@@ -17,6 +18,7 @@
 --   lanesCall line n room  the same for the lanes question and letter number n
 --   dayCall line demands room   the same for a day of demands, with room for so many numbers
 --   dailyCall line shares traffic room   the same for a daily traffic and its shares, with room for so many numbers
+--   forecastCall line forecast room   the same for a forecast, with room for so many numbers
 --   handedBack count r     what a call hands back, by how it counts what is written
 --   result r               the same in bytes, or in numbers where numbers are written
 --   answerCount ns         how many answers so many numbers are
@@ -43,9 +45,11 @@ use Rattle.answer.specs.Lanes as lanes
 use Rattle.answer.specs.Lanes.{lanesAnswer}
 use Rattle.day.specs.Days.{figureCount, dayFigures, lentRefusals}
 use Rattle.daily.specs.declared.Shares.{Shares}
-use Rattle.daily.specs.declared.DailyAnswer.{DailyAnswer}
 use Rattle.daily.specs.Daily as daily
 use Rattle.daily.specs.Daily.{dailyAnswer}
+use Rattle.forecast.specs.declared.Forecast.{Forecast}
+use Rattle.forecast.specs.Forecasts as forecasts
+use Rattle.forecast.specs.Forecasts.{forecastAnswer}
 use Rattle.survey.specs.declared.SurveyAnswer.{SurveyAnswer}
 use Rattle.survey.specs.Survey as survey
 use Rattle.lines.specs.declared.read.LineRead.{LineRead}
@@ -83,11 +87,16 @@ abbrev pub dayReply : List ℕ → Case → Reply
 dayReply demands case = writes (dayFigures case demands)
 
 -- the figures as they are
-abbrev pub figuresReply : DailyAnswer → Reply
-figuresReply a = replyOf (daily.refusalNumber a) (daily.values a) (daily.values a)
+abbrev pub figuresReply : ℕ → List ℕ → Reply
+figuresReply number values = replyOf number values values
 
 abbrev pub dailyReply : Shares → ℕ → Case → Reply
-dailyReply shares traffic case = figuresReply (dailyAnswer case shares traffic)
+dailyReply shares traffic case =
+    let answer = dailyAnswer case shares traffic in figuresReply (daily.refusalNumber answer) (daily.values answer)
+
+abbrev pub forecastReply : Forecast → Case → Reply
+forecastReply forecast case =
+    let answer = forecastAnswer case forecast in figuresReply (forecasts.refusalNumber answer) (forecasts.values answer)
 
 -- "15 malformed line", before 16, 20 and 1
 abbrev pub lineReply : (Case → Reply) → LineRead → Reply
@@ -115,6 +124,10 @@ dayCall line demands room = lineCall (dayReply demands) (readLine line) (lentRef
 -- "20 .. before 1": behind 17 and 15, as 1 is
 abbrev pub dailyCall : List ℕ → Shares → ℕ → ℕ → Reply
 dailyCall line shares traffic room = lineCall (dailyReply shares traffic) (readLine line) (bufferRefusals daily.figureCount room)
+
+-- 1 to 6 and 22 behind 17 and 15
+abbrev pub forecastCall : List ℕ → Forecast → ℕ → Reply
+forecastCall line forecast room = lineCall (forecastReply forecast) (readLine line) (bufferRefusals forecasts.figureCount room)
 
 abbrev pub handedBack : (List ℕ → ℕ) → Reply → ℤ
 handedBack count (writes ns) = pos (count ns)

@@ -5,7 +5,7 @@ use mathlib.Core.Path.{sym, ap, _∙_}
 use native.Mathlib.Omega.{arith}
 use lib.Dec.{lit≤}
 use lib.ListN.{length}
-use Rattle.daily.specs.Daily.{refusalNumber}
+use Rattle.daily.specs.Daily.{refusalNumber, values}
 use Rattle.daily.proofs.DailyLaws.{number-le}
 use Rattle.marehour.specs.Calls.{figuresReply}
 use Rattle.marehour.proofs.CallLaws.{refused-reply, wrote-reply}
@@ -24,7 +24,7 @@ returns : tie.Need-returns
 returns c =
     let e = sym (c .before .before .before .before .before .before .before .evaluate-daily .ensures)
     ∙ c .before .before .before .before .before .found .given .1 in
-    wrote-reply _ _ _ _ _ (lit≤ tt) (c .before .before .put-figures .ensures) (ap figuresReply e)
+    wrote-reply _ _ _ _ _ (lit≤ tt) (c .before .before .put-figures .ensures) (ap (λ a. figuresReply (refusalNumber a) (values a)) e)
 
 returns-2 : tie.Need-returns-2
 returns-2 c =
@@ -32,7 +32,8 @@ returns-2 c =
     let a = found .before .before .args in
     let e = sym (found .evaluate-daily .ensures) ∙ c .before .before .found2 .given .1 in
     refused-reply length (c .refused .result) _ _ _
-    (omega (arith, number-le (a .case) (a .shares) (a .daily-traffic), ap refusalNumber e)) (c .refused .ensures) (ap figuresReply e)
+    (omega (arith, number-le (a .case) (a .shares) (a .daily-traffic), ap refusalNumber e)) (c .refused .ensures)
+    (ap (λ a. figuresReply (refusalNumber a) (values a)) e)
 
 pub daily-case-spec : {M : Type 1} → statement M
 daily-case-spec =

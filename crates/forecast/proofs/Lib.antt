@@ -1,0 +1,7 @@
+-- The laws of the definitions in specs/, the promises proved, and instances of them.
+pub mod CombinationLaws
+pub mod ForecastLaws
+pub mod Promises
+pub mod RefusedExactly
+pub mod Computed
+pub mod Instances

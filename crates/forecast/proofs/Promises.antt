@@ -1,0 +1,143 @@
+-- The promises of specs/Promises, proved. NoBetterUnderMoreLoad, demand 3's part 1, carries those about letters.
+--   bestCase, worstCase, shown   the figures by the letters at the ends
+--   every-letter-between, shown-at-the-ends, met-throughout, equal-ends, own-load-is-not-read, accepted-exactly
+-- proofs/RefusedExactly has the last one.
+-- Assumes nothing.
+use mathlib.Core.Path.{_≡_, refl, sym, ap, _∙_}
+use mathlib.Core.List.{[], _∷_}
+use Prim.Native.Nat.{ℕ}
+use native.Mathlib.Omega.{arith}
+use native.Mathlib.Nat.{le-refl, le-trans, lt-of-not-le}
+use borrow.Author.Tests.{le-ltb}
+use lib.ListN.{getD}
+use Rattle.checks.specs.Refusals.{firstRefusal}
+use Rattle.checks.proofs.RefusalLaws.{firstRefusal-none, lesserRefusal-same}
+use Rattle.road.specs.declared.Case.{Case}
+use Rattle.road.specs.Refusals.{loadRefusals, weatherRefusals}
+use Rattle.road.proofs.RefusalLaws.{load-numbered, loads-exactly}
+use Rattle.method.specs.Refusals.{speedRefusals, refusals, refusal, Accepted}
+use Rattle.method.proofs.RefusalLaws.{refusalsWith-found, refusals-with, with-accepted, with-of}
+use Rattle.answer.specs.Answers.{answerTo}
+use Rattle.answer.specs.Promises.{letterIn, Meets}
+use Rattle.answer.proofs.AnswerLaws.{answerTo-number}
+use Rattle.forecast.specs.declared.Forecast.{Forecast}
+use Rattle.forecast.specs.Forecasts.{forecastOf, bestLetter, worstLetter, rangeRefusals, forecastRefusals}
+use Rattle.forecast.specs.Forecasts.{forecastAnswer, refusalNumber, values}
+use Rattle.forecast.specs.Promises.{AcceptedForecast, bestLetterIn, worstLetterIn, caseWith, EveryLetterBetween}
+use Rattle.forecast.specs.Promises.{ShownAtTheEnds, MetThroughout, EqualEnds, OwnLoadIsNotRead, AcceptedExactly}
+use Rattle.forecast.proofs.ForecastLaws.{letter-accepted, at-best, at-worst, range-numbered, range-number, range-exactly}
+use Rattle.forecast.proofs.ForecastLaws.{forecast-number, accepted-ordered, inside-accepted, best-accepted, worst-accepted}
+use Rattle.forecast.proofs.ForecastLaws.{ends-between, answer-accepted}
+
+pub own-load-is-not-read : OwnLoadIsNotRead
+unfolding bestLetter worstLetter rangeRefusals forecastRefusals
+own-load-is-not-read case demand share factor forecast = refl
+
+-- the case with the combinations that are shown
+abbrev pub bestCase : Case → Forecast → Case
+bestCase case forecast = caseWith case (forecast .demand .low) (forecast .«heavy_share» .low) (forecast .«peak_hour_factor» .high)
+
+abbrev pub worstCase : Case → Forecast → Case
+worstCase case forecast = caseWith case (forecast .demand .high) (forecast .«heavy_share» .high) (forecast .«peak_hour_factor» .low)
+
+module _ (case : Case) (forecast : Forecast) (z : AcceptedForecast case forecast) where
+  abbrev best : Case
+  best = bestCase case forecast
+
+  abbrev worst : Case
+  worst = worstCase case forecast
+
+  pub shown : values (forecastAnswer case forecast)
+      ≡ letterIn (answerTo best) ∷ forecast .demand .low ∷ forecast .«heavy_share» .low ∷ forecast .«peak_hour_factor» .high
+      ∷ letterIn (answerTo worst) ∷ forecast .demand .high ∷ forecast .«heavy_share» .high ∷ forecast .«peak_hour_factor» .low ∷ []
+  shown =
+      ap values (answer-accepted case forecast z)
+      ∙ rw (letter-accepted best (best-accepted case forecast z), letter-accepted worst (worst-accepted case forecast z))
+
+  best-in : bestLetterIn (forecastAnswer case forecast) ≡ letterIn (answerTo best)
+  best-in = ap (λ figures. getD figures 0 0) shown
+
+  worst-in : worstLetterIn (forecastAnswer case forecast) ≡ letterIn (answerTo worst)
+  worst-in = ap (λ figures. getD figures 4 0) shown
+
+pub shown-at-the-ends : ShownAtTheEnds
+shown-at-the-ends case demandLow demandHigh shareLow shareHigh factorLow factorHigh z =
+    shown case (forecastOf demandLow demandHigh shareLow shareHigh factorLow factorHigh) z
+
+pub every-letter-between : EveryLetterBetween
+every-letter-between case forecast z demand share factor v s h =
+    let (above, below) = ends-between case forecast z demand share factor v s h in (
+      inside-accepted case forecast z demand share factor v s h,
+      omega (arith, best-in case forecast z, above),
+      omega (arith, worst-in case forecast z, below),
+    )
+
+pub met-throughout : MetThroughout
+met-throughout case forecast z n = (
+  (
+    λ most demand share factor v s h.
+        let (accepted, _, below) = every-letter-between case forecast z demand share factor v s h in
+        (answerTo-number (caseWith case demand share factor) ∙ accepted, le-trans below most),
+    λ met.
+        rw (worst-in case forecast z)
+        (at-worst forecast (accepted-ordered case forecast z) (λ demand share factor. Meets (caseWith case demand share factor) n) met .1),
+  ),
+  (
+    λ less demand share factor v s h met.
+        let (_, above, _) = every-letter-between case forecast z demand share factor v s h in omega (arith, met .1),
+    λ missed.
+        lt-of-not-le (λ most.
+        at-best forecast (accepted-ordered case forecast z) (λ demand share factor. Meets (caseWith case demand share factor) n → ⊥) missed
+        (answerTo-number (best case forecast z) ∙ best-accepted case forecast z, rw (best-in case forecast z) at most)),
+  ),
+)
+
+-- ---- equal ends
+module _ (case : Case) (demand share factor : ℕ) where
+  abbrev equal : Forecast
+  equal = forecastOf demand demand share share factor factor
+
+  abbrev plain : Case
+  plain = caseWith case demand share factor
+
+  -- 22 refuses none, and the two ends are one
+  equal-range : firstRefusal (rangeRefusals case equal) ≡ firstRefusal (loadRefusals plain)
+  equal-range =
+      range-number case equal
+      ∙ rw (le-ltb demand demand (le-refl demand), le-ltb share share (le-refl share), le-ltb factor factor (le-refl factor))
+      (lesserRefusal-same (firstRefusal (loadRefusals plain)))
+
+  equal-number : refusalNumber (forecastAnswer case equal) ≡ refusal plain
+  unfolding forecastRefusals
+  equal-number =
+      forecast-number case equal
+      ∙ sym (refusalsWith-found (rangeRefusals case equal) case (range-numbered case equal))
+      ∙ rw equal-range (refusals-with plain)
+
+pub equal-ends : EqualEnds
+equal-ends case demand share factor = (
+  equal-number case demand share factor ∙ sym (answerTo-number (caseWith case demand share factor)),
+  shown case (forecastOf demand demand share share factor factor),
+)
+
+-- ---- refusals
+pub accepted-exactly : AcceptedExactly
+unfolding refusals forecastRefusals
+accepted-exactly case forecast = (
+  λ z. (accepted-ordered case forecast z, inside-accepted case forecast z),
+  λ (ordered, all).
+      let AcceptedAt : (demand share factor : ℕ) → Type 0 = λ demand share factor. Accepted (caseWith case demand share factor) in
+      let low = bestCase case forecast in
+      let high = worstCase case forecast in
+      let (section, light, weather, speed) =
+      with-accepted (loadRefusals low) low (load-numbered low) (at-best forecast ordered AcceptedAt all) in
+      let heavy = with-accepted (loadRefusals high) high (load-numbered high) (at-worst forecast ordered AcceptedAt all) .1 in
+      let (demand-low, least-high, most-high, share-low) = loads-exactly low .0 light in
+      let (demand-high, least-low, most-low, share-high) = loads-exactly high .0 heavy in
+      forecast-number case forecast
+      ∙ with-of (rangeRefusals case forecast) case (range-numbered case forecast) section
+      (range-exactly case forecast .1
+      (ordered, (demand-low, demand-high), (least-low, least-high, (most-low, most-high)), (share-low, share-high)))
+      ∙ firstRefusal-none (weatherRefusals case) (speedRefusals (case .road) (case .weather) (case .lanes)) tt weather
+      ∙ speed,
+)

@@ -1,0 +1,134 @@
+-- What a reader of an answer is promised (document 02, T-07), over the definitions that the contract of `evaluate_forecast` cites and the
+-- engine's own; proofs/Promises proves each.
+--   AcceptedForecast case forecast   nothing refuses the case with the forecast
+--   bestLetterIn a, worstLetterIn a   the numbers of the two letters in an answer
+--   caseWith case demand share factor   the case with these three in the place of its own, all other fields kept
+--   EveryInside forecast P       P holds of every whole combination within the ends
+--   EveryLetterBetween           every whole combination within the ends is accepted, and its letter is no better than the best and no
+--                                worse than the worst
+--   ShownAtTheEnds               the eight figures: the engine's letters at the two ends, each with its combination
+--   MetThroughout                a letter is met by every combination exactly when the worst meets it, and by none exactly when the best
+--                                does not
+--   EqualEnds                    equal ends give the plain letter twice, or the refusal of the plain case
+--   OwnLoadIsNotRead             whatever demand, share and factor the case carries, the answer is the same
+--   Ordered forecast             no low end is above its high end
+--   BothAtMost most range, BothFrom least most range   the ends of a range that 7 and 9, and that 8, let pass
+--   AcceptedExactly              accepted exactly when no range is reversed and every whole combination within the ends is accepted
+--   RefusedExactly               1 to 6 as the engine has them, whatever the ends; then 22 exactly by a reversed range; then 7, 8 and 9
+--                                each exactly by an end; then 19 and 10 as the engine has them
+-- Assumes nothing.
+use mathlib.Core.Path.{_≡_}
+use mathlib.Core.Logic.{_↔_, _⊎_}
+use mathlib.Core.List.{[], _∷_}
+use Prim.Native.Nat.{ℕ, _≤_, _<_}
+use lib.ListN.{getD}
+use Rattle.road.specs.declared.Case.{Case}
+use Rattle.road.specs.Cases.{loaded}
+use Rattle.road.specs.Refusals.{greatestDemand, SectionFits}
+use Rattle.method.specs.Refusals.{refusal, Accepted}
+use Rattle.answer.specs.Answers as answers
+use Rattle.answer.specs.Answers.{answerTo}
+use Rattle.answer.specs.Promises.{letterIn, Meets}
+use Rattle.forecast.specs.declared.Range.{Range}
+use Rattle.forecast.specs.declared.Forecast.{Forecast}
+use Rattle.forecast.specs.declared.ForecastAnswer.{ForecastAnswer}
+use Rattle.forecast.specs.Forecasts.{forecastOf, Within, forecastAnswer, refusalNumber, values}
+
+abbrev pub AcceptedForecast : Case → Forecast → Type 0
+AcceptedForecast case forecast = refusalNumber (forecastAnswer case forecast) ≡ 0
+
+-- of the eight figures the first is the best letter, and the fifth the worst
+abbrev pub bestLetterIn : ForecastAnswer → ℕ
+bestLetterIn answer = getD (values answer) 0 0
+
+abbrev pub worstLetterIn : ForecastAnswer → ℕ
+worstLetterIn answer = getD (values answer) 4 0
+
+abbrev pub caseWith : Case → (demand share factor : ℕ) → Case
+caseWith case demand share factor = loaded (case .road) (case .lanes) demand factor share (case .terrain) (case .weather)
+
+-- what holds of every whole combination within the ends
+abbrev pub EveryInside : Forecast → ((demand share factor : ℕ) → Type 0) → Type 0
+EveryInside forecast P =
+    (demand share factor : ℕ) → Within (forecast .demand) demand → Within (forecast .«heavy_share») share
+    → Within (forecast .«peak_hour_factor») factor → P demand share factor
+
+abbrev pub EveryLetterBetween : Type 0
+EveryLetterBetween =
+    (case : Case) (forecast : Forecast) → AcceptedForecast case forecast
+    → EveryInside forecast (λ demand share factor.
+    let inside = caseWith case demand share factor in
+    Accepted inside
+    × (bestLetterIn (forecastAnswer case forecast) ≤ letterIn (answerTo inside))
+    × (letterIn (answerTo inside) ≤ worstLetterIn (forecastAnswer case forecast)))
+
+abbrev pub ShownAtTheEnds : Type 0
+ShownAtTheEnds =
+    (case : Case) (demandLow demandHigh shareLow shareHigh factorLow factorHigh : ℕ)
+    → let forecast = forecastOf demandLow demandHigh shareLow shareHigh factorLow factorHigh in
+    AcceptedForecast case forecast
+    → values (forecastAnswer case forecast)
+    ≡ letterIn (answerTo (caseWith case demandLow shareLow factorHigh)) ∷ demandLow ∷ shareLow ∷ factorHigh
+    ∷ letterIn (answerTo (caseWith case demandHigh shareHigh factorLow)) ∷ demandHigh ∷ shareHigh ∷ factorLow
+    ∷ []
+
+-- The planner's corollary: the two letters tell of a target, A to E, whether it is kept whatever comes, and whether it is missed whatever
+-- comes.
+abbrev pub MetThroughout : Type 0
+MetThroughout =
+    (case : Case) (forecast : Forecast) → AcceptedForecast case forecast → (n : ℕ)
+    → ((worstLetterIn (forecastAnswer case forecast) ≤ n) ↔ EveryInside forecast (λ demand share factor.
+    Meets (caseWith case demand share factor) n))
+    × ((n < bestLetterIn (forecastAnswer case forecast)) ↔ EveryInside forecast (λ demand share factor.
+    Meets (caseWith case demand share factor) n → ⊥))
+
+-- "Equal ends give the plain letter twice"
+abbrev pub EqualEnds : Type 0
+EqualEnds =
+    (case : Case) (demand share factor : ℕ)
+    → let answer = forecastAnswer case (forecastOf demand demand share share factor factor) in
+    let plain = answerTo (caseWith case demand share factor) in
+    (refusalNumber answer ≡ answers.refusalNumber plain)
+    × (refusalNumber answer ≡ 0
+    → values answer ≡ letterIn plain ∷ demand ∷ share ∷ factor ∷ letterIn plain ∷ demand ∷ share ∷ factor ∷ [])
+
+abbrev pub OwnLoadIsNotRead : Type 0
+OwnLoadIsNotRead =
+    (case : Case) (demand share factor : ℕ) (forecast : Forecast)
+    → forecastAnswer (caseWith case demand share factor) forecast ≡ forecastAnswer case forecast
+
+abbrev pub Ordered : Forecast → Type 0
+Ordered forecast =
+    (forecast .demand .low ≤ forecast .demand .high)
+    × (forecast .«heavy_share» .low ≤ forecast .«heavy_share» .high)
+    × (forecast .«peak_hour_factor» .low ≤ forecast .«peak_hour_factor» .high)
+
+abbrev pub AcceptedExactly : Type 0
+AcceptedExactly =
+    (case : Case) (forecast : Forecast)
+    → AcceptedForecast case forecast
+    ↔ (Ordered forecast × EveryInside forecast (λ demand share factor. Accepted (caseWith case demand share factor)))
+
+-- no end is above a number
+abbrev pub BothAtMost : ℕ → Range → Type 0
+BothAtMost most range = (range .low ≤ most) × (range .high ≤ most)
+
+-- no end is below the one number or above the other
+abbrev pub BothFrom : ℕ → ℕ → Range → Type 0
+BothFrom least most range = (least ≤ range .low) × (least ≤ range .high) × BothAtMost most range
+
+abbrev pub RefusedExactly : Type 0
+RefusedExactly =
+    (case : Case) (forecast : Forecast)
+    → let number = refusalNumber (forecastAnswer case forecast) in
+    let demands = BothAtMost greatestDemand (forecast .demand) in
+    let factors = BothFrom 250 1000 (forecast .«peak_hour_factor») in
+    let shares = BothAtMost 1000 (forecast .«heavy_share») in
+    ((n : ℕ) → 1 ≤ n → n ≤ 6 → (number ≡ n) ↔ (refusal case ≡ n))
+    × ((number ≡ 22) ↔ (SectionFits case × (Ordered forecast → ⊥)))
+    × (SectionFits case → Ordered forecast
+    → ((number ≡ 7) ↔ (demands → ⊥))
+    × ((number ≡ 8) ↔ (demands × (factors → ⊥)))
+    × ((number ≡ 9) ↔ (demands × factors × (shares → ⊥)))
+    × (demands → factors → shares
+    → number ≡ refusal (caseWith case (forecast .demand .low) (forecast .«heavy_share» .low) (forecast .«peak_hour_factor» .high))))
