@@ -6,9 +6,10 @@
    Line, demands and buffer each lie between two pages that cannot be accessed: once they begin right behind the first, once they end right
    before the second. Line and demands are read-only while they are lent. The buffer and what is around it is filled with a pattern before a
    call and compared byte by byte after it. A day asks a line with its own demand, with one that 7 refuses, and with its own again. It is
-   asked with a daily traffic whose hourly demand is its own, too, and with some that are refused. What these must answer is had from the
-   line's own answer. Each set of checks runs in a child. Where the library passes, the checks run over calls that are wrong on purpose
-   (tests/overrun.c), and each of these must end as its fault says. */
+   asked with a daily traffic whose hourly demand is its own, too, with forecasts that are its own load, end at it or begin there, and with
+   traffics and forecasts that are refused. What these must answer is had from the line's own answer. Each set of checks runs in a child.
+   Where the library passes, the checks run over calls that are wrong on purpose (tests/overrun.c), and each of these must end as its fault
+   says. */
 #define _DEFAULT_SOURCE
 #include "calls.h"
 #include "marehour.h"
@@ -24,8 +25,11 @@
 
 enum { LONGEST_BUFFER = 4096, MOST_VECTORS = 2000, SECONDS = 120 };
 
-/* A day: how many demands each line is asked with, more than a day may have, where a line's own stands, and the greatest that 7 passes. */
-enum { ASKED = 3, MORE_DEMANDS = 30, DEMAND_FIELD = 9, GREATEST_DEMAND = 99999 };
+/* A day: how many demands each line is asked with, more than a day may have, and the greatest that 7 passes. */
+enum { ASKED = 3, MORE_DEMANDS = 30, GREATEST_DEMAND = 99999 };
+
+/* Where a line's own load stands, from 0 on. */
+enum { DEMAND_FIELD = 9, FACTOR_FIELD, SHARE_FIELD };
 
 /* Pages that can be accessed between two that cannot. */
 struct fence {
@@ -271,11 +275,28 @@ static bool holds_only(const uint8_t *buffer, const uint8_t *text, size_t count)
            memcmp(buffer_fence.start + after, pattern + after, buffer_fence.size - after) == 0;
 }
 
+/* A buffer with the pattern in it and around it. */
+static uint8_t *fresh_buffer(size_t length, enum side side)
+{
+    memcpy(buffer_fence.start, pattern, buffer_fence.size);
+    return placed(&buffer_fence, length, side);
+}
+
+/* What a call handed back that counts the numbers it writes, and what it left in a buffer with room for some. */
+static void check_figures(const struct vector *vector, const char *asked, size_t room, const uint8_t *buffer, int32_t result,
+                          int32_t expected, const uint64_t *figures)
+{
+    const char *shown = (const char *)vector->line;
+    int width = vector->length < 80 ? (int)vector->length : 80;
+    check(result == expected, "result %d, not %d, of a %s in %zu numbers, for %.*s", result, expected, asked, room, width, shown);
+    check(holds_only(buffer, (const uint8_t *)figures, expected > 0 ? (size_t)expected * sizeof *figures : 0),
+          "other numbers of a %s in %zu numbers for %.*s", asked, room, width, shown);
+}
+
 static void check_buffer(const struct calls *calls, const struct vector *vector, const uint8_t *line, size_t length, enum side side)
 {
-    uint8_t *buffer = placed(&buffer_fence, length, side);
+    uint8_t *buffer = fresh_buffer(length, side);
     int32_t expected = length < MAREHOUR_ANSWER_SIZE ? -MAREHOUR_BUFFER_TOO_SHORT : vector->result;
-    memcpy(buffer_fence.start, pattern, buffer_fence.size);
     int32_t result = vector->asks_lanes ? calls->lanes(line, vector->length, vector->letter, buffer, length)
                                         : calls->answer(line, vector->length, buffer, length);
     const char *shown = (const char *)vector->line;
@@ -314,6 +335,27 @@ static void check_lanes(const struct calls *calls)
     }
 }
 
+/* A line's own letter and numbers */
+
+/* The letter of a line that is accepted. */
+static uint64_t own_letter(const struct vector *vector)
+{
+    return (uint64_t)(vector->text[0] - 'A') + MAREHOUR_LETTER_A;
+}
+
+/* The number in a field of a line; 0 of a malformed line. */
+static uint64_t own_number(const struct vector *vector, int field)
+{
+    const uint8_t *at = vector->line;
+    if (vector->result == -MAREHOUR_LINE_MALFORMED) {
+        return 0;
+    }
+    for (int i = 0; i < field; i++) {
+        at = (const uint8_t *)memchr(at, '\t', (size_t)(vector->line + vector->length - at)) + 1;
+    }
+    return strtoull((const char *)at, NULL, 10);
+}
+
 /* Days */
 
 /* The numbers of a position: of a line that one of 1 to 6 refuses its number; of a demand that is too large 7; else what the line's answer
@@ -330,20 +372,10 @@ static void expect_position(const struct vector *vector, uint64_t demand, uint64
         return;
     }
     char *at = (char *)vector->text + 1;
-    figures[1] = (uint64_t)(vector->text[0] - 'A') + MAREHOUR_LETTER_A;
+    figures[1] = own_letter(vector);
     for (int i = 2; i < MAREHOUR_DAY_FIGURES; i++) {
         figures[i] = strtoull(at, &at, 10);
     }
-}
-
-/* A well-formed line's own demand. */
-static uint64_t own_demand(const struct vector *vector)
-{
-    const uint8_t *at = vector->line;
-    for (int i = 0; i < DEMAND_FIELD; i++) {
-        at = (const uint8_t *)memchr(at, '\t', (size_t)(vector->line + vector->length - at)) + 1;
-    }
-    return strtoull((const char *)at, NULL, 10);
 }
 
 /* A call with some demands and room for some numbers. */
@@ -351,7 +383,7 @@ static void check_room(const struct calls *calls, const struct vector *vector, c
                        size_t room, enum side side)
 {
     static uint64_t figures[MAREHOUR_DAY_DEMANDS * MAREHOUR_DAY_FIGURES];
-    uint8_t *buffer = placed(&buffer_fence, room * sizeof *figures, side);
+    uint8_t *buffer = fresh_buffer(room * sizeof *figures, side);
     int32_t expected = (int32_t)count;
     if (count == 0 || count > MAREHOUR_DAY_DEMANDS || room < MAREHOUR_DAY_FIGURES * count) {
         expected = -MAREHOUR_DAY_UNFIT;
@@ -361,7 +393,6 @@ static void check_room(const struct calls *calls, const struct vector *vector, c
     for (int32_t i = 0; i < expected; i++) {
         expect_position(vector, demands[i], figures + MAREHOUR_DAY_FIGURES * i);
     }
-    memcpy(buffer_fence.start, pattern, buffer_fence.size);
     int32_t result = calls->day(line, vector->length, demands, count, (uint64_t *)(void *)buffer, room);
     const char *shown = (const char *)vector->line;
     int width = vector->length < 80 ? (int)vector->length : 80;
@@ -374,7 +405,7 @@ static void check_day(const struct calls *calls, const struct vector *vector)
 {
     enum { FIGURES = ASKED * MAREHOUR_DAY_FIGURES };
     static const size_t rooms[] = {0, 1, MAREHOUR_DAY_FIGURES, FIGURES - 1, FIGURES, FIGURES + 1, FIGURES + 17, LONGEST_BUFFER / 8};
-    uint64_t own = vector->result == -MAREHOUR_LINE_MALFORMED ? 0 : own_demand(vector);
+    uint64_t own = own_number(vector, DEMAND_FIELD);
     uint64_t demands[ASKED] = {own, UINT64_MAX, own};
     for (int sides = 0; sides < 8; sides++) {
         const uint8_t *line = lend(&line_fence, vector->line, vector->length, sides / 4 == 0 ? AT_START : AT_END);
@@ -390,7 +421,7 @@ static void check_counts(const struct calls *calls, const struct vector *vector)
 {
     uint64_t demands[MORE_DEMANDS];
     for (size_t i = 0; i < MORE_DEMANDS; i++) {
-        demands[i] = i % 3 == 1 ? GREATEST_DEMAND + i : own_demand(vector);
+        demands[i] = i % 3 == 1 ? GREATEST_DEMAND + i : own_number(vector, DEMAND_FIELD);
     }
     const uint8_t *line = lend(&line_fence, vector->line, vector->length, AT_END);
     for (size_t count = 0; count <= MORE_DEMANDS; count++) {
@@ -443,26 +474,21 @@ static void check_traffic(const struct calls *calls, const struct vector *vector
                           size_t room, enum side side)
 {
     uint64_t figures[MAREHOUR_DAILY_FIGURES];
-    uint8_t *buffer = placed(&buffer_fence, room * sizeof *figures, side);
+    uint8_t *buffer = fresh_buffer(room * sizeof *figures, side);
     int32_t expected = -MAREHOUR_BUFFER_TOO_SHORT;
     if (room >= MAREHOUR_DAILY_FIGURES) {
         expected = vector->result == -MAREHOUR_LINE_MALFORMED ? vector->result : expect_daily(vector, traffic, figures);
     }
-    memcpy(buffer_fence.start, pattern, buffer_fence.size);
     int32_t result = calls->daily(line, vector->length, traffic->daily, traffic->peak_share, traffic->direction_share,
                                   (uint64_t *)(void *)buffer, room);
-    const char *shown = (const char *)vector->line;
-    int width = vector->length < 80 ? (int)vector->length : 80;
-    check(result == expected, "result %d, not %d, of a daily traffic in %zu numbers, for %.*s", result, expected, room, width, shown);
-    check(holds_only(buffer, (const uint8_t *)figures, expected > 0 ? sizeof figures : 0),
-          "other numbers of a daily traffic in %zu numbers for %.*s", room, width, shown);
+    check_figures(vector, "daily traffic", room, buffer, result, expected, figures);
 }
 
 static void check_daily(const struct calls *calls, const struct vector *vector)
 {
     enum { FIGURES = MAREHOUR_DAILY_FIGURES };
     static const size_t rooms[] = {0, 1, FIGURES - 1, FIGURES, FIGURES + 1, LONGEST_BUFFER / 8};
-    uint64_t twice = vector->result == -MAREHOUR_LINE_MALFORMED ? 0 : 2 * own_demand(vector);
+    uint64_t twice = 2 * own_number(vector, DEMAND_FIELD);
     const struct traffic traffics[] = {
         {twice, HALF, WHOLE, 0},
         {MAREHOUR_GREATEST_DAILY_TRAFFIC, HALF, WHOLE, 0},
@@ -484,6 +510,124 @@ static void check_dailies(const struct calls *calls)
 {
     for (size_t i = 0; i < answer_count; i++) {
         check_daily(calls, &answers[i]);
+    }
+}
+
+/* Forecasts */
+
+enum { FORECASTS = 13, LEAST_FACTOR = 250, GREATEST_FACTOR = 1000, GREATEST_SHARE = 1000 };
+
+struct range {
+    uint64_t low, high;
+};
+
+/* The ends of a load, its letters on a line that is accepted, and which of 22 and 7 to 9 refuses it; 0 where that is the line's own. */
+struct forecast {
+    struct range demand, share, factor;
+    uint64_t best, worst;
+    int32_t refusal;
+};
+
+static uint64_t lesser(uint64_t a, uint64_t b)
+{
+    return a < b ? a : b;
+}
+
+static uint64_t greater(uint64_t a, uint64_t b)
+{
+    return a > b ? a : b;
+}
+
+/* The line's own load, two that end at it and one that begins there: demand 0 gets A, and the greatest demand F, on eight lanes too. A
+   share or factor that 8 or 9 refuses stays an end. Then loads that are refused, most of them by several numbers, with the first. */
+static void make_forecasts(const struct vector *vector, struct forecast *forecasts)
+{
+    uint64_t v = own_number(vector, DEMAND_FIELD), p = own_number(vector, SHARE_FIELD), h = own_number(vector, FACTOR_FIELD);
+    uint64_t letter = vector->result > 0 ? own_letter(vector) : 0;
+    const struct range demand = {v, v}, share = {p, p}, factor = {h, h}, largest = {UINT64_MAX, UINT64_MAX};
+    const struct range unfit_share = {0, GREATEST_SHARE + 1}, unfit_factor = {LEAST_FACTOR, GREATEST_FACTOR + 1};
+    const struct forecast made[FORECASTS] = {
+        {demand, share, factor, letter, letter, 0},
+        {{0, v}, share, factor, MAREHOUR_LETTER_A, letter, 0},
+        {{0, v}, {0, p}, {h, greater(h, GREATEST_FACTOR)}, MAREHOUR_LETTER_A, letter, 0},
+        {{v, GREATEST_DEMAND}, {p, greater(p, GREATEST_SHARE)}, {lesser(h, LEAST_FACTOR), h}, letter, MAREHOUR_LETTER_F, 0},
+        {{v + 1, v}, share, factor, 0, 0, MAREHOUR_ENDS_REVERSED},
+        {largest, {p + 1, p}, factor, 0, 0, MAREHOUR_ENDS_REVERSED},
+        {largest, largest, {h + 1, h}, 0, 0, MAREHOUR_ENDS_REVERSED},
+        {{0, UINT64_MAX}, share, factor, 0, 0, MAREHOUR_DEMAND_TOO_LARGE},
+        {{v, GREATEST_DEMAND + 1}, unfit_share, unfit_factor, 0, 0, MAREHOUR_DEMAND_TOO_LARGE},
+        {largest, largest, largest, 0, 0, MAREHOUR_DEMAND_TOO_LARGE},
+        {demand, unfit_share, unfit_factor, 0, 0, MAREHOUR_FACTOR_OUT_OF_RANGE},
+        {demand, largest, {LEAST_FACTOR - 1, GREATEST_FACTOR}, 0, 0, MAREHOUR_FACTOR_OUT_OF_RANGE},
+        {demand, unfit_share, {LEAST_FACTOR, GREATEST_FACTOR}, 0, 0, MAREHOUR_SHARE_TOO_LARGE},
+    };
+    memcpy(forecasts, made, sizeof made);
+}
+
+/* What a call hands back that is lent enough; with the figures where it is no refusal. */
+static int32_t expect_forecast(const struct vector *vector, const struct forecast *forecast, uint64_t *figures)
+{
+    int32_t own = vector->result;
+    bool road_refused = own == -MAREHOUR_LINE_MALFORMED || (own < 0 && own > -MAREHOUR_DEMAND_TOO_LARGE);
+    if (forecast->refusal != 0 && !road_refused) {
+        return -forecast->refusal;
+    }
+    if (own < 0) {
+        return own;
+    }
+    const uint64_t expected[MAREHOUR_FORECAST_FIGURES] = {
+        forecast->best,  forecast->demand.low,  forecast->share.low,  forecast->factor.high,
+        forecast->worst, forecast->demand.high, forecast->share.high, forecast->factor.low,
+    };
+    memcpy(figures, expected, sizeof expected);
+    return MAREHOUR_FORECAST_FIGURES;
+}
+
+static void check_ends(const struct calls *calls, const struct vector *vector, const uint8_t *line, const struct forecast *forecast,
+                       size_t room, enum side side)
+{
+    uint64_t figures[MAREHOUR_FORECAST_FIGURES];
+    const struct range *demand = &forecast->demand, *share = &forecast->share, *factor = &forecast->factor;
+    uint8_t *buffer = fresh_buffer(room * sizeof *figures, side);
+    int32_t expected = room < MAREHOUR_FORECAST_FIGURES ? -MAREHOUR_BUFFER_TOO_SHORT : expect_forecast(vector, forecast, figures);
+    int32_t result = calls->forecast(line, vector->length, demand->low, demand->high, share->low, share->high, factor->low, factor->high,
+                                     (uint64_t *)(void *)buffer, room);
+    check_figures(vector, "forecast", room, buffer, result, expected, figures);
+}
+
+static void check_forecast(const struct calls *calls, const struct vector *vector)
+{
+    enum { FIGURES = MAREHOUR_FORECAST_FIGURES };
+    static const size_t rooms[] = {0, 1, FIGURES - 1, FIGURES, FIGURES + 1, FIGURES + 17, LONGEST_BUFFER / 8};
+    struct forecast forecasts[FORECASTS];
+    make_forecasts(vector, forecasts);
+    for (int sides = 0; sides < 4; sides++) {
+        const uint8_t *line = lend(&line_fence, vector->line, vector->length, sides / 2 == 0 ? AT_START : AT_END);
+        for (size_t i = 0; i < sizeof rooms / sizeof rooms[0]; i++) {
+            for (size_t j = 0; j < FORECASTS; j++) {
+                check_ends(calls, vector, line, &forecasts[j], rooms[i], sides % 2 == 0 ? AT_START : AT_END);
+            }
+        }
+    }
+}
+
+/* The first line, the printed one, with a load that 8 and 9 refuse in the place of its own, asked with its own. */
+static void check_other_load(const struct calls *calls)
+{
+    static const uint8_t line[] = "F\tE\t75400\t110\t20\t0\tD\t24\t2\t99999\t0\t99999\tR";
+    struct vector other = answers[0];
+    struct forecast forecasts[FORECASTS];
+    make_forecasts(&answers[0], forecasts);
+    other.line = line;
+    other.length = sizeof line - 1;
+    check_ends(calls, &other, lend(&line_fence, line, other.length, AT_END), &forecasts[0], MAREHOUR_FORECAST_FIGURES, AT_END);
+}
+
+static void check_forecasts(const struct calls *calls)
+{
+    check_other_load(calls);
+    for (size_t i = 0; i < answer_count; i++) {
+        check_forecast(calls, &answers[i]);
     }
 }
 
@@ -537,6 +681,12 @@ static void check_edges(const struct calls *calls)
     check(calls->daily(line, length, 5, 0, 0, NULL, 0) == -17, "daily: no figures are not too short");
     check(calls->daily(NULL, 0, 5, HALF, WHOLE, NULL, 0) == -17, "daily: no figures do not come before no line");
     check(calls->daily(line, length + 1, 5, HALF, WHOLE, numbers, MAREHOUR_DAILY_FIGURES) == -15, "daily: a newline is not malformed");
+    check(calls->forecast(NULL, 0, 1, 0, 1, 0, 1, 0, numbers, MAREHOUR_FORECAST_FIGURES) == -15,
+          "forecast: no line does not come before reversed ends");
+    check(calls->forecast(line, length, 5, 5, 5, 5, 900, 900, NULL, 0) == -17, "forecast: no figures are not too short");
+    check(calls->forecast(NULL, 0, 1, 0, 1, 0, 1, 0, NULL, 0) == -17, "forecast: no figures do not come before no line");
+    check(calls->forecast(line, length + 1, 5, 5, 5, 5, 900, 900, numbers, MAREHOUR_FORECAST_FIGURES) == -15,
+          "forecast: a newline is not malformed");
     check(calls->tries(NULL, 0) == -15, "tries: no line is not malformed");
     check(calls->tries(line, length + 1) == -15, "tries: a newline is not malformed");
     check(calls->answer(line, length + 1, buffer, sizeof buffer) == -15, "answer: a newline is not malformed");
@@ -663,8 +813,8 @@ static int run_fault(const struct fault *fault, const char *set, void (*checks)(
 /* The library; adds the checks made. */
 static int run_library(long *made)
 {
-    static const struct calls library = {marehour_answer, marehour_lanes,      marehour_day,       marehour_daily,
-                                         marehour_tries,  marehour_survey_mph, marehour_survey_kmh};
+    static const struct calls library = {marehour_answer,   marehour_lanes, marehour_day,        marehour_daily,
+                                         marehour_forecast, marehour_tries, marehour_survey_mph, marehour_survey_kmh};
     static const struct {
         const char *name;
         void (*checks)(const struct calls *);
@@ -673,6 +823,7 @@ static int run_library(long *made)
         {"lanes questions", check_lanes},
         {"days", check_days},
         {"daily traffics", check_dailies},
+        {"forecasts", check_forecasts},
         {"tries", check_tries},
         {"surveys", check_surveys},
         {"edges", check_edges},
@@ -702,7 +853,13 @@ static int run_faults(int *run)
     static const struct {
         const char *name;
         void (*checks)(const struct calls *);
-    } lending[] = {{"lines", check_answers}, {"lanes questions", check_lanes}, {"days", check_days}, {"daily traffics", check_dailies}};
+    } lending[] = {
+        {"lines", check_answers},
+        {"lanes questions", check_lanes},
+        {"days", check_days},
+        {"daily traffics", check_dailies},
+        {"forecasts", check_forecasts},
+    };
     int failures = run_each(&one_too_much, 1, "surveys", check_surveys, run) + run_each(&one_too_much, 1, "tries", check_tries, run);
     failures += run_each(line_faults, line_fault_count, "tries", check_tries, run);
     for (size_t i = 0; i < sizeof lending / sizeof lending[0]; i++) {
@@ -724,8 +881,8 @@ int main(void)
     if (failures == 0) {
         failures = run_faults(&run);
     }
-    printf("calls: %zu lines, each with its day, its daily traffics and its tries, %zu lanes questions, %zu surveys: %ld checks; %d wrong "
-           "calls tried; %d failures\n",
+    printf("calls: %zu lines, each with its day, its daily traffics, its forecasts and its tries, %zu lanes questions, %zu surveys: %ld "
+           "checks; %d wrong calls tried; %d failures\n",
            answer_count, lanes_count, survey_count, made, run, failures);
     return failures > 0;
 }

@@ -12,6 +12,8 @@ struct calls {
                    size_t answers_length);
     int32_t (*daily)(const uint8_t *line, size_t line_length, uint64_t daily_traffic, uint32_t peak_share, uint32_t direction_share,
                      uint64_t *figures, size_t figures_length);
+    int32_t (*forecast)(const uint8_t *line, size_t line_length, uint64_t demand_low, uint64_t demand_high, uint64_t share_low,
+                        uint64_t share_high, uint64_t factor_low, uint64_t factor_high, uint64_t *figures, size_t figures_length);
     int32_t (*tries)(const uint8_t *line, size_t line_length);
     int32_t (*survey_mph)(float speed, uint32_t cars, uint32_t flow);
     int32_t (*survey_kmh)(float speed, uint32_t cars, uint32_t flow);

@@ -1,9 +1,9 @@
-// Compares the engine, linked as an archive, with the second implementation of document 01 and of requests T-01 to T-03, T-05 and T-06
+// Compares the engine, linked as an archive, with the second implementation of document 01 and of requests T-01 to T-03 and T-05 to T-07
 // (tests/second). What it must count of T-04 is had from that one's service volumes (tests/compare/tries.rs).
 //
 //   compare quick         the documents' figures, the traps, the manual's examples, curves by a stride, random cases, floats, the laws,
 //                         whole days, how many demands are tried, how far multilane speeds are below the manual's curve, daily volumes,
-//                         those of E that source document 001 prints, the vectors
+//                         those of E that source document 001 prints, forecasts, the vectors
 //   compare full-curves   every free-flow speed with every flow rate up to capacity and one more
 //   compare full-floats   every float in both units
 //   compare full-distances  every multilane speed past the breakpoint beside the manual's curve, by whole powers
@@ -20,6 +20,7 @@ mod compare {
     pub mod draw;
     pub mod engine;
     pub mod floats;
+    pub mod forecasts;
     pub mod laws;
     pub mod lent;
     pub mod los;
@@ -37,6 +38,7 @@ use compare::dailies::Dailies;
 use compare::days::Days;
 use compare::distances::Distances;
 use compare::draw::Draw;
+use compare::forecasts::Forecasts;
 use compare::paper::Paper;
 use compare::random::Random;
 use compare::tally::{Outcomes, Tally};
@@ -57,6 +59,8 @@ const CURVE_POINTS: u64 = 10_000;
 const CURVE_CASES: u64 = 40_000;
 const RANDOM_DAILIES: u64 = 100_000;
 const COUNTED_DAILIES: u64 = 100;
+const RANDOM_FORECASTS: u64 = 100_000;
+const LARGER_FORECASTS: u64 = 200;
 
 // Runs a group and prints its count of checks and differences.
 fn group(total: &mut Tally, name: &str, run: impl FnOnce() -> Tally) {
@@ -127,6 +131,16 @@ fn daily_volumes(method: &Method) -> Tally {
     dailies.tally
 }
 
+fn forecasts(method: &Method) -> Tally {
+    let mut forecasts = Forecasts { method, draw: Draw(SEED + 11), tally: Tally::default(), outcomes: Outcomes::default() };
+    forecasts.figures();
+    forecasts.random(RANDOM_FORECASTS);
+    forecasts.coverage();
+    forecasts.outcomes.print();
+    forecasts.larger(LARGER_FORECASTS);
+    forecasts.tally
+}
+
 fn boundary_sections(method: &Method) -> Tally {
     let mut paper = Paper { method, tally: Tally::default() };
     paper.boundary_sections();
@@ -157,6 +171,7 @@ fn quick(total: &mut Tally) {
     group(total, "distances from the curve", || distances(method));
     group(total, "daily volumes", || daily_volumes(method));
     group(total, "daily volumes of E in source 001", || filled(printed::daily_volumes));
+    group(total, "forecasts", || forecasts(method));
     group(total, "vectors", || filled(|tally| vectors::check(method, tally)));
 }
 

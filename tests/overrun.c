@@ -184,6 +184,16 @@ static int32_t faulty_daily(const uint8_t *line, size_t line_length, uint64_t da
     return active->after(result, bytes_written(result, sizeof *figures), &lent);
 }
 
+static int32_t faulty_forecast(const uint8_t *line, size_t line_length, uint64_t demand_low, uint64_t demand_high, uint64_t share_low,
+                               uint64_t share_high, uint64_t factor_low, uint64_t factor_high, uint64_t *figures, size_t figures_length)
+{
+    struct lent lent = {line, line_length, NULL, 0, (uint8_t *)figures, figures_length * sizeof *figures};
+    active->before(&lent);
+    int32_t result = marehour_forecast(line, line_length, demand_low, demand_high, share_low, share_high, factor_low, factor_high, figures,
+                                       figures_length);
+    return active->after(result, bytes_written(result, sizeof *figures), &lent);
+}
+
 static int32_t faulty_tries(const uint8_t *line, size_t line_length)
 {
     struct lent lent = {line, line_length, NULL, 0, NULL, 0};
@@ -206,6 +216,6 @@ static int32_t faulty_survey_kmh(float speed, uint32_t cars, uint32_t flow)
 struct calls faulty_calls(const struct fault *fault)
 {
     active = fault;
-    return (struct calls){faulty_answer, faulty_lanes,      faulty_day,       faulty_daily,
-                          faulty_tries,  faulty_survey_mph, faulty_survey_kmh};
+    return (struct calls){faulty_answer,   faulty_lanes, faulty_day,        faulty_daily,
+                          faulty_forecast, faulty_tries, faulty_survey_mph, faulty_survey_kmh};
 }

@@ -5,7 +5,7 @@
 use super::days::{single, AT_0, AT_2000, AT_2643, LINE, MALFORMED, MALFORMED_LINES, SNOW_AT_3000};
 use super::draw::{accepted, draw_accepted_case, draw_case, draw_demand, draw_line, line_of, move_past_limits, Draw};
 use super::engine;
-use super::lent::{After, Lent};
+use super::lent::{draw_length, After, Lent};
 use super::tally::{Outcomes, Tally};
 use crate::second::daily::{self, hourly_demand, Section, FIGURES, GREATEST_DAILY_TRAFFIC};
 use crate::second::day::POSITION;
@@ -43,7 +43,7 @@ const HOURLY: [u64; 5] = [1_117, 1_829, 2_642, 3_360, 3_858];
 //   4,000: v = 500; 5,000,000 / 75,000 = 66.67.
 //   14,208: v = 1,776; S = 68,343.29; 17,760,000 / S = 259.86. 14,209: v = 1,777; S = 68,326.13; 17,770,000 / S = 260.08.
 //   16,000: v = 2,000; S = 63,945.58; 20,000,000 / S = 312.77.
-const WIDE: &str = "F G 75000 120 60 60 D 0 8 0 1000 0 L";
+pub const WIDE: &str = "F G 75000 120 60 60 D 0 8 0 1000 0 L";
 const WIDE_AT_4000: [u64; POSITION] = [0, 1, 75_000, 240_000, 500, 75_000, 67, 6_600, 10_624, 14_208, 17_040, 19_200];
 const WIDE_AT_14208: [u64; POSITION] = [0, 3, 75_000, 240_000, 1_776, 68_343, 260, 6_600, 10_624, 14_208, 17_040, 19_200];
 const WIDE_AT_14209: [u64; POSITION] = [0, 4, 75_000, 240_000, 1_777, 68_326, 261, 6_600, 10_624, 14_208, 17_040, 19_200];
@@ -56,7 +56,7 @@ const WIDE_BY_ONES: [u64; 5] = [4_000_000_000; 5];
 
 // A multilane highway of document 01, with two lanes; c = 220,000. Its last flow rates are 660, 1,080, 1,532, 1,893 and 2,200. At 0.09 an
 // hour 24,000 a day is 2,160 exactly: v = 1,080, density 180. 24,001 is 2,160.09: v = 1,081, density 180.17.
-const MULTILANE: &str = "M G 60000 120 60 60 D 0 2 0 1000 0 L";
+pub const MULTILANE: &str = "M G 60000 120 60 60 D 0 2 0 1000 0 L";
 const MULTILANE_AT_2160: [u64; POSITION] = [0, 2, 60_000, 220_000, 1_080, 60_000, 180, 1_320, 2_160, 3_064, 3_786, 4_400];
 const MULTILANE_AT_2161: [u64; POSITION] = [0, 3, 60_000, 220_000, 1_081, 60_000, 181, 1_320, 2_160, 3_064, 3_786, 4_400];
 const MULTILANE_AT_3600: [u64; POSITION] = [0, 4, 60_000, 220_000, 1_800, 55_518, 325, 1_320, 2_160, 3_064, 3_786, 4_400];
@@ -64,7 +64,7 @@ const MULTILANE_VOLUMES: [u64; 5] = [14_666, 24_000, 34_044, 42_066, 48_888];
 
 // The service volumes of SNOW_AT_3000, 1,566, 2,506, 3,294, 3,884 and 4,320, at 0.0605 an hour: 25,884 is 1,565.98, 41,421 is 2,505.97,
 // 54,446 is 3,293.98, 64,198 is 3,883.98 and 71,404 is 4,319.94, and one more is above each.
-const SNOW: &str = "F G 75000 120 60 60 D 0 2 0 1000 0 L 950 900";
+pub const SNOW: &str = "F G 75000 120 60 60 D 0 2 0 1000 0 L 950 900";
 const SNOW_VOLUMES: [u64; 5] = [25_884, 41_421, 54_446, 64_198, 71_404];
 
 // Lines, daily traffics, shares, the single answer to the hourly demand, and the daily service volumes. Blanks stand for tabs.
@@ -277,18 +277,6 @@ fn draw_shares(draw: &mut Draw) -> Shares {
     }
 }
 
-// As long as the answer needs, or shorter, or longer.
-fn draw_length(draw: &mut Draw) -> usize {
-    let needed = FIGURES as u64;
-    let length = match draw.from(0, 31) {
-        0 => draw.one_of(&[0, needed - 1]),
-        1 => draw.from(0, needed - 1),
-        2..=9 => draw.from(needed + 1, 3 * needed),
-        _ => needed,
-    };
-    length as usize
-}
-
 // A daily traffic at or beside the last that has this hourly demand, or at or beside the greatest.
 fn draw_about(draw: &mut Draw, demand: u64, shares: Shares) -> u64 {
     let product: u64 = shares.iter().map(|&share| u64::from(share)).product();
@@ -330,7 +318,7 @@ fn draw_call(draw: &mut Draw, method: &Method) -> Call {
     let line = draw_any_line(draw, method);
     let shares = draw_shares(draw);
     let daily_traffic = draw_daily_traffic(draw, method, &accepted(method, &line), shares);
-    let length = draw_length(draw);
+    let length = draw_length(draw, FIGURES);
     Call { line, daily_traffic, shares, buffer: Lent::draw(draw, length) }
 }
 

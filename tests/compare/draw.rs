@@ -283,10 +283,15 @@ pub fn damage(draw: &mut Draw, line: &mut Vec<u8>) {
     }
 }
 
-// The line of a random case, clear weather written out one time in four, one in four damaged once to three times.
+// The line of a random case.
 pub fn draw_line(draw: &mut Draw, method: &Method) -> Vec<u8> {
     let case = draw_case(draw, method);
-    let mut line = line_of(&case);
+    draw_line_of(draw, &case)
+}
+
+// The line of a case, clear weather written out one time in four, one in four damaged once to three times.
+pub fn draw_line_of(draw: &mut Draw, case: &Case) -> Vec<u8> {
+    let mut line = line_of(case);
     if case.weather == Weather::CLEAR && draw.once_in(4) {
         line.extend_from_slice(b"\t1000\t1000");
     }

@@ -1,5 +1,6 @@
-// The seven calls of include/marehour.h.
+// The eight calls of include/marehour.h.
 
+use crate::second::forecast::Ranges;
 use crate::second::survey::Unit;
 
 extern "C" {
@@ -22,6 +23,18 @@ extern "C" {
         daily_traffic: u64,
         peak_share: u32,
         direction_share: u32,
+        figures: *mut u64,
+        figures_length: usize,
+    ) -> i32;
+    fn marehour_forecast(
+        line: *const u8,
+        line_length: usize,
+        demand_low: u64,
+        demand_high: u64,
+        share_low: u64,
+        share_high: u64,
+        factor_low: u64,
+        factor_high: u64,
         figures: *mut u64,
         figures_length: usize,
     ) -> i32;
@@ -62,6 +75,15 @@ pub fn daily(line: &[u8], daily_traffic: u64, peak_share: u32, direction_share: 
     let (at, length) = (figures.as_mut_ptr(), figures.len());
     // Safety: both pointers come with the lengths of what they point to.
     unsafe { marehour_daily(line.as_ptr(), line.len(), daily_traffic, peak_share, direction_share, at, length) }
+}
+
+pub fn forecast(line: &[u8], ranges: &Ranges, figures: &mut [u64]) -> i32 {
+    let Ranges { demand: [demand_low, demand_high], share: [share_low, share_high], factor: [factor_low, factor_high] } = *ranges;
+    let (at, length) = (figures.as_mut_ptr(), figures.len());
+    // Safety: as above.
+    unsafe {
+        marehour_forecast(line.as_ptr(), line.len(), demand_low, demand_high, share_low, share_high, factor_low, factor_high, at, length)
+    }
 }
 
 // The answer to a line as text without its newline, or X and the refusal, as los prints it.

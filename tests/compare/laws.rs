@@ -10,12 +10,12 @@ use super::tally::Tally;
 use crate::second::method::{Case, Method, Terrain, Way, Weather, GREATEST_DEMAND};
 
 // Letter and service volumes as the engine answers them, or its refusal. A is 1.
-struct Answer {
-    letter: u32,
+pub struct Answer {
+    pub letter: u32,
     volumes: Vec<u64>,
 }
 
-fn ask(case: &Case) -> Result<Answer, String> {
+pub fn ask(case: &Case) -> Result<Answer, String> {
     let text = engine::answer_text(&line_of(case));
     let fields: Vec<&str> = text.split('\t').collect();
     let letter = "ABCDEF".find(fields[0]).filter(|_| fields.len() == 11).ok_or_else(|| text.clone())?;

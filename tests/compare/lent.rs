@@ -16,6 +16,18 @@ pub struct After {
     buffer: Vec<u64>,
 }
 
+// A length: as long as the answer needs, or shorter, or longer.
+pub fn draw_length(draw: &mut Draw, needed: usize) -> usize {
+    let needed = needed as u64;
+    let length = match draw.from(0, 31) {
+        0 => draw.one_of(&[0, needed - 1]),
+        1 => draw.from(0, needed - 1),
+        2..=9 => draw.from(needed + 1, 3 * needed),
+        _ => needed,
+    };
+    length as usize
+}
+
 impl Lent {
     // A buffer of random content.
     pub fn draw(draw: &mut Draw, length: usize) -> Lent {

@@ -3,7 +3,8 @@
 // A daily service volume is searched for over the daily traffic itself, by asking of each that is tried whether its hourly demand meets
 // the letter. Shares are in thousandths.
 
-use super::lines::{parse, BUFFER_TOO_SHORT, MALFORMED};
+use super::figures;
+use super::lines::{parse, MALFORMED};
 use super::method::{flow_rate, least, Case, Curve, Method, Refusal, GREATEST_DEMAND};
 
 // The numbers of an answer: the eleven figures for the hourly demand, then the daily service volumes A to E.
@@ -87,12 +88,5 @@ fn numbers(method: &Method, line: &[u8], daily_traffic: u64, peak_share: u64, di
 
 // Hands back the count of numbers, or minus the first refusal and writes nothing: 17, then those of the line and its numbers.
 pub fn daily(method: &Method, line: &[u8], daily_traffic: u64, peak_share: u32, direction_share: u32, figures: &mut [u64]) -> i32 {
-    let Some(written) = figures.get_mut(..FIGURES) else { return -BUFFER_TOO_SHORT };
-    match numbers(method, line, daily_traffic, u64::from(peak_share), u64::from(direction_share)) {
-        Ok(numbers) => {
-            written.copy_from_slice(&numbers);
-            FIGURES as i32
-        }
-        Err(number) => -number,
-    }
+    figures::written(numbers(method, line, daily_traffic, u64::from(peak_share), u64::from(direction_share)), FIGURES, figures)
 }

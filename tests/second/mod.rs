@@ -6,11 +6,15 @@
 //   survey   surveyed speeds
 //   day      a whole day in one call, from request T-01 of document 02
 //   daily    daily traffic in the place of the demand, from request T-06 of document 02
+//   forecast demand, heavy share and peak-hour factor known within ranges, from request T-07 of document 02
+//   figures  the numbers that these two write
 //   distance the manual's multilane curve by whole powers, from request T-05 of document 02
 pub mod big;
 pub mod daily;
 pub mod day;
 pub mod distance;
+pub mod figures;
+pub mod forecast;
 pub mod lines;
 pub mod method;
 pub mod survey;
