@@ -15,8 +15,12 @@ union answer {
     uint64_t figures[DAILY_FIGURES];
 };
 
-/* The same question to the library or to plain C about a line, whose place chooses the letter or the daily traffic. */
+/* The same question to the library or to plain C about a line, whose place chooses the letter, the daily traffic or the forecast. */
 typedef int32_t call(const struct line *line, size_t place, union answer *answer);
+
+/* marehour_forecast, or the same in plain C. */
+typedef int32_t forecast(const uint8_t *line, size_t line_length, uint64_t demand_low, uint64_t demand_high, uint64_t share_low,
+                         uint64_t share_high, uint64_t factor_low, uint64_t factor_high, uint64_t *figures, size_t figures_length);
 
 static struct lines lines;
 
@@ -69,6 +73,24 @@ static int32_t plain_dailies(const struct line *line, size_t place, union answer
     return plain_daily(line->bytes, line->length, traffic_at(place), peak_share_at(place), 550, answer->figures, DAILY_FIGURES);
 }
 
+/* Demands from 0 to 9,999 on, up to 700 wide, heavy shares from 0 to 99 on, factors up to 895 or more. Some are refused by 22 or 7 to 9. */
+static int32_t ask_forecast(forecast *asked, const struct line *line, size_t place, union answer *answer)
+{
+    uint64_t demand = place * 7919 % 10000, width = place % 1000 == 999 ? 100000 : place % 701;
+    return asked(line->bytes, line->length, demand, demand + width, place % 100, 95 + place % 911, 245 + place % 653, 895 + place % 109,
+                 answer->figures, FORECAST_FIGURES);
+}
+
+static int32_t marehour_forecasts(const struct line *line, size_t place, union answer *answer)
+{
+    return ask_forecast(marehour_forecast, line, place, answer);
+}
+
+static int32_t plain_forecasts(const struct line *line, size_t place, union answer *answer)
+{
+    return ask_forecast(plain_forecast, line, place, answer);
+}
+
 static void compare(call *one, call *other)
 {
     union answer answer, expected;
@@ -117,5 +139,6 @@ int main(int argc, char **argv)
     race("marehour_answer", marehour_answers, plain_answers, runs);
     race("marehour_lanes", marehour_counts, plain_counts, runs);
     race("marehour_daily", marehour_dailies, plain_dailies, runs);
+    race("marehour_forecast", marehour_forecasts, plain_forecasts, runs);
     return 0;
 }

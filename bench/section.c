@@ -16,7 +16,8 @@ enum refusal {
     DAY_UNFIT = 18,
     WEATHER_UNFIT = 19,
     SHARES_UNFIT = 20,
-    DAILY_TRAFFIC_TOO_LARGE = 21
+    DAILY_TRAFFIC_TOO_LARGE = 21,
+    ENDS_REVERSED = 22
 };
 
 enum number { SPEED, WIDTH, RIGHT, LEFT, ACCESS, LANES, DEMAND, FACTOR, SHARE, SPEED_FACTOR, CAPACITY_FACTOR, NUMBERS };
@@ -137,12 +138,8 @@ static bool read_section(const uint8_t *bytes, size_t length, struct section *se
 
 /* Refusals 1 to 6, 8, 9 and 19, 0 where none holds */
 
-static bool weather_unfit(const struct section *s, uint64_t factor)
-{
-    return factor < (s->freeway ? 500u : 1000u) || factor > 1000;
-}
-
-static int32_t field_refusal(const struct section *s)
+/* 1 to 6. */
+static int32_t road_refusal(const struct section *s)
 {
     const uint64_t *n = s->numbers;
     if (n[SPEED] < 30000 || n[SPEED] > 90000) {
@@ -160,16 +157,35 @@ static int32_t field_refusal(const struct section *s)
     if (n[ACCESS] > (s->freeway ? 48u : 200u)) {
         return 5;
     }
-    if (n[LANES] < 2 || n[LANES] > (s->freeway ? 8u : 3u)) {
-        return 6;
-    }
-    if (n[FACTOR] < 250 || n[FACTOR] > 1000) {
+    return n[LANES] < 2 || n[LANES] > (s->freeway ? 8u : 3u) ? 6 : 0;
+}
+
+/* 8 and 9, of the least factor, the greatest factor and the greatest share. */
+static int32_t load_refusal(uint64_t least_factor, uint64_t greatest_factor, uint64_t greatest_share)
+{
+    if (least_factor < 250 || greatest_factor > 1000) {
         return 8;
     }
-    if (n[SHARE] > 1000) {
-        return 9;
+    return greatest_share > 1000 ? 9 : 0;
+}
+
+static bool weather_unfit(const struct section *s, uint64_t factor)
+{
+    return factor < (s->freeway ? 500u : 1000u) || factor > 1000;
+}
+
+static int32_t weather_refusal(const struct section *s)
+{
+    return weather_unfit(s, s->numbers[SPEED_FACTOR]) || weather_unfit(s, s->numbers[CAPACITY_FACTOR]) ? WEATHER_UNFIT : 0;
+}
+
+static int32_t field_refusal(const struct section *s)
+{
+    int32_t refusal = road_refusal(s);
+    if (refusal == 0) {
+        refusal = load_refusal(s->numbers[FACTOR], s->numbers[FACTOR], s->numbers[SHARE]);
     }
-    return weather_unfit(s, n[SPEED_FACTOR]) || weather_unfit(s, n[CAPACITY_FACTOR]) ? WEATHER_UNFIT : 0;
+    return refusal == 0 ? weather_refusal(s) : refusal;
 }
 
 /* Free-flow speed */
@@ -483,6 +499,58 @@ int32_t plain_daily(const uint8_t *line, size_t line_length, uint64_t daily_traf
         figures[DAILY_FIGURES - 5 + i] = lesser(volumes[i] * MILLION / share, GREATEST_DAILY_TRAFFIC);
     }
     return DAILY_FIGURES;
+}
+
+/* 22, then 7 to 9 at both ends: the low ends of demand and share pass where the high ones do. */
+static int32_t range_refusal(uint64_t demand_low, uint64_t demand_high, uint64_t share_low, uint64_t share_high, uint64_t factor_low,
+                             uint64_t factor_high)
+{
+    if (demand_low > demand_high || share_low > share_high || factor_low > factor_high) {
+        return ENDS_REVERSED;
+    }
+    return demand_high > GREATEST_DEMAND ? DEMAND_TOO_LARGE : load_refusal(factor_low, factor_high, share_high);
+}
+
+/* A letter with its combination, which takes the place of the section's own load. */
+static void put_outcome(uint64_t *figures, struct section *section, const struct curve *curve, uint64_t demand, uint64_t share,
+                        uint64_t factor)
+{
+    section->numbers[SHARE] = share;
+    section->numbers[FACTOR] = factor;
+    struct load load = load_of(section, section->numbers[LANES]);
+    figures[0] = performance_at(curve, flow_rate(&load, demand)).letter;
+    figures[1] = demand;
+    figures[2] = share;
+    figures[3] = factor;
+}
+
+int32_t plain_forecast(const uint8_t *line, size_t line_length, uint64_t demand_low, uint64_t demand_high, uint64_t share_low,
+                       uint64_t share_high, uint64_t factor_low, uint64_t factor_high, uint64_t *figures, size_t figures_length)
+{
+    struct section section;
+    struct curve curve;
+    if (figures_length < FORECAST_FIGURES) {
+        return -BUFFER_TOO_SHORT;
+    }
+    if (!read_section(line, line_length, &section)) {
+        return -LINE_MALFORMED;
+    }
+    int32_t refusal = road_refusal(&section);
+    if (refusal == 0) {
+        refusal = range_refusal(demand_low, demand_high, share_low, share_high, factor_low, factor_high);
+    }
+    if (refusal == 0) {
+        refusal = weather_refusal(&section);
+    }
+    if (refusal != 0) {
+        return -refusal;
+    }
+    if (!make_curve(&section, section.numbers[LANES], &curve)) {
+        return -SPEED_BELOW_LOWER_END;
+    }
+    put_outcome(figures, &section, &curve, demand_low, share_low, factor_high);
+    put_outcome(figures + FORECAST_FIGURES / 2, &section, &curve, demand_high, share_high, factor_low);
+    return FORECAST_FIGURES;
 }
 
 static bool meets_with(const struct section *section, uint64_t lanes, uint64_t limit)
