@@ -1,7 +1,7 @@
 -- The laws of specs/Laws, proved.
 --   serviceVolume-le   no service volume is above 19,200
 --   lanesAnswer-number   the number of the answer to the lanes question is the first of its list
---   figures-within-ends, refusals-within-ends, refusals-reach-ends, counts-are-digits
+--   figures-within-ends, refusals-within-ends, refusals-reach-ends, lanes-refusals-in-order, counts-are-digits
 --   found-digit          the same of a count that is answered
 -- Assumes nothing.
 use mathlib.Core.Path.{_≡_, refl, ap}
@@ -38,7 +38,7 @@ use Rattle.answer.specs.Volumes.{serviceVolume}
 use Rattle.answer.specs.Answers.{graded}
 use Rattle.answer.specs.Lanes.{lanesMeet, lanesFound, lanesRefusals, lanesAnswer, refusalNumber, values}
 use Rattle.answer.specs.Search.{demandMeets}
-use Rattle.answer.specs.Laws.{FiguresWithinEnds, RefusalsWithinEnds, RefusalsReachEnds, CountsAreDigits}
+use Rattle.answer.specs.Laws.{FiguresWithinEnds, RefusalsWithinEnds, RefusalsReachEnds, LanesRefusalsInOrder, CountsAreDigits}
 use Rattle.answer.proofs.VolumeLaws.{demandMeets-zero, serviceVolume-eq}
 use Rattle.answer.proofs.AnswerLaws.{answerTo-accepted, answerTo-number}
 
@@ -130,6 +130,10 @@ refusals-within-ends case n = (
 pub refusals-reach-ends : RefusalsReachEnds
 unfolding weatherUnfit roadRefusals loadRefusals fieldRefusals refusals lanesRefusals
 refusals-reach-ends = (refl, refl)
+
+pub lanes-refusals-in-order : LanesRefusalsInOrder
+unfolding roadRefusals loadRefusals fieldRefusals lanesRefusals
+lanes-refusals-in-order case n = refl
 
 pub counts-are-digits : CountsAreDigits
 unfolding lanesFound

@@ -4,10 +4,11 @@
 --   lastRefusal          19, the greatest number with which a case or a lanes question is refused
 --   RefusalsWithinEnds   no refusal has a greater number
 --   RefusalsReachEnds    a case that 19 refuses, and its lanes question
+--   LanesRefusalsInOrder   the lanes question's list has 16, 1 to 9, 19 and 14, in this order, for every case and letter number
 --   CountsAreDigits      a lane count is one digit
 -- Assumes nothing.
 use mathlib.Core.Path.{_≡_}
-use mathlib.Core.List.{List, [], _∷_}
+use mathlib.Core.List.{List, [], _∷_, map}
 use Prim.Native.Nat.{ℕ, _*_, _≤_}
 use Rattle.numbers.specs.Bounds.{AllAtMost}
 use Rattle.road.specs.declared.Case.{Case}
@@ -16,7 +17,7 @@ use Rattle.method.specs.Refusals.{Accepted}
 use Rattle.answer.specs.Answers as answers
 use Rattle.answer.specs.Answers.{answerTo}
 use Rattle.answer.specs.Lanes as lanes
-use Rattle.answer.specs.Lanes.{lanesAnswer}
+use Rattle.answer.specs.Lanes.{lanesRefusals, lanesAnswer}
 use Rattle.answer.specs.Boundary.{refusedBy19}
 
 -- letter, F, c, v, speed, density, service volumes A to E. A service volume keeps to capacity, 2,400 passenger cars on each of 8 lanes,
@@ -39,6 +40,11 @@ RefusalsWithinEnds =
 abbrev pub RefusalsReachEnds : Type 0
 RefusalsReachEnds =
     (answers.refusalNumber (answerTo refusedBy19) ≡ lastRefusal) × (lanes.refusalNumber (lanesAnswer refusedBy19 1) ≡ lastRefusal)
+
+abbrev pub LanesRefusalsInOrder : Type 0
+LanesRefusalsInOrder =
+    (case : Case) (n : ℕ)
+    → map (λ r. r .number) (lanesRefusals case n) ≡ 16 ∷ 1 ∷ 2 ∷ 3 ∷ 4 ∷ 5 ∷ 6 ∷ 7 ∷ 8 ∷ 9 ∷ 19 ∷ 14 ∷ []
 
 abbrev pub CountsAreDigits : Type 0
 CountsAreDigits = (case : Case) (n count : ℕ) → lanes.values (lanesAnswer case n) ≡ count ∷ [] → count ≤ 9

@@ -19,7 +19,7 @@ use mathlib.Core.Path.{_≡_, refl, sym, ap, _∙_}
 use mathlib.Core.Bool.{Bool, cond}
 use mathlib.Core.Logic.{_↔_, inr}
 use mathlib.Core.List.{[], _++_}
-use Prim.Native.Nat.{ℕ, suc, _≤_, _<_}
+use Prim.Native.Nat.{ℕ, _≤_, _<_}
 use native.Mathlib.Omega.{arith}
 use native.Mathlib.Nat.{le-refl, le-trans}
 use borrow.Author.Tests.{ltb-false, le-ltb}
@@ -35,7 +35,7 @@ use Rattle.curve.specs.declared.service.Letter.the-variants as Letter
 use Rattle.curve.specs.Service.{letterNumber}
 use Rattle.curve.proofs.ServiceLaws.{letterNumber-le}
 use Rattle.road.specs.declared.Case.{Case}
-use Rattle.road.specs.Refusals.{greatestDemand, roadRefusals, loadRefusals, weatherRefusals, SectionFits}
+use Rattle.road.specs.Refusals.{greatestDemand, roadRefusals, loadRefusals, weatherRefusals, fieldRefusals, SectionFits}
 use Rattle.road.proofs.RefusalLaws.{loads-exactly, load-numbered}
 use Rattle.method.specs.declared.checked.Checked.{Checked}
 use Rattle.method.specs.declared.checked.Checked.the-variants as Checked
@@ -51,13 +51,12 @@ use Rattle.answer.proofs.AnswerLaws.{answerTo-accepted, answerTo-number, Meets-
 use Rattle.answer.proofs.Promises.{no-better-under-more-load}
 use Rattle.forecast.specs.declared.Forecast.{Forecast}
 use Rattle.forecast.specs.declared.Combination.{Combination}
-use Rattle.forecast.specs.declared.Outcome.{Outcome}
 use Rattle.forecast.specs.declared.ForecastAnswer.{ForecastAnswer}
 use Rattle.forecast.specs.declared.ForecastAnswer.the-variants as ForecastAnswer
 use Rattle.forecast.specs.Forecasts.{withCombination, everyCombination, someCombination, bestLetter, worstLetter, letterOf}
 use Rattle.forecast.specs.Forecasts.{bestCombination, worstCombination, reversed, rangeRefusals, forecastRefusals, forecastAnswer}
 use Rattle.forecast.specs.Forecasts.{refusalNumber, values}
-use Rattle.forecast.specs.Ends.{AcceptedWith, outcomeOf, EndsAccepted, endOutcomes}
+use Rattle.forecast.specs.Ends.{AcceptedWith, EndsAccepted, endOutcomes}
 use Rattle.forecast.specs.Promises.{AcceptedForecast, caseWith, EveryInside, Ordered, BothAtMost, BothFrom}
 use Rattle.forecast.proofs.CombinationLaws.{everyCombination-at, everyCombination-of, someCombination-of, someCombination-none}
 
@@ -171,7 +170,7 @@ module _ (case : Case) (forecast : Forecast) where
       → firstRefusal (loadRefusals (caseWith case demand share factor)) ≡ 0
       → firstRefusal (weatherRefusals case ++ speedRefusals (case .road) (case .weather) (case .lanes)) ≡ 0
       → Accepted (caseWith case demand share factor)
-  unfolding refusals
+  unfolding fieldRefusals refusals
   combination-accepted demand share factor section loads rest =
       let asked = caseWith case demand share factor in
       with-of (loadRefusals asked) asked (load-numbered asked) section loads ∙ rest

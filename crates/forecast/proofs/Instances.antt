@@ -27,10 +27,9 @@ use Rattle.answer.specs.Promises.{letterIn}
 use Rattle.answer.specs.Boundary.{exampleInSnow}
 use Rattle.answer.specs.Instances.{multilaneWith}
 use Rattle.answer.proofs.Boundary.{example-speeds, example-figures}
-use Rattle.forecast.specs.declared.Forecast.{Forecast}
-use Rattle.forecast.specs.Forecasts.{forecastOf, rangeRefusals, forecastRefusals, forecastAnswer, values}
+use Rattle.forecast.specs.Forecasts.{forecastOf, rangeRefusals, forecastRefusals, forecastAnswer}
 use Rattle.forecast.specs.Promises.{AcceptedForecast, caseWith}
-use Rattle.forecast.specs.Instances.{told, wide, LetterBetween, TargetKept, TargetMissed, forecastInstances}
+use Rattle.forecast.specs.Instances.{told, levelFreeway, wide, LetterBetween, TargetKept, TargetMissed, forecastInstances}
 use Rattle.forecast.proofs.Promises.{every-letter-between, shown-at-the-ends, met-throughout}
 
 -- the letters at the ends tell the eight figures
@@ -43,12 +42,18 @@ told-by : (case : Case) (demandLow demandHigh shareLow shareHigh factorLow facto
 told-by case demandLow demandHigh shareLow shareHigh factorLow factorHigh best worst z b w =
     rw (z, shown-at-the-ends case demandLow demandHigh shareLow shareHigh factorLow factorHigh z, b, w)
 
-multilane-told : told (forecastAnswer (multilaneWith 0) (forecastOf 2160 2161 0 0 1000 1000))
-    ≡ 0 ∷ 2 ∷ 2160 ∷ 0 ∷ 1000 ∷ 3 ∷ 2161 ∷ 0 ∷ 1000 ∷ []
+-- of given speeds
+given-told : (told (forecastAnswer (multilaneWith 0) (forecastOf 2160 2161 0 0 1000 1000))
+    ≡ 0 ∷ 2 ∷ 2160 ∷ 0 ∷ 1000 ∷ 3 ∷ 2161 ∷ 0 ∷ 1000 ∷ [])
+    × (told (forecastAnswer levelFreeway (forecastOf 825 826 1000 1000 1000 1000))
+    ≡ 0 ∷ 1 ∷ 825 ∷ 1000 ∷ 1000 ∷ 2 ∷ 826 ∷ 1000 ∷ 1000 ∷ [])
 unfolding divUp uncappedBy freeFlowSpeed weatherUnfit roadRefusals loadRefusals fieldRefusals adjustedSpeed speedRefusals refusals capacity
     breakpoint adjustedCapacity adjustedBreakpoint curveUnder curveOf heavyFactor flowRate fallShareBy speed shownSpeed density shownDensity
     densityLimit densityLetter letterAt performance measures graded rangeRefusals forecastRefusals
-multilane-told = told-by (multilaneWith 0) 2160 2161 0 0 1000 1000 2 3 refl refl refl
+given-told = (
+  told-by (multilaneWith 0) 2160 2161 0 0 1000 1000 2 3 refl refl refl,
+  told-by levelFreeway 825 826 1000 1000 1000 1000 1 2 refl refl refl,
+)
 
 -- the printed line's road has F = 60,783
 pub instances-shown : Shown forecastInstances
@@ -61,14 +66,17 @@ instances-shown =
       (
         told-by example 2642 2642 50 50 919 920 3 4 (simp f) (simp f) (simp f),
         (
-          told-by example 1000 4000 0 100 850 950 1 6 (simp f) (simp f) (simp f),
+          told-by example 2642 2642 50 51 920 920 3 4 (simp f) (simp f) (simp f),
           (
-            told-by example 2000 2000 50 50 920 920 3 3 (simp f) (simp f) (simp f),
+            told-by example 1000 4000 0 100 850 950 1 6 (simp f) (simp f) (simp f),
             (
-              told-by example 0 2642 50 50 920 920 1 3 (simp f) (simp f) (simp f),
+              told-by example 2000 2000 50 50 920 920 3 3 (simp f) (simp f) (simp f),
               (
-                told-by example 2643 4000 50 50 920 920 4 6 (simp f) (simp f) (simp f),
-                (told-by (exampleInSnow 0) 2221 2222 50 50 920 920 3 4 (simp f) (simp f) (simp f), (multilane-told, tt)),
+                told-by example 0 2642 50 50 920 920 1 3 (simp f) (simp f) (simp f),
+                (
+                  told-by example 2643 4000 50 50 920 920 4 6 (simp f) (simp f) (simp f),
+                  (told-by (exampleInSnow 0) 2221 2222 50 50 920 920 3 4 (simp f) (simp f) (simp f), (given-told .0, (given-told .1, tt))),
+                ),
               ),
             ),
           ),
@@ -81,7 +89,7 @@ parts : (told (forecastAnswer example wide) ≡ 0 ∷ 1 ∷ 1000 ∷ 0 ∷ 950 �
     × (told (forecastAnswer example (forecastOf 0 2642 50 50 920 920)) ≡ 0 ∷ 1 ∷ 0 ∷ 50 ∷ 920 ∷ 3 ∷ 2642 ∷ 50 ∷ 920 ∷ [])
     × (told (forecastAnswer example (forecastOf 2643 4000 50 50 920 920)) ≡ 0 ∷ 4 ∷ 2643 ∷ 50 ∷ 920 ∷ 6 ∷ 4000 ∷ 50 ∷ 920 ∷ [])
 unfolding forecastInstances
-parts = let behind = instances-shown .1 .1 in (behind .0, behind .1 .1 .0, behind .1 .1 .1 .0)
+parts = let behind = instances-shown .1 .1 .1 in (behind .0, behind .1 .1 .0, behind .1 .1 .1 .0)
 
 pub wide-told : told (forecastAnswer example wide) ≡ 0 ∷ 1 ∷ 1000 ∷ 0 ∷ 950 ∷ 6 ∷ 4000 ∷ 100 ∷ 850 ∷ []
 wide-told = parts .0

@@ -1,6 +1,7 @@
 -- The promises of specs/Promises, proved. NoBetterUnderMoreLoad, demand 3's part 1, carries those about letters.
 --   bestCase, worstCase, shown   the figures by the letters at the ends
---   every-letter-between, shown-at-the-ends, met-throughout, equal-ends, own-load-is-not-read, accepted-exactly
+--   every-letter-between, shown-at-the-ends, met-throughout, equal-ends, own-load-is-not-read, refusals-in-order,
+--   accepted-exactly
 -- proofs/RefusedExactly has the last one.
 -- Assumes nothing.
 use mathlib.Core.Path.{_≡_, refl, sym, ap, _∙_}
@@ -13,25 +14,31 @@ use lib.ListN.{getD}
 use Rattle.checks.specs.Refusals.{firstRefusal}
 use Rattle.checks.proofs.RefusalLaws.{firstRefusal-none, lesserRefusal-same}
 use Rattle.road.specs.declared.Case.{Case}
-use Rattle.road.specs.Refusals.{loadRefusals, weatherRefusals}
+use Rattle.road.specs.Refusals.{roadRefusals, loadRefusals, weatherRefusals}
 use Rattle.road.proofs.RefusalLaws.{load-numbered, loads-exactly}
-use Rattle.method.specs.Refusals.{speedRefusals, refusals, refusal, Accepted}
+use Rattle.road.specs.Refusals.{fieldRefusals}
+use Rattle.method.specs.Refusals.{speedRefusals, refusals, Accepted}
 use Rattle.method.proofs.RefusalLaws.{refusalsWith-found, refusals-with, with-accepted, with-of}
 use Rattle.answer.specs.Answers.{answerTo}
 use Rattle.answer.specs.Promises.{letterIn, Meets}
 use Rattle.answer.proofs.AnswerLaws.{answerTo-number}
 use Rattle.forecast.specs.declared.Forecast.{Forecast}
 use Rattle.forecast.specs.Forecasts.{forecastOf, bestLetter, worstLetter, rangeRefusals, forecastRefusals}
-use Rattle.forecast.specs.Forecasts.{forecastAnswer, refusalNumber, values}
+use Rattle.forecast.specs.Forecasts.{forecastAnswer, values}
 use Rattle.forecast.specs.Promises.{AcceptedForecast, bestLetterIn, worstLetterIn, caseWith, EveryLetterBetween}
 use Rattle.forecast.specs.Promises.{ShownAtTheEnds, MetThroughout, EqualEnds, OwnLoadIsNotRead, AcceptedExactly}
+use Rattle.forecast.specs.Promises.{ownEnds, RefusalsInOrder}
 use Rattle.forecast.proofs.ForecastLaws.{letter-accepted, at-best, at-worst, range-numbered, range-number, range-exactly}
 use Rattle.forecast.proofs.ForecastLaws.{forecast-number, accepted-ordered, inside-accepted, best-accepted, worst-accepted}
 use Rattle.forecast.proofs.ForecastLaws.{ends-between, answer-accepted}
 
 pub own-load-is-not-read : OwnLoadIsNotRead
 unfolding bestLetter worstLetter rangeRefusals forecastRefusals
-own-load-is-not-read case demand share factor forecast = refl
+own-load-is-not-read c d road lanes terrain weather forecast = rw (road, lanes, terrain, weather)
+
+pub refusals-in-order : RefusalsInOrder
+unfolding roadRefusals loadRefusals speedRefusals rangeRefusals forecastRefusals
+refusals-in-order case forecast = (forecast-number case forecast, refl)
 
 -- the case with the combinations that are shown
 abbrev pub bestCase : Case → Forecast → Case
@@ -93,36 +100,31 @@ met-throughout case forecast z n = (
 )
 
 -- ---- equal ends
-module _ (case : Case) (demand share factor : ℕ) where
-  abbrev equal : Forecast
-  equal = forecastOf demand demand share share factor factor
-
-  abbrev plain : Case
-  plain = caseWith case demand share factor
-
-  -- 22 refuses none, and the two ends are one
-  equal-range : firstRefusal (rangeRefusals case equal) ≡ firstRefusal (loadRefusals plain)
-  equal-range =
-      range-number case equal
-      ∙ rw (le-ltb demand demand (le-refl demand), le-ltb share share (le-refl share), le-ltb factor factor (le-refl factor))
-      (lesserRefusal-same (firstRefusal (loadRefusals plain)))
-
-  equal-number : refusalNumber (forecastAnswer case equal) ≡ refusal plain
-  unfolding forecastRefusals
-  equal-number =
-      forecast-number case equal
-      ∙ sym (refusalsWith-found (rangeRefusals case equal) case (range-numbered case equal))
-      ∙ rw equal-range (refusals-with plain)
+-- 22 refuses none, and the two ends are one
+equal-range : (case : Case) → firstRefusal (rangeRefusals case (ownEnds case)) ≡ firstRefusal (loadRefusals case)
+equal-range case =
+    range-number case (ownEnds case)
+    ∙ rw (
+      le-ltb (case .demand) (case .demand) (le-refl _),
+      le-ltb (case .«heavy_share») (case .«heavy_share») (le-refl _),
+      le-ltb (case .«peak_hour_factor») (case .«peak_hour_factor») (le-refl _),
+    )
+    (lesserRefusal-same (firstRefusal (loadRefusals case)))
 
 pub equal-ends : EqualEnds
-equal-ends case demand share factor = (
-  equal-number case demand share factor ∙ sym (answerTo-number (caseWith case demand share factor)),
-  shown case (forecastOf demand demand share share factor factor),
-)
+unfolding forecastRefusals
+equal-ends case =
+    let own = ownEnds case in (
+      forecast-number case own
+          ∙ sym (refusalsWith-found (rangeRefusals case own) case (range-numbered case own))
+          ∙ rw (equal-range case) (refusals-with case)
+          ∙ sym (answerTo-number case),
+      shown case own,
+    )
 
 -- ---- refusals
 pub accepted-exactly : AcceptedExactly
-unfolding refusals forecastRefusals
+unfolding fieldRefusals refusals forecastRefusals
 accepted-exactly case forecast = (
   λ z. (accepted-ordered case forecast z, inside-accepted case forecast z),
   λ (ordered, all).

@@ -14,7 +14,8 @@ use Rattle.checks.specs.Refusals.{Refusal, firstRefusal, byTurns, outside}
 use Rattle.checks.proofs.RefusalLaws.{numbered, firstRefusal-none, firstRefusal-some, upTo, firstRefusal-le, atLeast, firstRefusal-ge}
 use Rattle.checks.proofs.RefusalLaws.{within, inside}
 use Rattle.road.specs.declared.Case.{Case}
-use Rattle.road.specs.Refusals.{greatestDemand, roadRefusals, sectionRefusals, loadRefusals, weatherRefusals, SectionFits}
+use Rattle.road.specs.Refusals.{greatestDemand, roadRefusals, sectionRefusals, loadRefusals, weatherRefusals, fieldRefusals}
+use Rattle.road.specs.Refusals.{SectionFits}
 use Rattle.road.proofs.RefusalLaws.{section-numbered, load-numbered, loads-exactly}
 use Rattle.method.specs.Refusals.{speedRefusals, refusals, refusal}
 use Rattle.method.proofs.RefusalLaws.{refusalsWith-joined, with-of}
@@ -56,7 +57,7 @@ module _ (case : Case) (forecast : Forecast) where
   joined = forecast-number case forecast ∙ ap firstRefusal (refusalsWith-joined (rangeRefusals case forecast) case)
 
   plain-joined : refusal case ≡ firstRefusal (sectionRefusals case ++ (loadRefusals case ++ rest))
-  unfolding refusals
+  unfolding fieldRefusals refusals
   plain-joined = ap firstRefusal (refusalsWith-joined (loadRefusals case) case)
 
   -- 1 to 6 come first, whatever the ends are
@@ -174,7 +175,7 @@ module _ (case : Case) (forecast : Forecast) where
   rest-ge p = firstRefusal-ge 10 rest tt p
 
   plain-rest : SectionFits case → demands → factors → shares → refusal (bestCase case forecast) ≡ firstRefusal rest
-  unfolding refusals
+  unfolding fieldRefusals refusals
   plain-rest section v h s =
       let low = bestCase case forecast in
       with-of (loadRefusals low) low (load-numbered low) section (loads-exactly low .1 (v .0, h .1, h .2 .1, s .0))

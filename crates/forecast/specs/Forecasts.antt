@@ -38,7 +38,6 @@ use Rattle.answer.specs.Volumes.{meets}
 use Rattle.forecast.specs.declared.Range.{Range}
 use Rattle.forecast.specs.declared.Forecast.{Forecast}
 use Rattle.forecast.specs.declared.Combination.{Combination}
-use Rattle.forecast.specs.declared.Outcome.{Outcome}
 use Rattle.forecast.specs.declared.ForecastAnswer.{ForecastAnswer}
 use Rattle.forecast.specs.declared.ForecastAnswer.the-variants as ForecastAnswer
 

@@ -9,19 +9,22 @@
 --   ShownAtTheEnds               the eight figures: the engine's letters at the two ends, each with its combination
 --   MetThroughout                a letter is met by every combination exactly when the worst meets it, and by none exactly when the best
 --                                does not
+--   ownEnds case                 the case's own demand, share and factor as both ends
 --   EqualEnds                    equal ends give the plain letter twice, or the refusal of the plain case
---   OwnLoadIsNotRead             whatever demand, share and factor the case carries, the answer is the same
+--   OwnLoadIsNotRead             cases that agree in road, lanes, terrain and weather get one answer
 --   Ordered forecast             no low end is above its high end
 --   BothAtMost most range, BothFrom least most range   the ends of a range that 7 and 9, and that 8, let pass
 --   AcceptedExactly              accepted exactly when no range is reversed and every whole combination within the ends is accepted
+--   RefusalsInOrder              the list has these numbers, in this order
 --   RefusedExactly               1 to 6 as the engine has them, whatever the ends; then 22 exactly by a reversed range; then 7, 8 and 9
 --                                each exactly by an end; then 19 and 10 as the engine has them
 -- Assumes nothing.
 use mathlib.Core.Path.{_≡_}
-use mathlib.Core.Logic.{_↔_, _⊎_}
-use mathlib.Core.List.{[], _∷_}
+use mathlib.Core.Logic.{_↔_}
+use mathlib.Core.List.{[], _∷_, map}
 use Prim.Native.Nat.{ℕ, _≤_, _<_}
 use lib.ListN.{getD}
+use Rattle.checks.specs.Refusals.{firstRefusal}
 use Rattle.road.specs.declared.Case.{Case}
 use Rattle.road.specs.Cases.{loaded}
 use Rattle.road.specs.Refusals.{greatestDemand, SectionFits}
@@ -32,7 +35,7 @@ use Rattle.answer.specs.Promises.{letterIn, Meets}
 use Rattle.forecast.specs.declared.Range.{Range}
 use Rattle.forecast.specs.declared.Forecast.{Forecast}
 use Rattle.forecast.specs.declared.ForecastAnswer.{ForecastAnswer}
-use Rattle.forecast.specs.Forecasts.{forecastOf, Within, forecastAnswer, refusalNumber, values}
+use Rattle.forecast.specs.Forecasts.{forecastOf, Within, forecastRefusals, forecastAnswer, refusalNumber, values}
 
 abbrev pub AcceptedForecast : Case → Forecast → Type 0
 AcceptedForecast case forecast = refusalNumber (forecastAnswer case forecast) ≡ 0
@@ -44,6 +47,7 @@ bestLetterIn answer = getD (values answer) 0 0
 abbrev pub worstLetterIn : ForecastAnswer → ℕ
 worstLetterIn answer = getD (values answer) 4 0
 
+-- from the fields, and not by this crate's own withCombination
 abbrev pub caseWith : Case → (demand share factor : ℕ) → Case
 caseWith case demand share factor = loaded (case .road) (case .lanes) demand factor share (case .terrain) (case .weather)
 
@@ -82,20 +86,27 @@ MetThroughout =
     × ((n < bestLetterIn (forecastAnswer case forecast)) ↔ EveryInside forecast (λ demand share factor.
     Meets (caseWith case demand share factor) n → ⊥))
 
--- "Equal ends give the plain letter twice"
+abbrev pub ownEnds : Case → Forecast
+ownEnds case =
+    forecastOf (case .demand) (case .demand) (case .«heavy_share») (case .«heavy_share») (case .«peak_hour_factor»)
+    (case .«peak_hour_factor»)
+
+-- "Equal ends give the plain letter twice": of the case itself, which by OwnLoadIsNotRead may carry any load
 abbrev pub EqualEnds : Type 0
 EqualEnds =
-    (case : Case) (demand share factor : ℕ)
-    → let answer = forecastAnswer case (forecastOf demand demand share share factor factor) in
-    let plain = answerTo (caseWith case demand share factor) in
-    (refusalNumber answer ≡ answers.refusalNumber plain)
+    (case : Case)
+    → let answer = forecastAnswer case (ownEnds case) in
+    let letter = letterIn (answerTo case) in
+    (refusalNumber answer ≡ answers.refusalNumber (answerTo case))
     × (refusalNumber answer ≡ 0
-    → values answer ≡ letterIn plain ∷ demand ∷ share ∷ factor ∷ letterIn plain ∷ demand ∷ share ∷ factor ∷ [])
+    → values answer
+    ≡ letter ∷ case .demand ∷ case .«heavy_share» ∷ case .«peak_hour_factor»
+    ∷ letter ∷ case .demand ∷ case .«heavy_share» ∷ case .«peak_hour_factor» ∷ [])
 
 abbrev pub OwnLoadIsNotRead : Type 0
 OwnLoadIsNotRead =
-    (case : Case) (demand share factor : ℕ) (forecast : Forecast)
-    → forecastAnswer (caseWith case demand share factor) forecast ≡ forecastAnswer case forecast
+    (c d : Case) → c .road ≡ d .road → c .lanes ≡ d .lanes → c .terrain ≡ d .terrain → c .weather ≡ d .weather
+    → (forecast : Forecast) → forecastAnswer c forecast ≡ forecastAnswer d forecast
 
 abbrev pub Ordered : Forecast → Type 0
 Ordered forecast =
@@ -108,6 +119,14 @@ AcceptedExactly =
     (case : Case) (forecast : Forecast)
     → AcceptedForecast case forecast
     ↔ (Ordered forecast × EveryInside forecast (λ demand share factor. Accepted (caseWith case demand share factor)))
+
+-- 22 for each range, 7 to 9 for each end, and 10 before the weather's factor and after it
+abbrev pub RefusalsInOrder : Type 0
+RefusalsInOrder =
+    (case : Case) (forecast : Forecast)
+    → (refusalNumber (forecastAnswer case forecast) ≡ firstRefusal (forecastRefusals case forecast))
+    × (map (λ r. r .number) (forecastRefusals case forecast)
+    ≡ 1 ∷ 2 ∷ 3 ∷ 4 ∷ 5 ∷ 6 ∷ 22 ∷ 22 ∷ 22 ∷ 7 ∷ 7 ∷ 8 ∷ 8 ∷ 9 ∷ 9 ∷ 19 ∷ 10 ∷ 10 ∷ [])
 
 -- no end is above a number
 abbrev pub BothAtMost : ℕ → Range → Type 0

@@ -7,6 +7,7 @@
 --   call-lent, call-refused, call-case, call-wrote   a call over a line that was read: refused lent memory; no case; a case that another
 --                            function answers; a case that was answered
 --   buffer-short, buffer-fits   a buffer that 17 refuses; one that it does not
+--   call-short, call-malformed, call-read   a call that lends one: 17; 15; a case that another function answers
 --   FiguresFit, figures-written, figures-refused   an answer in figures: so many, or a refusal
 --   count-length, count-written   the two bytes of a lane count
 -- Assumes nothing.
@@ -31,6 +32,8 @@ use Rattle.text.proofs.BufferLaws.{first-byte, then-byte}
 use Rattle.road.specs.declared.Case.{Case}
 use Rattle.lines.specs.declared.read.LineRead.{LineRead}
 use Rattle.lines.specs.declared.read.LineRead.the-variants as LineRead
+use Rattle.lines.specs.Reading.{readLine}
+use Rattle.lines.proofs.ReadingLaws.{readLine-refused}
 use Rattle.marehour.specs.Calls.{Reply, writes, refusal, countText, figuresReply, lineReply, lineCall, bufferRefusals}
 use Rattle.marehour.specs.Calls.{handedBack, result, content}
 
@@ -111,6 +114,25 @@ buffer-short least room h = rw (lt-ltb room least h)
 pub buffer-fits : (least room : ℕ) → least ≤ room → firstRefusal (bufferRefusals least room) ≡ 0
 unfolding bufferRefusals
 buffer-fits least room h = rw (le-ltb room least h)
+
+module _ (least : ℕ) (reply : Case → Reply) (line old : List ℕ) where
+  abbrev lent : List Refusal
+  lent = bufferRefusals least (length old)
+
+  pub call-short : (z : ℤ) → length old < least → z ≡ negℤ (pos 17)
+      → Replied length (toZ w32 (ofZ w32 z)) old (lineCall reply (readLine line) lent) old
+  call-short z h e = call-lent length reply (readLine line) lent old z 17 (buffer-short least (length old) h) (omega arith) (omega arith) e
+
+  module _ (h : least ≤ length old) (z : ℤ) where
+    pub call-malformed : (n : ℕ) → readLine line ≡ LineRead.Refused n → z ≡ negℤ (pos 15)
+        → Replied length (toZ w32 (ofZ w32 z)) old (lineCall reply (readLine line) lent) old
+    call-malformed n e k =
+        call-refused length reply (readLine line) lent old (buffer-fits least (length old) h) z 15 (omega arith)
+        (e ∙ ap LineRead.Refused (readLine-refused line n e)) k
+
+    pub call-read : (case : Case) (new : List ℕ) → readLine line ≡ LineRead.Case case → SFits w32 z
+        → Replied length z new (reply case) old → Replied length (toZ w32 (ofZ w32 z)) new (lineCall reply (readLine line) lent) old
+    call-read case new = call-case length reply (readLine line) lent old (buffer-fits least (length old) h) z case new
 
 -- ---- an answer in figures
 pub record FiguresFit (count last number : ℕ) (values : List ℕ) : Type 0 where

@@ -20,7 +20,7 @@ use borrow.Author.Tests.{ltb-false, le-ltb, lt-ltb}
 use lib.Dec.{T}
 use lib.ListN.{take, drop}
 use Rattle.checks.specs.Refusals.{Refusal, firstRefusal, found, unlessRefused}
-use Rattle.checks.proofs.RefusalLaws.{numbered, firstRefusal-none, firstRefusal-some, firstRefusal-join, firstRefusal-le}
+use Rattle.checks.proofs.RefusalLaws.{numbered, firstRefusal-none, firstRefusal-join, firstRefusal-le}
 use Rattle.checks.proofs.RefusalLaws.{firstRefusal-met, firstRefusal-found, none-met}
 use Rattle.curve.specs.Kinds.{lowestSpeed, lowestAdjustedSpeed}
 use Rattle.curve.specs.Weather.{adjustedSpeed}
@@ -69,7 +69,7 @@ with-of loads case t section none =
     ∙ firstRefusal-none loads (weatherRefusals case ++ ownSpeed case) t none
 
 pub refusals-with : (case : Case) → firstRefusal (refusalsWith (found (firstRefusal (loadRefusals case))) case) ≡ refusal case
-unfolding refusals
+unfolding fieldRefusals refusals
 refusals-with case = refusalsWith-found (loadRefusals case) case (load-numbered case)
 
 pub refusalsWith-fields : (case : Case) (loads : ℕ) → firstRefusal (fieldRefusalsWith (found loads) case) ≡ 0
@@ -81,11 +81,11 @@ refusalsWith-fields case loads z =
     ∙ rw none (firstRefusal-none (weatherRefusals case) (ownSpeed case) tt weather)
 
 pub refusals-fields : (case : Case) → FieldsFit case → refusal case ≡ firstRefusal (ownSpeed case)
-unfolding fieldRefusals refusals
+unfolding refusals
 refusals-fields case z = firstRefusal-none (fieldRefusals case) (ownSpeed case) (fields-numbered case) z
 
 parts : (case : Case) → Accepted case → FieldsFit case × (firstRefusal (ownSpeed case) ≡ 0)
-unfolding fieldRefusals refusals
+unfolding refusals
 parts case a = firstRefusal-join (fieldRefusals case) (ownSpeed case) (fields-numbered case) a
 
 pub accepted-fields : (case : Case) → Accepted case → FieldsFit case

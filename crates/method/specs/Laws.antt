@@ -1,7 +1,8 @@
 -- The laws of the method, stated over the definitions that the contracts cite; proofs/Laws proves each.
---   AcceptedCurveIsWellFormed, MultilaneIsInClearWeather, FlowRateNeverFallsWithLoad, NoDemandGetsA, RefusedByTheList
+--   AcceptedCurveIsWellFormed, MultilaneIsInClearWeather, FlowRateNeverFallsWithLoad, NoDemandGetsA, RefusedByTheList, RefusalsInOrder
 -- Assumes nothing.
 use mathlib.Core.Path.{_≡_}
+use mathlib.Core.List.{[], _∷_, map}
 use Prim.Native.Nat.{_≤_}
 use Rattle.curve.specs.declared.kind.Kind.the-variants as Kind
 use Rattle.curve.specs.declared.service.Letter.the-variants as Letter
@@ -9,7 +10,7 @@ use Rattle.curve.specs.Curves.{WellFormed, Sized}
 use Rattle.curve.specs.Weather.{clear}
 use Rattle.road.specs.declared.Case.{Case}
 use Rattle.road.specs.Refusals.{FieldsFit}
-use Rattle.method.specs.Refusals.{refusal, Accepted}
+use Rattle.method.specs.Refusals.{refusals, refusal, Accepted}
 use Rattle.method.specs.Checked.{caseCurve}
 use Rattle.method.specs.Flow.{truckEquivalent, caseFlowRate}
 use Rattle.method.specs.Assess.{measures, assessment, refusalNumber}
@@ -38,3 +39,8 @@ NoDemandGetsA = (case : Case) → Accepted case → case .demand ≡ 0 → measu
 -- A case is refused with the number of the first of 1 to 9, 19 and 10 that it breaks, and is measured where it breaks none.
 abbrev pub RefusedByTheList : Type 0
 RefusedByTheList = (case : Case) → refusalNumber (assessment case) ≡ refusal case
+
+-- The list has these numbers, in this order, for every case; 10 is asked before the weather's factor and after it.
+abbrev pub RefusalsInOrder : Type 0
+RefusalsInOrder =
+    (case : Case) → map (λ r. r .number) (refusals case) ≡ 1 ∷ 2 ∷ 3 ∷ 4 ∷ 5 ∷ 6 ∷ 7 ∷ 8 ∷ 9 ∷ 19 ∷ 10 ∷ 10 ∷ []

@@ -1,6 +1,5 @@
 -- `checks::lesser_refusal` meets its contract: a number that is 0 leaves the other, and of two others it is the lesser.
 -- Assumes nothing.
-use mathlib.Core.Path.{_∙_}
 use borrow.Author.Tests.{ne-eqb}
 use Rattle.checks.specs.Refusals.{lesserRefusal}
 use borrow.Author.Needs.{needs}

@@ -2,9 +2,7 @@
 -- Assumes nothing.
 use mathlib.Core.Path.{ap, _∙_}
 use Rattle.method.specs.Checked.{checked}
-use Rattle.method.specs.Assess.{measures, caseTerms}
 use Rattle.method.proofs.AssessLaws.{case-readied}
-use Rattle.forecast.specs.Forecasts.{withCombination}
 use borrow.Author.Needs.{needs}
 use Rattle.forecast.proofs.outcome_with.Statement.{statement}
 use Rattle.forecast.proofs.outcome_with.Tie as tie

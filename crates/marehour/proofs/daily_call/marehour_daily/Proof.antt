@@ -1,14 +1,9 @@
 -- `marehour::daily_call::marehour_daily` meets its contract: 17, then 15, then the reply to the case that was read, which asks 20 first.
 -- Assumes nothing.
-use mathlib.Core.Path.{sym, ap, _∙_}
-use native.Mathlib.Omega.{arith}
-use lib.ListN.{length}
-use Rattle.daily.specs.Daily.{sharesOf, figureCount}
-use Rattle.lines.specs.declared.read.LineRead.the-variants as LineRead
-use Rattle.lines.specs.Reading.{readLine}
-use Rattle.lines.proofs.ReadingLaws.{readLine-refused}
-use Rattle.marehour.specs.Calls.{bufferRefusals, dailyReply}
-use Rattle.marehour.proofs.CallLaws.{call-lent, call-refused, call-case, buffer-short, buffer-fits}
+use mathlib.Core.Path.{sym, _∙_}
+use Rattle.daily.specs.Daily.{figureCount}
+use Rattle.marehour.specs.Calls.{dailyReply}
+use Rattle.marehour.proofs.CallLaws.{call-short, call-malformed, call-read}
 use borrow.Author.Needs.{needs}
 use Rattle.marehour.proofs.daily_call.marehour_daily.Statement.{statement}
 use Rattle.marehour.proofs.daily_call.marehour_daily.Tie as tie
@@ -16,26 +11,22 @@ use Rattle.marehour.proofs.daily_call.marehour_daily.Tie as tie
 returns : tie.Need-returns
 returns c =
     let a = c .before .before .before .before .args in
-    call-lent length (dailyReply (sharesOf (a .peak-share) (a .direction-share)) (a .daily-traffic)) (readLine (a .line .now))
-    (bufferRefusals figureCount _) (a .figures .now) (c .refused .result) 17 (buffer-short figureCount _ (c .before .if1 .taken))
-    (omega arith) (omega arith) (c .refused .ensures)
+    call-short figureCount (dailyReply _ (a .daily-traffic)) (a .line .now) (a .figures .now) _ (c .before .if1 .taken)
+    (c .refused .ensures)
 
 returns-2 : tie.Need-returns-2
 returns-2 c =
-    let a = c .before .before .before .before .before .before .before .args in
-    let e = sym (c .before .before .before .read-line .ensures) ∙ c .before .enum-told .given .1 in
-    call-refused length (dailyReply (sharesOf (a .peak-share) (a .direction-share)) (a .daily-traffic)) _
-    (bufferRefusals figureCount _) (a .figures .now)
-    (buffer-fits figureCount _ (c .before .before .before .before .if1 .left)) (c .refused2 .result) 15
-    (omega arith) (e ∙ ap LineRead.Refused (readLine-refused (a .line .now) _ e)) (c .refused2 .ensures)
+    let read = c .before .before .before in
+    let a = read .before .before .before .before .args in
+    call-malformed figureCount (dailyReply _ (a .daily-traffic)) (a .line .now) (a .figures .now) (read .before .if1 .left) _ _
+    (sym (read .read-line .ensures) ∙ c .before .enum-told .given .1) (c .refused2 .ensures)
 
 returns-3 : tie.Need-returns-3
 returns-3 c =
-    let s = c .before .before .daily-case in
     let read = c .before .before .before .before .before .before .before in
     let a = read .before .before .before .before .args in
-    call-case length (dailyReply (sharesOf (a .peak-share) (a .direction-share)) (a .daily-traffic)) _
-    (bufferRefusals figureCount _) (a .figures .now) (buffer-fits figureCount _ (read .before .if1 .left)) (s .result) _ _
+    let s = c .before .before .daily-case in
+    call-read figureCount (dailyReply _ (a .daily-traffic)) (a .line .now) (a .figures .now) (read .before .if1 .left) _ _ _
     (sym (read .read-line .ensures) ∙ c .before .before .before .before .before .reading .given .1) (search needs) (s .ensures)
 
 pub marehour-daily-spec : {M : Type 1} → statement M

@@ -1,6 +1,5 @@
 -- `road::refusal::section_refusal` meets its contract: the road's number stands for 1 to 5, and 6 comes behind it.
 -- Assumes nothing.
-use mathlib.Core.Path.{_∙_}
 use mathlib.Core.List.{[]}
 use Rattle.checks.proofs.RefusalLaws.{firstRefusal-found}
 use Rattle.road.specs.Refusals.{roadRefusals, laneRefusals}
