@@ -539,7 +539,7 @@ static uint64_t greater(uint64_t a, uint64_t b)
 }
 
 /* The line's own load, two that end at it and one that begins there: demand 0 gets A, and the greatest demand F, on eight lanes too. A
-   share or factor that 8 or 9 refuses stays an end. Then loads that are refused, most of them by several numbers, with the first. */
+   factor or share that 8 or 9 refuses stays an end. Then loads that are refused, most of them by several numbers, with the first. */
 static void make_forecasts(const struct vector *vector, struct forecast *forecasts)
 {
     uint64_t v = own_number(vector, DEMAND_FIELD), p = own_number(vector, SHARE_FIELD), h = own_number(vector, FACTOR_FIELD);

@@ -1,7 +1,7 @@
 // Forecasts known within ranges (request T-07): some calls with their figures, and random lines with random ranges and buffers of random
 // length and content. What the engine hands back for a random call is also compared with its own single answers: those at the two
-// combinations that it shows are its letters, and those at some combinations within the ends lie between. Of some larger ranges every
-// combination is tried.
+// combinations that it shows are its letters, and those at some combinations within the ends, which are the second implementation's too,
+// lie between. Of some larger ranges every combination is tried.
 
 use super::dailies::{MULTILANE, SNOW, WIDE};
 use super::days::{LINE, MALFORMED, MALFORMED_LINES};
@@ -457,9 +457,11 @@ impl Forecasts<'_> {
         }
     }
 
-    // The engine's own single answers to a line's case are the letters at the two combinations shown, and lie between within the ends.
+    // The engine's own single answers to a line's case are the letters at the two combinations shown. Within the ends they lie between, and
+    // are those of the second implementation.
     fn single_answers(&mut self, call: &Call, theirs: &After) {
         let case = lines::parse(&call.line).expect("the call is answered");
+        let forecast = Forecast::new(self.method, &call.line, &call.ranges).ok().expect("the call is answered");
         let [best, worst] = shown(theirs);
         for (letter, combination) in [best, worst] {
             let single = single_letter(&case, &combination);
@@ -469,9 +471,10 @@ impl Forecasts<'_> {
         }
         for _ in 0..SAMPLES {
             let combination = draw_combination(&mut self.draw, &call.ranges);
-            let single = single_letter(&case, &combination);
-            self.tally.check(single.as_ref().is_ok_and(|letter| (best.0..=worst.0).contains(letter)), || {
-                format!("forecast, {}: {} to {}, the single call at {combination:?} answers {single:?}", call.name(), best.0, worst.0)
+            let (single, second) = (single_letter(&case, &combination), u64::from(forecast.letter(&combination)));
+            self.tally.check(single == Ok(second) && (best.0..=worst.0).contains(&second), || {
+                let letters = format!("{} to {}", best.0, worst.0);
+                format!("forecast, {}: {letters}, at {combination:?} the single call answers {single:?}, second {second}", call.name())
             });
         }
     }

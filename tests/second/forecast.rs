@@ -107,7 +107,8 @@ impl Forecast<'_> {
         Ok(Forecast { method, case, curve: method.curve(&case)?, ranges: *ranges })
     }
 
-    fn letter(&self, combination: &Combination) -> u32 {
+    // The letter of a combination within the ends.
+    pub fn letter(&self, combination: &Combination) -> u32 {
         self.method.letter(&self.curve, flow_rate(&combination.of(&self.case)))
     }
 
@@ -119,7 +120,7 @@ impl Forecast<'_> {
     }
 
     // The letters of the two shown combinations.
-    pub fn letters_at_shown_combinations(&self) -> [u32; 2] {
+    fn letters_at_shown_combinations(&self) -> [u32; 2] {
         self.ranges.shown().map(|combination| self.letter(&combination))
     }
 

@@ -1,14 +1,15 @@
 -- The laws of specs/Laws, proved.
 --   serviceVolume-le   no service volume is above 19,200
 --   lanesAnswer-number   the number of the answer to the lanes question is the first of its list
---   figures-within-ends, refusals-within-ends, refusals-reach-ends, lanes-refusals-in-order, counts-are-digits
+--   figures-within-ends, refusals-within-ends, refusals-reach-ends, lanes-refusals-in-order, lanes-refused-as-the-case, counts-are-digits
 --   found-digit          the same of a count that is answered
 -- Assumes nothing.
-use mathlib.Core.Path.{_≡_, refl, ap}
+use mathlib.Core.Path.{_≡_, refl, sym, ap, _∙_}
+use mathlib.Core.Logic.{⊎-elim}
 use mathlib.Core.List.{[], _∷_}
 use Prim.Native.Nat.{ℕ, suc, _*_, _≤_}
 use native.Mathlib.Omega.{arith}
-use native.Mathlib.Nat.{le-trans, mul-le-mul, mul-le-mul-left}
+use native.Mathlib.Nat.{eq-zero-or-pos, le-trans, mul-le-mul, mul-le-mul-left}
 use lib.Dec.{T, leb, leb→le}
 use lib.ListN.{length, getD}
 use Rattle.numbers.specs.Search.{greatest}
@@ -16,7 +17,7 @@ use Rattle.numbers.proofs.DivisionLaws.{divUp-le-iff, le-divUp}
 use Rattle.numbers.proofs.SearchLaws.{greatest-passes, least-le}
 use Rattle.numbers.proofs.BoolLaws.{and-left}
 use Rattle.checks.specs.Refusals.{firstRefusal}
-use Rattle.checks.proofs.RefusalLaws.{firstRefusal-le, unlessRefused-by, unlessRefused-number}
+use Rattle.checks.proofs.RefusalLaws.{firstRefusal-some, firstRefusal-le, firstRefusal-ge, inside, unlessRefused-by, unlessRefused-number}
 use Rattle.curve.specs.declared.Curve.{Curve}
 use Rattle.curve.specs.Kinds.{mostLanes}
 use Rattle.curve.specs.Service.{density, meetsLimit, densityLimit, performance}
@@ -26,11 +27,11 @@ use Rattle.road.specs.declared.Case.{Case}
 use Rattle.road.specs.Refusals.{greatestDemand, weatherUnfit, roadRefusals, loadRefusals, fieldRefusals}
 use Rattle.road.proofs.RefusalLaws.{load-ends}
 use Rattle.method.specs.declared.flow.Load.{Load}
-use Rattle.method.specs.Refusals.{refusals, Accepted}
+use Rattle.method.specs.Refusals.{speedRefusals, refusals, Accepted}
 use Rattle.method.specs.Checked.{caseCurve}
 use Rattle.method.specs.Flow.{loadOf, flowRate, caseFlowRate, LoadFits}
 use Rattle.method.specs.Assess.{measures}
-use Rattle.method.proofs.RefusalLaws.{accepted-fields, refusal-le}
+use Rattle.method.proofs.RefusalLaws.{refusals-fields, accepted-fields, refusal-le}
 use Rattle.method.proofs.CheckedLaws.{caseCurve-wellFormed, caseCurve-sized}
 use Rattle.method.proofs.FlowLaws.{caseLoad-fits}
 use Rattle.answer.specs.declared.lanes.LanesAnswer.the-variants as LanesAnswer
@@ -38,7 +39,8 @@ use Rattle.answer.specs.Volumes.{serviceVolume}
 use Rattle.answer.specs.Answers.{graded}
 use Rattle.answer.specs.Lanes.{lanesMeet, lanesFound, lanesRefusals, lanesAnswer, refusalNumber, values}
 use Rattle.answer.specs.Search.{demandMeets}
-use Rattle.answer.specs.Laws.{FiguresWithinEnds, RefusalsWithinEnds, RefusalsReachEnds, LanesRefusalsInOrder, CountsAreDigits}
+use Rattle.answer.specs.Laws.{FiguresWithinEnds, RefusalsWithinEnds, RefusalsReachEnds, LanesRefusalsInOrder}
+use Rattle.answer.specs.Laws.{LanesRefusedAsTheCase, CountsAreDigits}
 use Rattle.answer.proofs.VolumeLaws.{demandMeets-zero, serviceVolume-eq}
 use Rattle.answer.proofs.AnswerLaws.{answerTo-accepted, answerTo-number}
 
@@ -134,6 +136,28 @@ refusals-reach-ends = (refl, refl)
 pub lanes-refusals-in-order : LanesRefusalsInOrder
 unfolding roadRefusals loadRefusals fieldRefusals lanesRefusals
 lanes-refusals-in-order case n = refl
+
+-- 10 alone is behind the fields, and they come first in both lists
+pub lanes-refused-as-the-case : LanesRefusedAsTheCase
+unfolding speedRefusals refusals lanesRefusals
+lanes-refused-as-the-case case n h k some notTen =
+    let speed = speedRefusals (case .road) (case .weather) (case .lanes) in
+    let number = answerTo-number case in
+    ⊎-elim
+    (λ z.
+    let last = number ∙ refusals-fields case z in
+    absurd (notTen (omega (
+      arith,
+      last,
+      firstRefusal-le 10 speed tt,
+      firstRefusal-ge 10 speed tt (omega (arith, last, some)),
+    ))))
+    (λ p.
+    lanesAnswer-number case n
+    ∙ rw (inside 1 5 n h k) (firstRefusal-some (fieldRefusals case) _ p)
+    ∙ sym (firstRefusal-some (fieldRefusals case) speed p)
+    ∙ sym number)
+    (eq-zero-or-pos (firstRefusal (fieldRefusals case)))
 
 pub counts-are-digits : CountsAreDigits
 unfolding lanesFound

@@ -5,6 +5,7 @@
 --   RefusalsWithinEnds   no refusal has a greater number
 --   RefusalsReachEnds    a case that 19 refuses, and its lanes question
 --   LanesRefusalsInOrder   the lanes question's list has 16, 1 to 9, 19 and 14, in this order, for every case and letter number
+--   LanesRefusedAsTheCase   what refuses a case, 10 aside, refuses its lanes question with the same number, for A to E
 --   CountsAreDigits      a lane count is one digit
 -- Assumes nothing.
 use mathlib.Core.Path.{_≡_}
@@ -45,6 +46,13 @@ abbrev pub LanesRefusalsInOrder : Type 0
 LanesRefusalsInOrder =
     (case : Case) (n : ℕ)
     → map (λ r. r .number) (lanesRefusals case n) ≡ 16 ∷ 1 ∷ 2 ∷ 3 ∷ 4 ∷ 5 ∷ 6 ∷ 7 ∷ 8 ∷ 9 ∷ 19 ∷ 14 ∷ []
+
+-- "It checks 1 to 9, not 10", "19 .. in the lanes question too"
+abbrev pub LanesRefusedAsTheCase : Type 0
+LanesRefusedAsTheCase =
+    (case : Case) (n : ℕ) → 1 ≤ n → n ≤ 5
+    → let number = answers.refusalNumber (answerTo case) in
+    (number ≡ 0 → ⊥) → (number ≡ 10 → ⊥) → lanes.refusalNumber (lanesAnswer case n) ≡ number
 
 abbrev pub CountsAreDigits : Type 0
 CountsAreDigits = (case : Case) (n count : ℕ) → lanes.values (lanesAnswer case n) ≡ count ∷ [] → count ≤ 9

@@ -1,6 +1,5 @@
 -- Every whole combination within the ends, and some (specs/Forecasts).
---   everyWithin-at, everyWithin-of   every number within the ends of a range passes; the converse
---   everyCombination-at, everyCombination-of   the same of every combination
+--   everyCombination-at, everyCombination-of   every combination within the ends passes; the converse
 --   someCombination-of, someCombination-none   a combination within the ends that passes; none that does
 -- Assumes nothing.
 use mathlib.Core.Bool.{Bool, not, _||_}
@@ -16,12 +15,12 @@ use Rattle.forecast.specs.declared.Combination.{Combination}
 use Rattle.forecast.specs.Forecasts.{combinationOf, Within, everyWithin, everyCombination, someCombination}
 use Rattle.forecast.specs.Promises.{EveryInside}
 
-pub everyWithin-at : (range : Range) (p : ℕ → Bool) → T (everyWithin range p) → (n : ℕ) → Within range n → T (p n)
+everyWithin-at : (range : Range) (p : ℕ → Bool) → T (everyWithin range p) → (n : ℕ) → Within range n → T (p n)
 unfolding everyWithin
 everyWithin-at range p t n (low, high) =
     rw (le-ltb n (range .low) low) at (everyUpTo-at (λ m. ltb m (range .low) || p m) (range .high) t n high)
 
-pub everyWithin-of : (range : Range) (p : ℕ → Bool) → ((n : ℕ) → Within range n → T (p n)) → T (everyWithin range p)
+everyWithin-of : (range : Range) (p : ℕ → Bool) → ((n : ℕ) → Within range n → T (p n)) → T (everyWithin range p)
 unfolding everyWithin
 everyWithin-of range p all =
     everyUpTo-of (λ m. ltb m (range .low) || p m) (range .high) (λ n high. go n high (decLe (range .low) n))

@@ -26,7 +26,7 @@ unfolding divUp leastFrom least uncappedBy freeFlowSpeed weatherUnfit roadRefusa
     refusals capacity breakpoint adjustedCapacity adjustedBreakpoint curveUnder curveOf heavyFactor flowRate fallShareBy speed shownSpeed
     density shownDensity densityLimit densityLetter letterAt performance measures meets everyWithin everyCombination someCombination
     bestLetter worstLetter computedInstances
-computed-shown = (refl, (refl, (refl, tt)))
+computed-shown = (refl, (refl, (refl, (refl, tt))))
 
 pub refusals-shown : Shown refusalInstances
 unfolding uncappedBy freeFlowSpeed weatherUnfit roadRefusals loadRefusals adjustedSpeed speedRefusals rangeRefusals forecastRefusals

@@ -1,43 +1,36 @@
 -- Forecasts (specs/Forecasts, specs/Ends): what is refused, and the letters at the ends. NoBetterUnderMoreLoad, demand 3's part 1, carries
 -- ends-between, by its name.
 --   letter-accepted     the letter in the answer to an accepted case, by what the case gets
---   at-best, at-worst   what holds of every combination within the ends holds at the two ends
---   range-numbered      every number of 22 and 7 to 9 is above 0
---   range-number        the number of 7 to 9 behind 22 is the lesser of those at the two ends
---   range-exactly       a forecast that they let pass, by its ends
+--   bestCase, worstCase   the case with the combinations at the two ends
+--   at-best, at-worst   what holds of every combination within the ends holds there
 --   forecast-number     the number of an answer is that of its list
 --   number-le           it is at most 22
 --   refused-values      an answer with a number above 0 has no values
---   accepted-ordered, inside-accepted   no range of it is reversed, and every combination within the ends is accepted
+--   accepted-ordered, inside-accepted   an accepted forecast: no range is reversed, and every combination within the ends is accepted
 --   best-accepted, worst-accepted   those at the ends too
 --   ends-between        the letter of a combination within the ends is between those at the ends
---   bestLetter-eq, worstLetter-eq   which are the best and the worst
---   answer-accepted     what is answered then
+--   answer-accepted     these are the best and the worst, so that they are answered
 --   found-accepted, ends-accepted, answer-refused   what is answered by what the check found
 -- Assumes nothing.
 use mathlib.Core.Path.{_≡_, refl, sym, ap, _∙_}
-use mathlib.Core.Bool.{Bool, cond}
+use mathlib.Core.Bool.{Bool}
 use mathlib.Core.Logic.{_↔_, inr}
 use mathlib.Core.List.{[], _++_}
 use Prim.Native.Nat.{ℕ, _≤_, _<_}
 use native.Mathlib.Omega.{arith}
 use native.Mathlib.Nat.{le-refl, le-trans}
-use borrow.Author.Tests.{ltb-false, le-ltb}
 use lib.Dec.{T}
 use Rattle.numbers.proofs.SearchLaws.{least-eq}
-use Rattle.checks.specs.Refusals.{firstRefusal, found, lesserRefusal}
-use Rattle.checks.proofs.RefusalLaws.{numbered, firstRefusal-none, risesWith, firstRefusal-byTurns, none-met, none-of}
-use Rattle.checks.proofs.RefusalLaws.{firstRefusal-le, within, inside}
-use Rattle.checks.proofs.RefusalLaws.{unlessRefused-none, unlessRefused-some, unlessRefused-number}
+use Rattle.checks.specs.Refusals.{firstRefusal, found}
+use Rattle.checks.proofs.RefusalLaws.{firstRefusal-none, firstRefusal-le, unlessRefused-none, unlessRefused-some, unlessRefused-number}
 use Rattle.curve.specs.declared.Curve.{Curve}
 use Rattle.curve.specs.declared.service.Letter.{Letter}
 use Rattle.curve.specs.declared.service.Letter.the-variants as Letter
 use Rattle.curve.specs.Service.{letterNumber}
 use Rattle.curve.proofs.ServiceLaws.{letterNumber-le}
 use Rattle.road.specs.declared.Case.{Case}
-use Rattle.road.specs.Refusals.{greatestDemand, roadRefusals, loadRefusals, weatherRefusals, fieldRefusals, SectionFits}
+use Rattle.road.specs.Refusals.{roadRefusals, loadRefusals, weatherRefusals, fieldRefusals, SectionFits}
 use Rattle.road.proofs.RefusalLaws.{loads-exactly, load-numbered}
-use Rattle.method.specs.declared.checked.Checked.{Checked}
 use Rattle.method.specs.declared.checked.Checked.the-variants as Checked
 use Rattle.method.specs.Refusals.{speedRefusals, refusalsWith, refusals, Accepted}
 use Rattle.method.specs.Checked.{caseCurve, checkedWith}
@@ -54,10 +47,11 @@ use Rattle.forecast.specs.declared.Combination.{Combination}
 use Rattle.forecast.specs.declared.ForecastAnswer.{ForecastAnswer}
 use Rattle.forecast.specs.declared.ForecastAnswer.the-variants as ForecastAnswer
 use Rattle.forecast.specs.Forecasts.{withCombination, everyCombination, someCombination, bestLetter, worstLetter, letterOf}
-use Rattle.forecast.specs.Forecasts.{bestCombination, worstCombination, reversed, rangeRefusals, forecastRefusals, forecastAnswer}
+use Rattle.forecast.specs.Forecasts.{bestCombination, worstCombination, rangeRefusals, forecastRefusals, forecastAnswer}
 use Rattle.forecast.specs.Forecasts.{refusalNumber, values}
 use Rattle.forecast.specs.Ends.{AcceptedWith, EndsAccepted, endOutcomes}
-use Rattle.forecast.specs.Promises.{AcceptedForecast, caseWith, EveryInside, Ordered, BothAtMost, BothFrom}
+use Rattle.forecast.specs.Promises.{AcceptedForecast, caseWith, EveryInside, Ordered, DemandPasses, FactorPasses, SharePasses}
+use Rattle.forecast.proofs.RangeLaws.{range-numbered, range-exactly}
 use Rattle.forecast.proofs.CombinationLaws.{everyCombination-at, everyCombination-of, someCombination-of, someCombination-none}
 
 -- ---- letters
@@ -86,7 +80,14 @@ pub refused-values : (a : ForecastAnswer) → 0 < refusalNumber a → values a �
 refused-values (ForecastAnswer.Graded best worst) p = absurd (omega arith)
 refused-values (ForecastAnswer.Refused n) p = refl
 
--- ---- what holds of every combination within the ends holds at the two ends
+-- ---- the two ends
+abbrev pub bestCase : Case → Forecast → Case
+bestCase case forecast = withCombination case (bestCombination forecast)
+
+abbrev pub worstCase : Case → Forecast → Case
+worstCase case forecast = withCombination case (worstCombination forecast)
+
+-- what holds of every combination within the ends holds there
 module _ (forecast : Forecast) (ordered : Ordered forecast) (P : (demand share factor : ℕ) → Type 0) (all : EveryInside forecast P) where
   pub at-best : P (forecast .demand .low) (forecast .«heavy_share» .low) (forecast .«peak_hour_factor» .high)
   at-best = all _ _ _ (le-refl _, ordered .0) (le-refl _, ordered .1) (ordered .2, le-refl _)
@@ -95,69 +96,7 @@ module _ (forecast : Forecast) (ordered : Ordered forecast) (P : (demand share f
   at-worst = all _ _ _ (ordered .0, le-refl _) (ordered .1, le-refl _) (le-refl _, ordered .2)
 
 -- ---- refusals
-loads-rise : (c d : Case) → T (risesWith (loadRefusals c) (loadRefusals d))
-unfolding loadRefusals
-loads-rise c d = tt
-
 module _ (case : Case) (forecast : Forecast) where
-  pub range-numbered : T (numbered (rangeRefusals case forecast))
-  unfolding loadRefusals rangeRefusals
-  range-numbered = tt
-
-  pub range-number : firstRefusal (rangeRefusals case forecast)
-      ≡ cond (reversed (forecast .demand)) 22
-      (cond (reversed (forecast .«heavy_share»)) 22
-      (cond (reversed (forecast .«peak_hour_factor»)) 22
-      (lesserRefusal (firstRefusal (loadRefusals (withCombination case (bestCombination forecast))))
-      (firstRefusal (loadRefusals (withCombination case (worstCombination forecast)))))))
-  unfolding rangeRefusals
-  range-number =
-      rw (firstRefusal-byTurns _ _
-      (loads-rise (withCombination case (bestCombination forecast)) (withCombination case (worstCombination forecast))))
-
-  pub range-exactly : (firstRefusal (rangeRefusals case forecast) ≡ 0)
-      ↔ (Ordered forecast × BothAtMost greatestDemand (forecast .demand) × BothFrom 250 1000 (forecast .«peak_hour_factor»)
-      × BothAtMost 1000 (forecast .«heavy_share»))
-  unfolding loadRefusals rangeRefusals
-  range-exactly = (
-    λ z.
-        let none = none-met (rangeRefusals case forecast) tt z in
-        let loads = none .1 .1 .1 in
-        let high = within 250 1000 (forecast .«peak_hour_factor» .high) (loads .1 .1 .0) in
-        let low = within 250 1000 (forecast .«peak_hour_factor» .low) (loads .1 .1 .1 .0) in (
-          (ltb-false _ _ (none .0), ltb-false _ _ (none .1 .0), ltb-false _ _ (none .1 .1 .0)),
-          (ltb-false greatestDemand (forecast .demand .low) (loads .0), ltb-false greatestDemand (forecast .demand .high) (loads .1 .0)),
-          (low .0, high .0, (low .1, high .1)),
-          (
-            ltb-false 1000 (forecast .«heavy_share» .low) (loads .1 .1 .1 .1 .0),
-            ltb-false 1000 (forecast .«heavy_share» .high) (loads .1 .1 .1 .1 .1 .0),
-          ),
-        ),
-    λ ((demand, share, factor), (demand-low, demand-high), (least-low, least-high, (most-low, most-high)), (share-low, share-high)).
-        none-of (rangeRefusals case forecast) (
-          le-ltb _ _ demand,
-          (
-            le-ltb _ _ share,
-            (
-              le-ltb _ _ factor,
-              (
-                le-ltb _ _ demand-low,
-                (
-                  le-ltb _ _ demand-high,
-                  (
-                    inside 250 1000 (forecast .«peak_hour_factor» .high) least-high most-high,
-                    (
-                      inside 250 1000 (forecast .«peak_hour_factor» .low) least-low most-low,
-                      (le-ltb _ _ share-low, (le-ltb _ _ share-high, tt)),
-                    ),
-                  ),
-                ),
-              ),
-            ),
-          ),
-        ),
-  )
-
   pub forecast-number : refusalNumber (forecastAnswer case forecast) ≡ firstRefusal (forecastRefusals case forecast)
   forecast-number = unlessRefused-number _ _ ForecastAnswer.Refused refusalNumber refl (λ k. refl)
 
@@ -179,11 +118,10 @@ module _ (case : Case) (forecast : Forecast) where
     parts : SectionFits case × (firstRefusal (rangeRefusals case forecast) ≡ 0)
         × (firstRefusal (weatherRefusals case) ≡ 0) × (firstRefusal (speedRefusals (case .road) (case .weather) (case .lanes)) ≡ 0)
     unfolding forecastRefusals
-    parts = with-accepted (rangeRefusals case forecast) case range-numbered (sym forecast-number ∙ z)
+    parts = with-accepted (rangeRefusals case forecast) case (range-numbered case forecast) (sym forecast-number ∙ z)
 
-    ends : Ordered forecast × BothAtMost greatestDemand (forecast .demand) × BothFrom 250 1000 (forecast .«peak_hour_factor»)
-        × BothAtMost 1000 (forecast .«heavy_share»)
-    ends = range-exactly .0 (parts .1)
+    ends : Ordered forecast × DemandPasses forecast × FactorPasses forecast × SharePasses forecast
+    ends = range-exactly case forecast .0 (parts .1)
 
     pub inside-accepted : EveryInside forecast (λ demand share factor. Accepted (caseWith case demand share factor))
     inside-accepted demand share factor v s h =
@@ -201,29 +139,23 @@ module _ (case : Case) (forecast : Forecast) where
     pub accepted-ordered : Ordered forecast
     accepted-ordered = ends .0
 
-    abbrev best : Case
-    best = withCombination case (bestCombination forecast)
-
-    abbrev worst : Case
-    worst = withCombination case (worstCombination forecast)
-
-    pub best-accepted : Accepted best
+    pub best-accepted : Accepted (bestCase case forecast)
     best-accepted =
         at-best forecast accepted-ordered (λ demand share factor. Accepted (caseWith case demand share factor)) inside-accepted
 
-    pub worst-accepted : Accepted worst
+    pub worst-accepted : Accepted (worstCase case forecast)
     worst-accepted =
         at-worst forecast accepted-ordered (λ demand share factor. Accepted (caseWith case demand share factor)) inside-accepted
 
     pub ends-between : EveryInside forecast (λ demand share factor.
-        (letterIn (answerTo best) ≤ letterIn (answerTo (caseWith case demand share factor)))
-        × (letterIn (answerTo (caseWith case demand share factor)) ≤ letterIn (answerTo worst)))
+        (letterIn (answerTo (bestCase case forecast)) ≤ letterIn (answerTo (caseWith case demand share factor)))
+        × (letterIn (answerTo (caseWith case demand share factor)) ≤ letterIn (answerTo (worstCase case forecast))))
     ends-between demand share factor v s h =
         let asked = caseWith case demand share factor in
         let accepted = inside-accepted demand share factor v s h in (
-          no-better-under-more-load best asked best-accepted accepted refl refl (inr (inr refl))
+          no-better-under-more-load (bestCase case forecast) asked best-accepted accepted refl refl (inr (inr refl))
               (v .0) (s .0) (le-refl _) (h .1) (le-refl _),
-          no-better-under-more-load asked worst accepted worst-accepted refl refl (inr (inr refl))
+          no-better-under-more-load asked (worstCase case forecast) accepted worst-accepted refl refl (inr (inr refl))
               (v .1) (s .1) (le-refl _) (h .0) (le-refl _),
         )
 
@@ -231,9 +163,10 @@ module _ (case : Case) (forecast : Forecast) where
     abbrev meetsAt : ℕ → Combination → Bool
     meetsAt n combination = meets (withCombination case combination) n
 
-    pub bestLetter-eq : bestLetter case forecast ≡ letterIn (answerTo best)
+    bestLetter-eq : bestLetter case forecast ≡ letterIn (answerTo (bestCase case forecast))
     unfolding bestLetter
     bestLetter-eq =
+        let best = bestCase case forecast in
         let own = letterIn (answerTo best) in
         least-eq (λ n. someCombination forecast (meetsAt n)) 7 own (letter-lt best best-accepted)
         (at-best forecast accepted-ordered
@@ -242,9 +175,10 @@ module _ (case : Case) (forecast : Forecast) where
         (λ k below. someCombination-none forecast (meetsAt k) (λ demand share factor v s h t.
         omega (arith, ends-between demand share factor v s h .0, meets-exactly _ (inside-accepted demand share factor v s h) k .1 t)))
 
-    pub worstLetter-eq : worstLetter case forecast ≡ letterIn (answerTo worst)
+    worstLetter-eq : worstLetter case forecast ≡ letterIn (answerTo (worstCase case forecast))
     unfolding worstLetter
     worstLetter-eq =
+        let worst = worstCase case forecast in
         let own = letterIn (answerTo worst) in
         least-eq (λ n. everyCombination forecast (meetsAt n)) 7 own (letter-lt worst worst-accepted)
         (everyCombination-of forecast (meetsAt own) (λ demand share factor v s h.
@@ -262,13 +196,13 @@ module _ (case : Case) (forecast : Forecast) where
         let shown : (c : Case) → Accepted c → letterOf (letterIn (answerTo c)) ≡ measures c .performance .letter =
         λ c a. ap letterOf (letter-accepted c a) ∙ letterOf-number _ in
         unlessRefused-none _ _ ForecastAnswer.Refused (sym forecast-number ∙ z)
-        ∙ rw (bestLetter-eq, worstLetter-eq, shown best best-accepted, shown worst worst-accepted)
+        ∙ rw (bestLetter-eq, worstLetter-eq, shown (bestCase case forecast) best-accepted, shown (worstCase case forecast) worst-accepted)
 
   -- ---- what is answered by what the check found
   module _ (number : ℕ) (own : number ≡ firstRefusal (rangeRefusals case forecast)) where
     checked-number : firstRefusal (refusalsWith (found number) case) ≡ firstRefusal (forecastRefusals case forecast)
     unfolding forecastRefusals
-    checked-number = rw own (refusalsWith-found (rangeRefusals case forecast) case range-numbered)
+    checked-number = rw own (refusalsWith-found (rangeRefusals case forecast) case (range-numbered case forecast))
 
     module _ (curve : Curve) (e : checkedWith (found number) case ≡ Checked.Accepted curve) where
       passed : (firstRefusal (refusalsWith (found number) case) ≡ 0) × (curve ≡ caseCurve case)

@@ -1,5 +1,5 @@
 -- The promises of specs/Promises, proved. NoBetterUnderMoreLoad, demand 3's part 1, carries those about letters.
---   bestCase, worstCase, shown   the figures by the letters at the ends
+--   shown   the figures by the letters at the ends
 --   every-letter-between, shown-at-the-ends, met-throughout, equal-ends, own-load-is-not-read, refusals-in-order,
 --   accepted-exactly
 -- proofs/RefusedExactly has the last one.
@@ -14,9 +14,8 @@ use lib.ListN.{getD}
 use Rattle.checks.specs.Refusals.{firstRefusal}
 use Rattle.checks.proofs.RefusalLaws.{firstRefusal-none, lesserRefusal-same}
 use Rattle.road.specs.declared.Case.{Case}
-use Rattle.road.specs.Refusals.{roadRefusals, loadRefusals, weatherRefusals}
+use Rattle.road.specs.Refusals.{roadRefusals, loadRefusals, weatherRefusals, fieldRefusals}
 use Rattle.road.proofs.RefusalLaws.{load-numbered, loads-exactly}
-use Rattle.road.specs.Refusals.{fieldRefusals}
 use Rattle.method.specs.Refusals.{speedRefusals, refusals, Accepted}
 use Rattle.method.proofs.RefusalLaws.{refusalsWith-found, refusals-with, with-accepted, with-of}
 use Rattle.answer.specs.Answers.{answerTo}
@@ -28,9 +27,10 @@ use Rattle.forecast.specs.Forecasts.{forecastAnswer, values}
 use Rattle.forecast.specs.Promises.{AcceptedForecast, bestLetterIn, worstLetterIn, caseWith, EveryLetterBetween}
 use Rattle.forecast.specs.Promises.{ShownAtTheEnds, MetThroughout, EqualEnds, OwnLoadIsNotRead, AcceptedExactly}
 use Rattle.forecast.specs.Promises.{ownEnds, RefusalsInOrder}
-use Rattle.forecast.proofs.ForecastLaws.{letter-accepted, at-best, at-worst, range-numbered, range-number, range-exactly}
-use Rattle.forecast.proofs.ForecastLaws.{forecast-number, accepted-ordered, inside-accepted, best-accepted, worst-accepted}
-use Rattle.forecast.proofs.ForecastLaws.{ends-between, answer-accepted}
+use Rattle.forecast.proofs.RangeLaws.{range-numbered, range-number, range-exactly}
+use Rattle.forecast.proofs.ForecastLaws.{letter-accepted, bestCase, worstCase, at-best, at-worst, forecast-number}
+use Rattle.forecast.proofs.ForecastLaws.{accepted-ordered, inside-accepted, best-accepted, worst-accepted, ends-between}
+use Rattle.forecast.proofs.ForecastLaws.{answer-accepted}
 
 pub own-load-is-not-read : OwnLoadIsNotRead
 unfolding bestLetter worstLetter rangeRefusals forecastRefusals
@@ -40,31 +40,21 @@ pub refusals-in-order : RefusalsInOrder
 unfolding roadRefusals loadRefusals speedRefusals rangeRefusals forecastRefusals
 refusals-in-order case forecast = (forecast-number case forecast, refl)
 
--- the case with the combinations that are shown
-abbrev pub bestCase : Case → Forecast → Case
-bestCase case forecast = caseWith case (forecast .demand .low) (forecast .«heavy_share» .low) (forecast .«peak_hour_factor» .high)
-
-abbrev pub worstCase : Case → Forecast → Case
-worstCase case forecast = caseWith case (forecast .demand .high) (forecast .«heavy_share» .high) (forecast .«peak_hour_factor» .low)
-
 module _ (case : Case) (forecast : Forecast) (z : AcceptedForecast case forecast) where
-  abbrev best : Case
-  best = bestCase case forecast
-
-  abbrev worst : Case
-  worst = worstCase case forecast
-
   pub shown : values (forecastAnswer case forecast)
-      ≡ letterIn (answerTo best) ∷ forecast .demand .low ∷ forecast .«heavy_share» .low ∷ forecast .«peak_hour_factor» .high
-      ∷ letterIn (answerTo worst) ∷ forecast .demand .high ∷ forecast .«heavy_share» .high ∷ forecast .«peak_hour_factor» .low ∷ []
+      ≡ letterIn (answerTo (bestCase case forecast)) ∷ forecast .demand .low ∷ forecast .«heavy_share» .low ∷ forecast .«peak_hour_factor» .high
+      ∷ letterIn (answerTo (worstCase case forecast)) ∷ forecast .demand .high ∷ forecast .«heavy_share» .high ∷ forecast .«peak_hour_factor» .low ∷ []
   shown =
       ap values (answer-accepted case forecast z)
-      ∙ rw (letter-accepted best (best-accepted case forecast z), letter-accepted worst (worst-accepted case forecast z))
+      ∙ rw (
+        letter-accepted (bestCase case forecast) (best-accepted case forecast z),
+        letter-accepted (worstCase case forecast) (worst-accepted case forecast z),
+      )
 
-  best-in : bestLetterIn (forecastAnswer case forecast) ≡ letterIn (answerTo best)
+  best-in : bestLetterIn (forecastAnswer case forecast) ≡ letterIn (answerTo (bestCase case forecast))
   best-in = ap (λ figures. getD figures 0 0) shown
 
-  worst-in : worstLetterIn (forecastAnswer case forecast) ≡ letterIn (answerTo worst)
+  worst-in : worstLetterIn (forecastAnswer case forecast) ≡ letterIn (answerTo (worstCase case forecast))
   worst-in = ap (λ figures. getD figures 4 0) shown
 
 pub shown-at-the-ends : ShownAtTheEnds
@@ -95,7 +85,7 @@ met-throughout case forecast z n = (
     λ missed.
         lt-of-not-le (λ most.
         at-best forecast (accepted-ordered case forecast z) (λ demand share factor. Meets (caseWith case demand share factor) n → ⊥) missed
-        (answerTo-number (best case forecast z) ∙ best-accepted case forecast z, rw (best-in case forecast z) at most)),
+        (answerTo-number (bestCase case forecast) ∙ best-accepted case forecast z, rw (best-in case forecast z) at most)),
   ),
 )
 

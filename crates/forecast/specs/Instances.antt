@@ -80,11 +80,13 @@ TargetMissed =
     EveryInside (forecastOf 2643 4000 50 50 920 920) (λ demand share factor. Meets (caseWith example demand share factor) 3 → ⊥)
 
 -- The definitions themselves, with no law: a demand of 1,650 to 1,652, a share of 0 to 1 and a factor of 999 to 1,000 get A at best and B
--- at worst; 1,650 with 0 and 1,000, a flow rate of 825, the last of A, gets A; 1,652 with 1 and 999 gets B.
+-- at worst; 1,650 with 0 and 1,000, a flow rate of 825, the last of A, gets A, and so does 825 with heavy vehicles only, as the terrain is
+-- level; 1,652 with 1 and 999 gets B.
 unfoldable pub computedInstances : List Figure
 computedInstances =
     figure (lettersOf levelFreeway (forecastOf 1650 1652 0 1 999 1000)) (1 ∷ 2 ∷ [])
     ∷ figure (lettersOf levelFreeway (forecastOf 1650 1650 0 0 1000 1000)) (1 ∷ 1 ∷ [])
+    ∷ figure (lettersOf levelFreeway (forecastOf 825 825 1000 1000 1000 1000)) (1 ∷ 1 ∷ [])
     ∷ figure (lettersOf levelFreeway (forecastOf 1652 1652 1 1 999 999)) (2 ∷ 2 ∷ [])
     ∷ []
 

@@ -1,5 +1,5 @@
 -- What a reader of an answer is promised (document 02, T-07), over the definitions that the contract of `evaluate_forecast` cites and the
--- engine's own; proofs/Promises proves each.
+-- engine's own; proofs/Promises proves each but the last, and proofs/RefusedExactly that.
 --   AcceptedForecast case forecast   nothing refuses the case with the forecast
 --   bestLetterIn a, worstLetterIn a   the numbers of the two letters in an answer
 --   caseWith case demand share factor   the case with these three in the place of its own, all other fields kept
@@ -13,7 +13,8 @@
 --   EqualEnds                    equal ends give the plain letter twice, or the refusal of the plain case
 --   OwnLoadIsNotRead             cases that agree in road, lanes, terrain and weather get one answer
 --   Ordered forecast             no low end is above its high end
---   BothAtMost most range, BothFrom least most range   the ends of a range that 7 and 9, and that 8, let pass
+--   BothAtMost most range        no end is above a number
+--   DemandPasses, FactorPasses, SharePasses forecast   what 7, 8 and 9 let pass
 --   AcceptedExactly              accepted exactly when no range is reversed and every whole combination within the ends is accepted
 --   RefusalsInOrder              the list has these numbers, in this order
 --   RefusedExactly               1 to 6 as the engine has them, whatever the ends; then 22 exactly by a reversed range; then 7, 8 and 9
@@ -132,22 +133,26 @@ RefusalsInOrder =
 abbrev pub BothAtMost : ℕ → Range → Type 0
 BothAtMost most range = (range .low ≤ most) × (range .high ≤ most)
 
--- no end is below the one number or above the other
-abbrev pub BothFrom : ℕ → ℕ → Range → Type 0
-BothFrom least most range = (least ≤ range .low) × (least ≤ range .high) × BothAtMost most range
+-- "Checks 7 to 9 hold for both ends"
+abbrev pub DemandPasses : Forecast → Type 0
+DemandPasses forecast = BothAtMost greatestDemand (forecast .demand)
+
+abbrev pub FactorPasses : Forecast → Type 0
+FactorPasses forecast =
+    let range = forecast .«peak_hour_factor» in (250 ≤ range .low) × (250 ≤ range .high) × BothAtMost 1000 range
+
+abbrev pub SharePasses : Forecast → Type 0
+SharePasses forecast = BothAtMost 1000 (forecast .«heavy_share»)
 
 abbrev pub RefusedExactly : Type 0
 RefusedExactly =
     (case : Case) (forecast : Forecast)
     → let number = refusalNumber (forecastAnswer case forecast) in
-    let demands = BothAtMost greatestDemand (forecast .demand) in
-    let factors = BothFrom 250 1000 (forecast .«peak_hour_factor») in
-    let shares = BothAtMost 1000 (forecast .«heavy_share») in
     ((n : ℕ) → 1 ≤ n → n ≤ 6 → (number ≡ n) ↔ (refusal case ≡ n))
     × ((number ≡ 22) ↔ (SectionFits case × (Ordered forecast → ⊥)))
     × (SectionFits case → Ordered forecast
-    → ((number ≡ 7) ↔ (demands → ⊥))
-    × ((number ≡ 8) ↔ (demands × (factors → ⊥)))
-    × ((number ≡ 9) ↔ (demands × factors × (shares → ⊥)))
-    × (demands → factors → shares
+    → ((number ≡ 7) ↔ (DemandPasses forecast → ⊥))
+    × ((number ≡ 8) ↔ (DemandPasses forecast × (FactorPasses forecast → ⊥)))
+    × ((number ≡ 9) ↔ (DemandPasses forecast × FactorPasses forecast × (SharePasses forecast → ⊥)))
+    × (DemandPasses forecast → FactorPasses forecast → SharePasses forecast
     → number ≡ refusal (caseWith case (forecast .demand .low) (forecast .«heavy_share» .low) (forecast .«peak_hour_factor» .high))))

@@ -57,6 +57,7 @@ pub struct Outcome {
 }
 
 pub enum ForecastAnswer {
+    // the best and the worst
     Graded(Outcome, Outcome),
     Refused(u64),
 }

@@ -4,8 +4,7 @@
 --   positive-is, positive-fits   a count or a speed
 --   Replied                  a call's result and its lent memory afterwards are those of a reply
 --   wrote, wrote-reply, refused-reply   a reply that was written; the same in bytes; a refusal
---   call-lent, call-refused, call-case, call-wrote   a call over a line that was read: refused lent memory; no case; a case that another
---                            function answers; a case that was answered
+--   call-lent, call-refused, call-wrote   a call over a line that was read: refused lent memory; no case; a case that was answered
 --   buffer-short, buffer-fits   a buffer that 17 refuses; one that it does not
 --   call-short, call-malformed, call-read   a call that lends one: 17; 15; a case that another function answers
 --   FiguresFit, figures-written, figures-refused   an answer in figures: so many, or a refusal
@@ -35,7 +34,7 @@ use Rattle.lines.specs.declared.read.LineRead.the-variants as LineRead
 use Rattle.lines.specs.Reading.{readLine}
 use Rattle.lines.proofs.ReadingLaws.{readLine-refused}
 use Rattle.marehour.specs.Calls.{Reply, writes, refusal, countText, figuresReply, lineReply, lineCall, bufferRefusals}
-use Rattle.marehour.specs.Calls.{handedBack, result, content}
+use Rattle.marehour.specs.Calls.{handedBack, content}
 
 -- ---- numbers in 32 bits
 small : (n : ℕ) → n ≤ 90000 → n < 2147483648
@@ -91,7 +90,7 @@ module _ (count : List ℕ → ℕ) where
       call-refused z n k is e = refused-reply z n _ old k e (read ∙ ap (lineReply reply) is)
 
       -- the result and the lent memory are those that another function left
-      pub call-case : (z : ℤ) (case : Case) (new : List ℕ) → r ≡ LineRead.Case case → SFits w32 z
+      call-case : (z : ℤ) (case : Case) (new : List ℕ) → r ≡ LineRead.Case case → SFits w32 z
           → Replied z new (reply case) old → Replied (toZ w32 (ofZ w32 z)) new (lineCall reply r lent) old
       call-case z case new is f (e, k) =
           let same = read ∙ ap (lineReply reply) is in

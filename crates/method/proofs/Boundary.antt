@@ -24,7 +24,7 @@ use Rattle.method.specs.Refusals.{speedRefusals, refusals}
 use Rattle.method.specs.Checked.{curveOf}
 use Rattle.method.specs.Flow.{heavyFactor, flowRate}
 use Rattle.method.specs.Assess.{measures}
-use Rattle.method.specs.Boundary.{orderFigures, weatherFigures, speedFigures, clearanceFigures, boundaryFigures}
+use Rattle.method.specs.Boundary.{limitFigures, orderFigures, weatherFigures, speedFigures, clearanceFigures, boundaryFigures}
 
 pub ramp-6 : rampTerm 6 ≡ 3220
 unfolding endsAt rampAtMost
@@ -46,9 +46,13 @@ power-1000 : power 1000 ≡ 1000000
 unfolding startsAt reachesPower
 power-1000 = power-eq 1000 1000000 (omega arith) tt
 
+limits-shown : Shown limitFigures
+unfolding uncappedBy freeFlowSpeed weatherUnfit roadRefusals loadRefusals fieldRefusals adjustedSpeed speedRefusals refusals limitFigures
+limits-shown = (refl, (refl, (refl, (refl, (refl, (refl, (refl, (refl, (refl, (refl, (refl, (refl, tt))))))))))))
+
 order-shown : Shown orderFigures
 unfolding uncappedBy freeFlowSpeed weatherUnfit roadRefusals loadRefusals fieldRefusals adjustedSpeed speedRefusals refusals orderFigures
-order-shown = (refl, tt)
+order-shown = (refl, limits-shown)
 
 weather-shown : Shown weatherFigures
 unfolding divUp uncappedBy freeFlowSpeed weatherUnfit roadRefusals loadRefusals fieldRefusals adjustedSpeed speedRefusals refusals capacity

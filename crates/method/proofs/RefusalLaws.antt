@@ -7,7 +7,7 @@
 --   with-of                where the first two do not refuse, 19 and 10 decide
 --   refusalsWith-fields    a case that 1 to 6, a number in the place of 7 to 9, and 19 do not refuse: 10 decides
 --   refusals-fields        a case that 1 to 9 and 19 do not refuse: 10 decides
---   accepted-of, accepted-fields     what is accepted: neither 1 to 9 and 19 nor 10 refuse it
+--   accepted-fields        what is accepted: neither 1 to 9 nor 19 refuse it
 --   accepted-speed, accepted-adjusted   F of an accepted case is at its lower end or above, before its factor and after it
 --   refusal-within, refusal-above   the refusal of a case by that of the same case with no demand: the same with every demand up to the
 --                          greatest; with a greater one 7, unless one of 1 to 6 comes before it
@@ -90,9 +90,6 @@ parts case a = firstRefusal-join (fieldRefusals case) (ownSpeed case) (fields-nu
 
 pub accepted-fields : (case : Case) → Accepted case → FieldsFit case
 accepted-fields case a = parts case a .0
-
-pub accepted-of : (case : Case) → FieldsFit case → firstRefusal (ownSpeed case) ≡ 0 → Accepted case
-accepted-of case f s = refusals-fields case f ∙ s
 
 pub accepted-speed : (case : Case) → Accepted case → lowestSpeed (case .road .kind) ≤ freeFlowSpeed (case .road) (case .lanes)
 unfolding speedRefusals

@@ -5,8 +5,8 @@
 --   twoLanes road v  the same in clear weather
 --   example          the printed line's case
 --   refusedByAll     a case that breaks 1 to 9, 19 and 10
---   boundaryFigures, clearanceFigures, speedFigures, weatherFigures, orderFigures   the list, and its last parts, each the end of the one
---                    before
+--   boundaryFigures, clearanceFigures, speedFigures, weatherFigures, orderFigures, limitFigures   the list, and its last parts, each the
+--                    end of the one before
 -- Assumes nothing.
 use mathlib.Core.List.{List, [], _∷_, map}
 use Prim.Native.Nat.{ℕ}
@@ -79,6 +79,37 @@ faulty speed width right median access lanes demand factor share speedFactor =
 abbrev pub refusedByAll : Case
 refusedByAll = faulty 0 99 401 Median.Undivided 49 1 1000000 249 1001 499
 
+-- The numbers that 1 to 9 leave at the ends of each range, and those past them: speed, width, clearance on either side, medians of kind F and
+-- of kind M, ramps and access, lanes of kind F and of kind M, demand, peak-hour factor, heavy share. 10 refuses a given speed of 30,000.
+unfoldable pub limitFigures : List Figure
+limitFigures =
+    figure (map (λ f. refusal (twoLanes (given Kind.Freeway f 120) 0)) (29999 ∷ 30000 ∷ 90000 ∷ 90001 ∷ [])) (1 ∷ 10 ∷ 0 ∷ 1 ∷ [])
+    ∷ figure (map (λ w. refusal (twoLanes (given Kind.Freeway 60000 w) 0)) (99 ∷ 100 ∷ 200 ∷ 201 ∷ [])) (2 ∷ 0 ∷ 0 ∷ 2 ∷ [])
+    ∷ figure (freeway 400 400 Median.Divided 0 ∷ freeway 401 0 Median.Divided 0 ∷ freeway 0 401 Median.Divided 0 ∷ []) (0 ∷ 3 ∷ 3 ∷ [])
+    ∷ figure (map (λ m. freeway 60 60 m 0) medians) (4 ∷ 0 ∷ 4 ∷ [])
+    ∷ figure (map (λ m. multilaneWith m 0) medians) (0 ∷ 0 ∷ 0 ∷ [])
+    ∷ figure (map (freeway 60 60 Median.Divided) (48 ∷ 49 ∷ [])) (0 ∷ 5 ∷ [])
+    ∷ figure (map (multilaneWith Median.Divided) (200 ∷ 201 ∷ [])) (0 ∷ 5 ∷ [])
+    ∷ figure (map (λ n. loadedBy Kind.Freeway n 0 1000 0) (1 ∷ 2 ∷ 8 ∷ 9 ∷ [])) (6 ∷ 0 ∷ 0 ∷ 6 ∷ [])
+    ∷ figure (map (λ n. loadedBy Kind.Multilane n 0 1000 0) (1 ∷ 2 ∷ 3 ∷ 4 ∷ [])) (6 ∷ 0 ∷ 0 ∷ 6 ∷ [])
+    ∷ figure (map (λ v. loadedBy Kind.Freeway 2 v 1000 0) (99999 ∷ 100000 ∷ [])) (0 ∷ 7 ∷ [])
+    ∷ figure (map (λ h. loadedBy Kind.Freeway 2 0 h 0) (249 ∷ 250 ∷ 1000 ∷ 1001 ∷ [])) (8 ∷ 0 ∷ 0 ∷ 8 ∷ [])
+    ∷ figure (map (λ p. loadedBy Kind.Freeway 2 0 1000 p) (1000 ∷ 1001 ∷ [])) (0 ∷ 9 ∷ [])
+    ∷ []
+  where
+    medians : List Median
+    medians = Median.Undivided ∷ Median.Divided ∷ Median.TwoWayLeftTurnLane ∷ []
+
+    -- kind F: right and left clearance, median, ramps
+    freeway : ℕ → ℕ → Median → ℕ → ℕ
+    freeway r l m access = refusal (twoLanes (road Kind.Freeway Way.Given 60000 120 r l m access) 0)
+
+    multilaneWith : Median → ℕ → ℕ
+    multilaneWith m access = refusal (twoLanes (road Kind.Multilane Way.Given 60000 120 60 60 m access) 0)
+
+    loadedBy : Kind → (lanes demand factor share : ℕ) → ℕ
+    loadedBy kind lanes demand factor share = refusal (loaded (given kind 60000 120) lanes demand factor share Terrain.Level clear)
+
 -- The order of refusals: a case that breaks all of 1 to 9, 19 and 10, and then without its first fault, again and again.
 unfoldable pub orderFigures : List Figure
 orderFigures =
@@ -98,7 +129,7 @@ orderFigures =
     ∷ []
     )
     (1 ∷ 2 ∷ 3 ∷ 4 ∷ 5 ∷ 6 ∷ 7 ∷ 8 ∷ 9 ∷ 19 ∷ 10 ∷ 0 ∷ [])
-    ∷ []
+    ∷ limitFigures
 
 -- Under snow or rain (document 02, T-03): b rounded down once; b and c from F after its factor, below the breakpoint and past it; F, c and
 -- b each with a fraction above a half; the upper end before the factor; F, c and both factors at once; 50,000 after the factor, and 55,000
@@ -166,7 +197,7 @@ clearanceFigures =
 -- Of a case that is accepted 0, and then letter, F, c, v, speed and density, of one that is refused its number. A is 1 and F is 6.
 -- Starred in document 01: all down to the right clearance of 59, which takes off 60 by document 02. Not starred: no demand; two letters
 -- that the shown speed would miss; a case that breaks 1 and 2; the curve of a case and its refusal; more clearances; snow and rain; the
--- order of refusals.
+-- order of refusals; the ends that they leave.
 unfoldable pub boundaryFigures : List Figure
 boundaryFigures =
     figure (assessed example) (0 ∷ 3 ∷ 60783 ∷ 230783 ∷ 1196 ∷ 60783 ∷ 197 ∷ [])

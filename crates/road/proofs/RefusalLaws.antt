@@ -1,7 +1,6 @@
 -- Refusals 1 to 9 and 19 (specs/Refusals).
 --   fieldRefusals-found  the number of 7 to 9 stands for them
 --   with-parts           a case that 1 to 6, a number in the place of 7 to 9, and 19 do not refuse: none of the three does
---   fields-parts, fields-of   a case that none of them refuses: neither 1 to 6 nor 7 to 9 nor 19 do; the converse
 --   section-road, fields-road   a case that none of 1 to 6 refuses, or none of them: 1 to 5 do not refuse its road
 --   road-numbered, section-numbered, load-numbered, fields-numbered   every number is above 0
 --   RoadEnds, road-ends  the ends that 1 and 5 leave to a road
@@ -60,11 +59,12 @@ with-parts case loads z =
     let q = found-none loads (weatherRefusals case) (p .1) in
     (p .0, q .0, q .1)
 
-pub fields-parts : (case : Case) → FieldsFit case
+-- a case that none of them refuses: neither 1 to 6 nor 7 to 9 nor 19 do; and the converse
+fields-parts : (case : Case) → FieldsFit case
     → SectionFits case × (firstRefusal (loadRefusals case) ≡ 0) × (firstRefusal (weatherRefusals case) ≡ 0)
 fields-parts case z = with-parts case (firstRefusal (loadRefusals case)) (fieldRefusals-found case ∙ z)
 
-pub fields-of : (case : Case) → SectionFits case → firstRefusal (loadRefusals case) ≡ 0 → firstRefusal (weatherRefusals case) ≡ 0
+fields-of : (case : Case) → SectionFits case → firstRefusal (loadRefusals case) ≡ 0 → firstRefusal (weatherRefusals case) ≡ 0
     → FieldsFit case
 unfolding fieldRefusals
 fields-of case s l w =

@@ -1,7 +1,7 @@
 -- `forecast::range_refusal` meets its contract: 22 as in the list, and of 7 to 9 at the two ends the lesser, as they are asked by turns.
 -- Assumes nothing.
 use mathlib.Core.Path.{sym}
-use Rattle.forecast.proofs.ForecastLaws.{range-number}
+use Rattle.forecast.proofs.RangeLaws.{range-number}
 use borrow.Author.Needs.{needs}
 use Rattle.forecast.proofs.range_refusal.Statement.{statement}
 use Rattle.forecast.proofs.range_refusal.Tie as tie
