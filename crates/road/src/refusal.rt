@@ -138,16 +138,17 @@ pub fn load_refusal(case: Case) -> u64
 pub fn field_refusal_with(case: Case, loads: u64) -> u64
     ensures { λ r. ⌜ r ≡ firstRefusal (fieldRefusalsWith (found loads) case) ⌝ }
 {
+    let number = section_refusal(case);
+    if 0 < number {
+        return number;
+    }
+    if 0 < loads {
+        return loads;
+    }
     let road = case.road;
     let kind = road.kind;
     let weather = case.weather;
-    let unfit = weather_unfit(kind, weather);
-    let number = section_refusal(case);
-    refused_if(
-        0 < number,
-        number,
-        refused_if(0 < loads, loads, refused_if(unfit, WEATHER_UNFIT, 0)),
-    )
+    refused_if(weather_unfit(kind, weather), WEATHER_UNFIT, 0)
 }
 
 pub fn field_refusal(case: Case) -> u64
