@@ -2,6 +2,8 @@
 //   outside      whether a number is out of a range
 //   refused_if   one line of a list of refusals
 //   lesser_refusal   the first of two lists with the same rising numbers that are asked by turns
+#![tactic(auto)]
+
 ghost use Rattle.std.specs.Prelude.{◌≡◌, cond};
 ghost use Rattle.checks.specs.Refusals.{outside, lesser_refusal};
 

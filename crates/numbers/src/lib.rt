@@ -2,6 +2,8 @@
 //   Fraction   an exact fraction
 //   lesser     the lesser of two numbers
 //   div_up     division rounded up
+#![tactic(auto)]
+
 ghost use Rattle.std.specs.Prelude.{◌≡◌, ◌<◌, min};
 ghost use Rattle.numbers.specs.Division.{div_up};
 

@@ -1,6 +1,8 @@
 // Powers: T(i), the power 1.31 of i thousandths in millionths, i from 0 to 1,000.
 //   power_table   the table of powers
 //   power         T(i), from it
+#![tactic(auto)]
+
 mod table;
 
 ghost use Rattle.std.specs.Prelude.{◌≡◌, ◌≤◌};

@@ -4,6 +4,8 @@
 //   Survey           that speed, the cars counted and the flow
 //   SurveyAnswer     a speed or a refusal
 //   surveyed_speed   for any survey at all
+#![tactic(auto)]
+
 ghost use Rattle.std.specs.Prelude.{◌≡◌};
 ghost use Rattle.std.specs.Float.{binary32};
 ghost use Rattle.std.specs.Float.Ieee.{of_bits};

@@ -2,6 +2,8 @@
 //   parts     where a part of a slice of bytes ends
 //   decimal   numbers as text
 //   buffer    numbers as they are
+#![tactic(auto)]
+
 pub mod buffer;
 pub mod decimal;
 pub mod parts;

@@ -3,12 +3,9 @@
 use mathlib.Core.Path.{refl, sym}
 use Rattle.powers.proofs.PowerTable.{power_table}
 use Rattle.powers.proofs.PowerLaws.{power_table-at}
-use Rattle.powers.proofs.power_table.Statement.{statement}
-use Rattle.powers.proofs.power_table.Tie as tie
+use Rattle.powers.proofs.power_table.Goals as goal
 
-returns : tie.Need-returns
+pub returns : goal.returns
 unfolding power_table
-returns c = (refl, λ i h. sym (power_table-at i h))
-
-pub power-table-spec : {M : Type 1} → statement M
-power-table-spec = tie.close (tie.spec returns)
+returns c =
+    (refl, λ i h. sym (power_table-at i h))

@@ -1,0 +1,20 @@
+-- `text::buffer::put_numbers` meets its contract: each turn writes one number behind those before it.
+-- Assumes nothing.
+use mathlib.Core.Path.{◌≡◌, refl, sym, ap, ◌∙◌}
+use mathlib.Core.List.{[], ◌∷◌, ◌++◌}
+use Prim.Native.Nat.{◌+◌, ◌-◌, ◌≤◌}
+use native.Mathlib.Nat.{add-zero}
+use native.Mathlib.Numerals.{add-one}
+use native.Mathlib.Omega.{arith}
+use lib.ListN.{length, take, get_or, length-set}
+use lib.Seq.{length-take-le, take-suc, take_all}
+use Rattle.text.specs.Buffer.{Wrote}
+use Rattle.text.proofs.BufferLaws.{none_written, then-byte}
+use borrow.Author.Rules.{rules}
+use Rattle.text.proofs.buffer.put_numbers.Given as goal
+
+abbrev pub invariant-loop-i : goal.invariant-loop-i
+invariant-loop-i l = (l.i ≤ length l.numbers) × (length l.out ≡ length l.initial.out) × Wrote (take l.i l.numbers) l.at l.initial.out l.out l.p
+
+abbrev pub decreases-loop-i : goal.decreases-loop-i
+decreases-loop-i l = length l.numbers - l.i

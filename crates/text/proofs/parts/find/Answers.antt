@@ -1,0 +1,35 @@
+-- `text::parts::find` meets its contract: the bytes passed are not the one sought, so the count from the start and the count from here
+-- differ by them.
+-- Assumes nothing.
+use mathlib.Core.Path.{◌≡◌, refl, sym, ◌∙◌}
+use Prim.Native.Nat.{◌+◌, ◌-◌, ◌≤◌}
+use native.Mathlib.Omega.{arith}
+use lib.ListN.{length, drop}
+use Rattle.text.specs.Parts.{count_before}
+use Rattle.text.proofs.PartsLaws.{count_before-hit, count_before-miss, count_before-end}
+use borrow.Author.Rules.{rules}
+use Rattle.text.proofs.parts.find.Goals as goal
+
+pub loop-i-init : goal.loop-i-init
+loop-i-init c =
+    (search rules, refl)
+
+pub returns-then-bytes-i : goal.returns-then-bytes-i
+returns-then-bytes-i c =
+    let l = c in record {
+      value = sym (l.loop-i.invariant.1 ∙ count_before-hit l.args.b l.args.bytes.now l.loop-i.i (omega arith)
+          c.if-bytes-i.true);
+      upper_bound = search rules;
+    }
+
+pub loop-i-preserved : goal.loop-i-preserved
+loop-i-preserved c =
+    let l = c in (
+      search rules,
+      l.loop-i.invariant.1 ∙ count_before-miss l.args.b l.args.bytes.now l.loop-i.i
+          (omega arith) c.if-bytes-i.false,
+    )
+
+pub returns : goal.returns
+returns c =
+    let l = c in record { value = sym (l.loop-i.invariant.1 ∙ count_before-end l.args.b l.args.bytes.now l.loop-i.i (omega arith)); upper_bound = search rules }
