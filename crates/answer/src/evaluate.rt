@@ -30,7 +30,7 @@ use method::flow::Load;
 use method::{assess, checked, flow};
 use road::{Case, refusal};
 
-#[derive(Drop)]
+#[derive(Clone, Copy)]
 pub struct Volumes {
     pub a: u64,
     pub b: u64,
@@ -39,7 +39,7 @@ pub struct Volumes {
     pub e: u64,
 }
 
-#[derive(Drop)]
+#[derive(Clone, Copy)]
 pub struct Grade {
     pub letter: Letter,
     pub free_flow_speed: u64,
@@ -54,27 +54,27 @@ pub struct Grade {
     pub volume_e: u64,
 }
 
-#[derive(Drop)]
+#[derive(Clone, Copy)]
 pub enum Answer {
     Graded(Grade),
     Refused(u64),
 }
 
 // What a search finds, and how many demands it tries.
-#[derive(Drop)]
+#[derive(Clone, Copy)]
 pub struct Found {
     pub demand: u64,
     pub tries: u64,
 }
 
 // The same of the five searches together.
-#[derive(Drop)]
+#[derive(Clone, Copy)]
 pub struct FoundVolumes {
     pub volumes: Volumes,
     pub tries: u64,
 }
 
-#[derive(Drop)]
+#[derive(Clone, Copy)]
 pub struct CountedAnswer {
     pub answer: Answer,
     pub tries: u64,

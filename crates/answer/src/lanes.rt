@@ -16,7 +16,7 @@ pub const NO_LANE_COUNT: u64 = 14;
 
 pub const LETTER_UNKNOWN: u64 = 16;
 
-#[derive(Drop)]
+#[derive(Clone, Copy)]
 pub enum LanesAnswer {
     Lanes(u64),
     Refused(u64),

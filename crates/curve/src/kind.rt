@@ -10,11 +10,11 @@ ghost use Rattle.std.specs.Prelude.{◌≡◌};
 ghost use Rattle.curve.specs.Kinds.{lowest_speed, highest_speed, lowest_adjusted_speed, lowest_factor, fewest_lanes, most_lanes};
 
 // Kind F: a basic freeway segment.
-#[derive(Drop)]
+#[derive(Clone, Copy)]
 pub struct Freeway;
 
 // Kind M: a multilane highway.
-#[derive(Drop)]
+#[derive(Clone, Copy)]
 pub struct Multilane;
 
 impl Freeway {
@@ -53,7 +53,7 @@ impl Multilane {
     pub const HIGHEST_CAPACITY: u64 = 230_000;
 }
 
-#[derive(Drop)]
+#[derive(Clone, Copy)]
 pub enum Kind {
     Freeway,
     Multilane,

@@ -5,6 +5,8 @@
 //   curve_under  the curve of a kind at a free-flow speed under weather
 //   speed        the terms of a curve, and speed as an exact fraction
 //   service      speed and density as they are shown, and the letter
+#![tactic(auto)]
+
 pub mod kind;
 pub mod service;
 pub mod speed;
@@ -17,7 +19,7 @@ ghost use Rattle.curve.specs.Weather.{FactorsFit, adjusted_speed, curve_under};
 use crate::kind::{Freeway, Kind, Multilane};
 use numbers::lesser;
 
-#[derive(Drop)]
+#[derive(Clone, Copy)]
 pub struct Curve {
     pub kind: Kind,
     // thousandths of mi/h
@@ -29,7 +31,7 @@ pub struct Curve {
 }
 
 // Snow or rain. Any number may stand in a field; refusal 19 says which are fit.
-#[derive(Drop)]
+#[derive(Clone, Copy)]
 pub struct Weather {
     // thousandths, on the free-flow speed
     pub speed_factor: u64,

@@ -13,7 +13,7 @@ ghost use Rattle.curve.specs.Service.{letter_number, density_letter, performance
 use crate::kind::Kind;
 use crate::speed::{CurveTerms, exact_speed};
 
-#[derive(Drop)]
+#[derive(Clone, Copy)]
 pub enum Letter {
     A,
     B,
@@ -23,7 +23,7 @@ pub enum Letter {
     F,
 }
 
-#[derive(Drop)]
+#[derive(Clone, Copy)]
 pub struct Performance {
     // thousandths of mi/h, 0 above capacity
     pub speed: u64,

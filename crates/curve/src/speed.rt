@@ -11,7 +11,7 @@ use crate::Curve;
 use crate::kind::Kind;
 use numbers::Fraction;
 
-#[derive(Drop)]
+#[derive(Clone, Copy)]
 pub struct CurveTerms {
     pub curve: Curve,
     // the greatest flow rate up to capacity

@@ -30,13 +30,13 @@ pub const DAILY_TRAFFIC_TOO_LARGE: u64 = 21;
 
 pub const FIGURES: usize = 16;
 
-#[derive(Drop)]
+#[derive(Clone, Copy)]
 pub struct Shares {
     pub peak: u64,
     pub direction: u64,
 }
 
-#[derive(Drop)]
+#[derive(Clone, Copy)]
 pub enum DailyAnswer {
     Graded(Grade, Volumes),
     Refused(u64),

@@ -34,7 +34,7 @@ pub const FIGURES: usize = 12;
 
 pub const DAY_UNFIT: u64 = 18;
 
-#[derive(Drop)]
+#[derive(Clone, Copy)]
 pub enum DayAnswer {
     Answered(u64),
     Refused(u64),

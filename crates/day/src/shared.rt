@@ -12,7 +12,7 @@ use method::assess::CaseTerms;
 use road::Case;
 use road::refusal::{DEMAND_TOO_LARGE, GREATEST_DEMAND};
 
-#[derive(Drop)]
+#[derive(Clone, Copy)]
 pub enum Shared {
     Accepted(Volumes, CaseTerms),
     Refused(u64),

@@ -28,13 +28,13 @@ pub const ENDS_REVERSED: u64 = 22;
 
 pub const FIGURES: usize = 8;
 
-#[derive(Drop)]
+#[derive(Clone, Copy)]
 pub struct Range {
     pub low: u64,
     pub high: u64,
 }
 
-#[derive(Drop)]
+#[derive(Clone, Copy)]
 pub struct Forecast {
     pub demand: Range,
     // thousandths
@@ -43,20 +43,20 @@ pub struct Forecast {
     pub peak_hour_factor: Range,
 }
 
-#[derive(Drop)]
+#[derive(Clone, Copy)]
 pub struct Combination {
     pub demand: u64,
     pub heavy_share: u64,
     pub peak_hour_factor: u64,
 }
 
-#[derive(Drop)]
+#[derive(Clone, Copy)]
 pub struct Outcome {
     pub letter: Letter,
     pub combination: Combination,
 }
 
-#[derive(Drop)]
+#[derive(Clone, Copy)]
 pub enum ForecastAnswer {
     // the best and the worst
     Graded(Outcome, Outcome),

@@ -10,19 +10,19 @@ ghost use Rattle.lines.specs.Fields as fields;
 ghost use Rattle.lines.specs.Fields.{digits, digit, number, letter, layout, field_at, completed, values_of};
 ghost use Rattle.lines.specs.Places.{field_end, field_from, DigitsRead, ReadAs, values_in};
 
-#[derive(Drop)]
+#[derive(Clone, Copy)]
 pub enum FieldValue {
     Value(u64),
     Malformed,
 }
 
-#[derive(Drop)]
+#[derive(Clone, Copy)]
 pub struct FieldRead {
     pub value: FieldValue,
     pub end: usize,
 }
 
-#[derive(Drop)]
+#[derive(Clone, Copy)]
 pub struct FieldValues {
     pub well_formed: bool,
     pub values: [u64; 15],

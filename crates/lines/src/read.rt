@@ -26,7 +26,7 @@ const DIVIDED: u64 = b'D' as u64;
 
 const LEVEL: u64 = b'L' as u64;
 
-#[derive(Drop)]
+#[derive(Clone, Copy)]
 pub enum LineRead {
     Case(Case),
     Refused(u64),

@@ -15,7 +15,7 @@ use libc::{STDERR_FILENO, STDIN_FILENO, STDOUT_FILENO};
 use replies::block;
 
 // After a step: the bytes held, whether there may be more, and whether reading and writing went well.
-#[derive(Drop)]
+#[derive(Clone, Copy)]
 struct Step {
     held: usize,
     more: bool,

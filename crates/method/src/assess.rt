@@ -19,20 +19,20 @@ use curve::speed::CurveTerms;
 use curve::{Curve, service, speed};
 use road::Case;
 
-#[derive(Drop)]
+#[derive(Clone, Copy)]
 pub struct CaseTerms {
     pub load: Load,
     pub curve_terms: CurveTerms,
 }
 
-#[derive(Drop)]
+#[derive(Clone, Copy)]
 pub struct Measures {
     pub curve: Curve,
     pub flow_rate: u64,
     pub performance: Performance,
 }
 
-#[derive(Drop)]
+#[derive(Clone, Copy)]
 pub enum Assessment {
     Measured(Measures),
     Refused(u64),

@@ -15,7 +15,7 @@ use road::{Case, Road, free_flow, refusal};
 
 pub const SPEED_BELOW_LOWER_END: u64 = 10;
 
-#[derive(Drop)]
+#[derive(Clone, Copy)]
 pub enum Checked {
     Accepted(Curve),
     Refused(u64),

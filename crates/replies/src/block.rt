@@ -15,7 +15,7 @@ ghost use Rattle.replies.specs.Output.{line_texts};
 use crate::write::{LONGEST_ANSWER, answer_line};
 use lines::read::LONGEST_LINE;
 
-#[derive(Drop)]
+#[derive(Clone, Copy)]
 pub struct Progress {
     pub read: usize,
     pub written: usize,
@@ -40,7 +40,7 @@ pub fn answer_block(block: &[u8], out: &mut [u8]) -> Progress
     Progress { read, written }
 }
 
-#[derive(Drop)]
+#[derive(Clone, Copy)]
 pub struct Turn {
     pub carried: usize,
     pub written: usize,

@@ -18,14 +18,14 @@ use curve::Weather;
 use curve::kind::Kind;
 
 // How free-flow speed is had: E from a base speed, G as it is given.
-#[derive(Drop)]
+#[derive(Clone, Copy)]
 pub enum Way {
     Estimated,
     Given,
 }
 
 // U, D and T.
-#[derive(Drop)]
+#[derive(Clone, Copy)]
 pub enum Median {
     Undivided,
     Divided,
@@ -33,7 +33,7 @@ pub enum Median {
 }
 
 // L and R.
-#[derive(Drop)]
+#[derive(Clone, Copy)]
 pub enum Terrain {
     Level,
     Rolling,
@@ -41,7 +41,7 @@ pub enum Terrain {
 
 // What is the same on the same road. Lengths are tenths of a foot. Any number may stand in a number's field, here and in a case; refusals
 // say which are fit.
-#[derive(Drop)]
+#[derive(Clone, Copy)]
 pub struct Road {
     pub kind: Kind,
     pub way: Way,
@@ -55,7 +55,7 @@ pub struct Road {
     pub access: u64,
 }
 
-#[derive(Drop)]
+#[derive(Clone, Copy)]
 pub struct Case {
     pub road: Road,
     pub lanes: u64,

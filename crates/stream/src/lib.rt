@@ -1,5 +1,7 @@
 // Stream: what a turn over the held bytes of an input carries over to the next.
 //   carry_over   the bytes behind the answered lines, to the start of the buffer
+#![tactic(auto)]
+
 ghost use Rattle.std.specs.Prelude.{◌≡◌, ◌++◌, ◌+◌, ◌-◌, ◌≤◌, length, take, drop};
 ghost use Rattle.stream.specs.Turns.{cut_off};
 

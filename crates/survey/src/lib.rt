@@ -34,20 +34,20 @@ const KILOMETRE: u64 = 1_000_000;
 // Of an f32's bits 1 is the sign, 8 are the exponent and 23 the digits below the leading one. This is the leading one's weight.
 const LEADING: u64 = 8_388_608;
 
-#[derive(Drop)]
+#[derive(Clone, Copy)]
 pub enum SurveyedSpeed {
     MilesPerHour(f32),
     KilometresPerHour(f32),
 }
 
-#[derive(Drop)]
+#[derive(Clone, Copy)]
 pub struct Survey {
     pub speed: SurveyedSpeed,
     pub cars: u64,
     pub flow: u64,
 }
 
-#[derive(Drop)]
+#[derive(Clone, Copy)]
 pub enum SurveyAnswer {
     Speed(u64),
     Refused(u64),

@@ -1,0 +1,16 @@
+-- `stream::move_to_start` meets its contract: a byte is moved to a place before its own, so those not yet moved are as they were.
+-- Assumes nothing.
+use mathlib.Core.Path.{◌≡◌, refl}
+use mathlib.Core.List.{◌++◌}
+use Prim.Native.Nat.{◌-◌, ◌≤◌}
+use native.Mathlib.Omega.{arith}
+use lib.ListN.{length, take, drop, length-set}
+use Rattle.stream.proofs.CarryLaws.{moved}
+use borrow.Author.Rules.{rules}
+use Rattle.stream.proofs.move_to_start.Given as goal
+
+abbrev pub invariant-loop-i : goal.invariant-loop-i
+invariant-loop-i l = (l.i ≤ l.n) × (length l.buffer ≡ length l.initial.buffer) × (l.buffer ≡ take l.i (drop l.from l.initial.buffer) ++ drop l.i l.initial.buffer)
+
+abbrev pub decreases-loop-i : goal.decreases-loop-i
+decreases-loop-i l = l.n - l.i
