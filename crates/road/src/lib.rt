@@ -5,6 +5,8 @@
 //   ramp         what ramps take off
 //   free_flow    free-flow speed
 //   refusal      refusals 1 to 9 and 19, and their numbers
+#![tactic(auto)]
+
 mod adjustment;
 pub mod free_flow;
 mod ramp;

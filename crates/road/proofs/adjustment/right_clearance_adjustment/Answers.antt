@@ -7,8 +7,7 @@ use Rattle.numbers.proofs.ProductLaws.{product-fits}
 use Rattle.road.specs.Adjustments.{per_missing_foot, right_clearance_adjustment}
 use Rattle.road.proofs.AdjustmentLaws.{per_missing_foot-le, right_clearance_adjustment-tenths}
 use borrow.Author.Rules.{rules}
-use Rattle.road.proofs.adjustment.right_clearance_adjustment.Statement.{statement}
-use Rattle.road.proofs.adjustment.right_clearance_adjustment.Tie as tie
+use Rattle.road.proofs.adjustment.right_clearance_adjustment.Goals as goal
 
 by-tenths : (r n t : ℕ) → 10 * t ≡ per_missing_foot n → (60 - min 60 r) * t ≡ right_clearance_adjustment r n
 by-tenths r n t e =
@@ -16,11 +15,12 @@ by-tenths r n t e =
     let tenfold : 10 * right_clearance_adjustment r n ≡ x * (10 * t) = rw e (right_clearance_adjustment-tenths r n) in
     omega arith
 
-pub right-clearance-adjustment-spec : {M : Type 1} → statement M
-right-clearance-adjustment-spec =
-    tie.close
-    (tie.spec (λ c κs. search rules) (λ c. search rules) (λ c κs. search rules)
-    (λ c. record { fits = product-fits 60 60 (omega arith) (omega (arith, per_missing_foot-le c.before.before.args.lanes)) tt })
-    (λ c. rw c.before.lesser.ensures
-    (by-tenths c.before.before.args.right c.before.before.args.lanes c.per-missing-tenth.result
-    c.per-missing-tenth.ensures)))
+pub overflow_mul-result : goal.overflow_mul-result
+overflow_mul-result c =
+    record { fits = product-fits 60 60 (omega arith) (omega (arith, per_missing_foot-le c.args.lanes)) tt }
+
+pub returns : goal.returns
+returns c =
+    rw c.lesser.ensures
+    (by-tenths c.args.right c.args.lanes c.per_missing_tenth.result
+    c.per_missing_tenth.ensures)

@@ -1,5 +1,6 @@
 -- `road::adjustment::missing_clearance_adjustment` meets its contract: it reads the entries on both sides, which rise.
 -- Assumes nothing.
+-- what is read of a row for x missing tenths, k the place after
 use mathlib.Core.Path.{◌≡◌, sym}
 use mathlib.Core.List.{List}
 use Prim.Native.Nat.{ℕ, ◌+◌, ◌*◌, ◌-◌, ◌/◌, ◌%◌, ◌≤◌}
@@ -12,10 +13,8 @@ use Rattle.road.specs.Adjustments.{total_clearance_row}
 use Rattle.road.proofs.InterpolationLaws.{interpolated-rise}
 use Rattle.road.proofs.AdjustmentLaws.{total_clearance_row-rises, total_clearance_row-after-le, total_clearance_row-line-le}
 use borrow.Author.Rules.{rules}
-use Rattle.road.proofs.adjustment.missing_clearance_adjustment.Statement.{statement}
-use Rattle.road.proofs.adjustment.missing_clearance_adjustment.Tie as tie
+use Rattle.road.proofs.adjustment.missing_clearance_adjustment.Goals as goal
 
--- what is read of a row for x missing tenths, k the place after
 module _ (row : List ℕ) (n x k : ℕ) (own : row ≡ total_clearance_row n) (up : k ≡ div_up x 20) (h : x ≤ 120) where
   rises : get_or row (x / 20) 0 ≤ get_or row k 0
   unfolding entry_before entry_after
@@ -29,25 +28,40 @@ module _ (row : List ℕ) (n x k : ℕ) (own : row ≡ total_clearance_row n) (u
   unfolding entry_before entry_after
   line = rw (own, up) (sym (interpolated-rise (total_clearance_row n) 20 x (omega arith) (total_clearance_row-rises n x h)))
 
-sub-result : tie.Need-overflow-sub-result
-sub-result c = rises _ _ _ _ c.before.total-clearance-row.ensures c.div-up.ensures c.before.before.requires
+pub total_clearance_row-row-requires : goal.total_clearance_row-row-requires
+unfolding div_up
+total_clearance_row-row-requires c =
+    search rules
 
-mul-result : tie.Need-overflow-mul-result
-mul-result c =
-    let most = after-le _ _ _ _ c.before.total-clearance-row.ensures c.div-up.ensures c.before.before.requires in
+pub div_up-requires : goal.div_up-requires
+unfolding div_up
+div_up-requires c =
+    search rules
+
+pub offset_bounds-row-div_up : goal.offset_bounds-row-div_up
+unfolding div_up
+offset_bounds-row-div_up c =
+    omega arith
+
+pub bounds-row-div_up : goal.bounds-row-div_up
+unfolding div_up
+bounds-row-div_up c =
+    omega arith
+
+pub overflow_sub-result : goal.overflow_sub-result
+overflow_sub-result c =
+    rises _ _ _ _ c.total_clearance_row-row.ensures c.div_up.ensures c.requires
+
+pub overflow_mul-result : goal.overflow_mul-result
+overflow_mul-result c =
+    let most = after-le _ _ _ _ c.total_clearance_row-row.ensures c.div_up.ensures c.requires in
     record { fits = product-fits 5400 20 (omega (arith, most)) (omega arith) tt }
 
-returns : tie.Need-returns
-returns c = line _ _ _ _ c.before.total-clearance-row.ensures c.div-up.ensures c.before.before.requires
+pub returns : goal.returns
+returns c =
+    line _ _ _ _ c.total_clearance_row-row.ensures c.div_up.ensures c.requires
 
-add-result : tie.Need-overflow-add-result
-add-result c =
-    let a = c.before.before.args in
-    omega (arith, returns c, total_clearance_row-line-le a.lanes a.missing c.before.before.requires)
-
-pub missing-clearance-adjustment-spec : {M : Type 1} → statement M
-unfolding div_up
-missing-clearance-adjustment-spec =
-    tie.close
-    (tie.spec (λ c κs. search rules) (λ c. search rules) (λ c. search rules) (λ c κs. search rules) (λ c. omega arith) (λ c. omega arith)
-    sub-result mul-result add-result returns)
+pub overflow_add-result : goal.overflow_add-result
+overflow_add-result c =
+    let a = c.args in
+    omega (arith, returns c, total_clearance_row-line-le a.lanes a.missing c.requires)

@@ -1,0 +1,15 @@
+-- `road::adjustment::access_adjustment` meets its contract: it is the definition's lesser.
+-- Assumes nothing.
+use Rattle.road.specs.Adjustments.{access_adjustment}
+use borrow.Author.Rules.{rules}
+use Rattle.road.proofs.adjustment.access_adjustment.Goals as goal
+
+pub lesser-requires : goal.lesser-requires
+unfolding access_adjustment
+lesser-requires c =
+    search rules
+
+pub returns : goal.returns
+unfolding access_adjustment
+returns c =
+    c.lesser.ensures
