@@ -2,6 +2,8 @@
 //   checked   the curve of a case, or the first of 1 to 9, 19 and 10 that refuses it
 //   flow      the load of a case, and the flow rate of a demand
 //   assess    from a case to its measures or its refusal
+#![tactic(auto)]
+
 pub mod assess;
 pub mod checked;
 pub mod flow;

@@ -6,14 +6,10 @@ use Rattle.method.specs.declared.checked.Checked.TheVariants as Checked
 use Rattle.method.specs.Checked.{case_curve}
 use Rattle.method.proofs.RefusalLaws.{refusals-with}
 use borrow.Author.Rules.{rules}
-use Rattle.method.proofs.checked.check.Statement.{statement}
-use Rattle.method.proofs.checked.check.Tie as tie
+use Rattle.method.proofs.checked.check.Goals as goal
 
-returns : tie.Need-returns
+pub returns : goal.returns
 returns c =
-    let case = c.before.before.args.case in
-    c.check-with.ensures ∙ rw c.before.load-refusal.ensures
+    let case = c.args.case in
+    c.check_with.ensures ∙ rw c.load_refusal.ensures
     (ap (λ n. unless_refused n (Checked.Accepted (case_curve case)) Checked.Refused) (refusals-with case))
-
-pub check-spec : {M : Type 1} → statement M
-check-spec = tie.close (tie.spec (λ c κs. search rules) (λ c κs. search rules) returns)

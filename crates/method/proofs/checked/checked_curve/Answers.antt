@@ -17,17 +17,10 @@ use Rattle.method.specs.declared.checked.Checked.TheVariants as Checked
 use Rattle.method.specs.Refusals.{speed_refusals}
 use Rattle.method.specs.Checked.{curve_of, checked_curve}
 use borrow.Author.Rules.{rules}
-use Rattle.method.proofs.checked.checked_curve.Statement.{statement}
-use Rattle.method.proofs.checked.checked_curve.Tie as tie
-
-returns : tie.Need-returns
-unfolding speed_refusals
-returns c =
-    let a = c.before.before.before.args in
-    simp (lt-ltb (free_flow_speed_of a.road a.lanes) (lowest_speed a.road.kind)
-    (omega (arith, c.before.before.free-flow-speed.ensures, c.before.lowest-speed.ensures, c.if1.true)))
+use Rattle.method.proofs.checked.checked_curve.Goals as goal
 
 -- where F is not below its lower end, the test after its factor decides
+
 decided : (road : Road) (weather : Weather) (n : ℕ) (b : Bool) {speed lowest least : ℕ} {curve : Curve} → speed ≡ free_flow_speed_of road n
     → lowest ≡ lowest_speed road.kind → lowest ≤ speed → curve ≡ curve_under weather road.kind speed
     → least ≡ lowest_adjusted_speed road.kind → ltb curve.free_flow_speed least ≡ b
@@ -42,30 +35,37 @@ decided road weather n b f low h made least test =
     by true first second = simp (first, second)
     by false first second = simp (first, second)
 
-returns-2 : tie.Need-returns-2
-returns-2 c =
-    let u = c.before.before.before in
-    let s = u.before.before in
-    decided _ _ _ true s.before.free-flow-speed.ensures s.lowest-speed.ensures u.before.if1.false u.curve-under.ensures
-    c.before.before.lowest-adjusted-speed.ensures (lt-ltb _ _ c.if2.true)
+pub free_flow_speed-speed-requires : goal.free_flow_speed-speed-requires
+free_flow_speed-speed-requires c =
+    c.requires.0
 
-returns-3 : tie.Need-returns-3
-returns-3 c =
-    let u = c.before.before.before in
-    let s = u.before.before in
-    decided _ _ _ false s.before.free-flow-speed.ensures s.lowest-speed.ensures u.before.if1.false u.curve-under.ensures
-    c.before.before.lowest-adjusted-speed.ensures (le-ltb _ _ c.if2.false)
+pub returns-then-speed-lowest_speed : goal.returns-then-speed-lowest_speed
+unfolding speed_refusals
+returns-then-speed-lowest_speed c =
+    let a = c.args in
+    simp (lt-ltb (free_flow_speed_of a.road a.lanes) (lowest_speed a.road.kind)
+    (omega (arith, c.free_flow_speed-speed.ensures, c.lowest_speed.ensures, c.if-speed-lowest_speed.true)))
 
-pub checked-curve-spec : {M : Type 1} → statement M
-checked-curve-spec =
-    tie.close
-    (tie.spec (λ c κs. c.requires.0) (λ c κs. search rules) returns
-    (λ c κs. (
-      omega (
-        arith,
-        c.before.before.free-flow-speed.ensures,
-        free_flow_speed_of-le c.before.before.before.args.road c.before.before.before.args.lanes,
-      ),
-      c.before.before.before.requires.1,
-    ))
-    (λ c κs. search rules) returns-2 returns-3)
+pub curve_under-curve-requires : goal.curve_under-curve-requires
+curve_under-curve-requires c = (
+  omega (
+    arith,
+    c.free_flow_speed-speed.ensures,
+    free_flow_speed_of-le c.args.road c.args.lanes,
+  ),
+  c.requires.1,
+)
+
+pub returns-then-curve-lowest_adjusted_speed : goal.returns-then-curve-lowest_adjusted_speed
+returns-then-curve-lowest_adjusted_speed c =
+    let u = c in
+    let s = u in
+    decided _ _ _ true s.free_flow_speed-speed.ensures s.lowest_speed.ensures u.if-speed-lowest_speed.false u.curve_under-curve.ensures
+    c.lowest_adjusted_speed.ensures (lt-ltb _ _ c.if-curve-lowest_adjusted_speed.true)
+
+pub returns : goal.returns
+returns c =
+    let u = c in
+    let s = u in
+    decided _ _ _ false s.free_flow_speed-speed.ensures s.lowest_speed.ensures u.if-speed-lowest_speed.false u.curve_under-curve.ensures
+    c.lowest_adjusted_speed.ensures (le-ltb _ _ c.if-curve-lowest_adjusted_speed.false)

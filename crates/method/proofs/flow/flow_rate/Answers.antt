@@ -1,0 +1,22 @@
+-- `method::flow::flow_rate` meets its contract: the greatest demand times the greatest factor fits 64 bits.
+-- Assumes nothing.
+use Rattle.numbers.proofs.ProductLaws.{product-fits}
+use Rattle.road.specs.Refusals.{greatest_demand}
+use Rattle.method.specs.Flow.{flow_rate_of}
+use borrow.Author.Rules.{rules}
+use Rattle.method.proofs.flow.flow_rate.Goals as goal
+
+pub overflow_mul-demand : goal.overflow_mul-demand
+unfolding flow_rate_of
+overflow_mul-demand c =
+    record { fits = product-fits greatest_demand 3000 c.requires.1 c.requires.0.heavy-le tt }
+
+pub div_up-requires : goal.div_up-requires
+unfolding flow_rate_of
+div_up-requires c =
+    search rules
+
+pub returns : goal.returns
+unfolding flow_rate_of
+returns c =
+    c.div_up.ensures
