@@ -1,5 +1,6 @@
 -- `lines::field::field_at` meets its contract: the places 0, 1, 6 and 12 of the layout have letters, every other a number.
 -- Assumes nothing.
+use native.Mathlib.Omega.{arith}
 use Rattle.lines.specs.Fields.{layout}
 use Rattle.lines.proofs.FieldsLaws.{number-at}
 use borrow.Author.Rules.{rules}
@@ -27,5 +28,4 @@ returns-in-12 c =
 
 pub returns-in_default : goal.returns-in_default
 returns-in_default c =
-    let m = c.in_default.rest in
-    rw (number-at c.args.place m.0.0.0.1 m.0.0.1 m.0.1 m.1) c.number_at.ensures
+    rw (number-at c.args.place (λ e. omega arith) (λ e. omega arith) (λ e. omega arith) (λ e. omega arith)) c.number_at.ensures

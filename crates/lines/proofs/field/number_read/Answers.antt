@@ -2,7 +2,7 @@
 -- Assumes nothing.
 use mathlib.Core.Path.{sym, ◌∙◌}
 use native.Mathlib.Omega.{arith}
-use borrow.Author.Tests.{eqb-true, eqb-false, not-true, not-false}
+use borrow.Author.Tests.{eqb-true, eqb-false}
 use Rattle.lines.proofs.PlacesLaws.{number-unended, ended-none, ended-one, ended-zero, ended-more}
 use borrow.Author.Rules.{rules}
 use Rattle.lines.proofs.field.number_read.Goals as goal
@@ -15,19 +15,19 @@ pub returns-then-not-field_ends : goal.returns-then-not-field_ends
 returns-then-not-field_ends c =
     let s = c in let a = s.args in
     λ most few. sym (number-unended a.line.now a.at a.end a.n s.requires.0 most few
-    (eqb-false _ a.end (sym c.field_ends.ensures ∙ not-true _ c.if-not-field_ends.true)) s.requires.1)
+    (eqb-false _ a.end (sym c.field_ends.ensures ∙ c.if-not-field_ends.true)) s.requires.1)
 
 pub returns-then-end-at : goal.returns-then-end-at
 returns-then-end-at c =
     let s = c in let a = s.args in
     λ most few. sym (ended-none a.line.now a.at a.end a.n s.requires.0 most few
-    (eqb-true _ a.end (sym c.field_ends.ensures ∙ not-false _ c.if-not-field_ends.false)) c.if-end-at.true)
+    (eqb-true _ a.end (sym c.field_ends.ensures ∙ c.if-not-field_ends.false)) c.if-end-at.true)
 
 pub returns-then-end-at-eq1 : goal.returns-then-end-at-eq1
 returns-then-end-at-eq1 c =
     let s = c in let a = s.args in
     λ most few. sym (ended-one a.line.now a.at a.end a.n s.requires.0 most few
-    (eqb-true _ a.end (sym c.field_ends.ensures ∙ not-false _ c.if-not-field_ends.false))
+    (eqb-true _ a.end (sym c.field_ends.ensures ∙ c.if-not-field_ends.false))
     (omega (arith, s.requires.0.begun, c.if-end-at-eq1.true)))
 
 pub returns-then-line-at-eq48 : goal.returns-then-line-at-eq48
@@ -36,7 +36,7 @@ returns-then-line-at-eq48 c =
     λ most few. sym (ended-zero a.line.now a.at a.end a.n s.requires.0 most few
     (eqb-true _ a.end
     (sym c.field_ends.ensures
-    ∙ not-false _ c.if-not-field_ends.false)) (omega (arith, s.requires.0.begun)) c.if-line-at-eq48.true)
+    ∙ c.if-not-field_ends.false)) (omega (arith, s.requires.0.begun)) c.if-line-at-eq48.true)
 
 pub returns : goal.returns
 returns c =
@@ -44,4 +44,4 @@ returns c =
     λ most few. sym (ended-more a.line.now a.at a.end a.n s.requires.0 most few
     (eqb-true _ a.end
     (sym c.field_ends.ensures
-    ∙ not-false _ c.if-not-field_ends.false)) (omega (arith, s.requires.0.begun)) c.if-line-at-eq48.false)
+    ∙ c.if-not-field_ends.false)) (omega (arith, s.requires.0.begun)) c.if-line-at-eq48.false)
