@@ -1,5 +1,7 @@
 // Answer: what a case gets, with its service volumes, and the lanes question.
 //   evaluate   the answer to a case
 //   lanes      the lanes question
+#![tactic(auto)]
+
 pub mod evaluate;
 pub mod lanes;

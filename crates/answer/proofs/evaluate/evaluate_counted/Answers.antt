@@ -8,21 +8,17 @@ use Rattle.answer.specs.Answers.{graded}
 use Rattle.answer.specs.Tries.{demands_tried}
 use Rattle.method.proofs.CheckedLaws.{by-refused}
 use borrow.Author.Rules.{rules}
-use Rattle.answer.proofs.evaluate.evaluate_counted.Statement.{statement}
-use Rattle.answer.proofs.evaluate.evaluate_counted.Tie as tie
+use Rattle.answer.proofs.evaluate.evaluate_counted.Goals as goal
 
-returns-2 : tie.Need-returns-2
-returns-2 c =
-    let case = c.before.before.before.before.args.case in
-    let e = sym c.before.before.before.check.ensures ∙ c.before.checked2.given.1 in
+pub graded-requires : goal.graded-requires
+graded-requires c =
+    sym c.check-checked.ensures ∙ c.in-Accepted.is
+
+pub returns-in-Refused : goal.returns-in-Refused
+returns-in-Refused c =
+    let case = c.args.case in
+    let e = sym c.check-checked.ensures ∙ c.in-Refused.is in
     simp (
       sym (by-refused case (Answer.Graded (graded case)) Answer.Refused _ e),
       sym (by-refused case (length (demands_tried case)) (λ number. 0) _ e),
     )
-
-pub evaluate-counted-spec : {M : Type 1} → statement M
-evaluate-counted-spec =
-    tie.close
-    (tie.spec (λ c κs. search rules) (λ c. search rules)
-    (λ c κs. sym c.before.before.before.check.ensures ∙ c.before.checked.given.1) (λ c. search rules) (λ c. search rules)
-    returns-2)

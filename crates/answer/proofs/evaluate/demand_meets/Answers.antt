@@ -1,0 +1,20 @@
+-- `answer::evaluate::demand_meets` meets its contract: the flow rate of the demand, tried at the limit.
+-- Assumes nothing.
+use Rattle.answer.specs.Search.{demand_meets}
+use borrow.Author.Rules.{rules}
+use Rattle.answer.proofs.evaluate.demand_meets.Goals as goal
+
+pub flow_rate-requires : goal.flow_rate-requires
+unfolding demand_meets
+flow_rate-requires c =
+    search rules
+
+pub meets_limit-requires : goal.meets_limit-requires
+unfolding demand_meets
+meets_limit-requires c =
+    search rules
+
+pub returns : goal.returns
+unfolding demand_meets
+returns c =
+    simp (c.meets_limit.ensures, c.flow_rate.ensures)

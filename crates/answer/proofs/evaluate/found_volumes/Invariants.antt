@@ -1,0 +1,13 @@
+-- `answer::evaluate::found_volumes` meets its contract: each search hands back what it would up to the greatest demand, and the counts are
+-- added.
+-- Assumes nothing.
+use native.Mathlib.Omega.{arith}
+use Rattle.answer.proofs.TriesLaws.{Done, done-start, done_next, done-volumes, done-end-le, done-tries-le}
+use borrow.Author.Rules.{rules}
+use Rattle.answer.proofs.evaluate.found_volumes.Given as goal
+
+abbrev pub invariant-loop-letter : goal.invariant-loop-letter
+invariant-loop-letter l = Done l.terms l.volumes l.end l.tries l.letter
+
+abbrev pub decreases-loop-letter : goal.decreases-loop-letter
+decreases-loop-letter l = l.letter

@@ -1,0 +1,20 @@
+-- `answer::evaluate::greatest_for` meets its contract: no letter has a density above 450.
+-- Assumes nothing.
+use native.Mathlib.Omega.{arith}
+use Rattle.curve.proofs.ServiceLaws.{density_limit-le}
+use borrow.Author.Rules.{rules}
+use Rattle.answer.proofs.evaluate.greatest_for.Goals as goal
+
+pub greatest_meeting-requires : goal.greatest_meeting-requires
+greatest_meeting-requires c =
+    let s = c in
+    record {
+      ready = s.requires.0;
+      load_fits = s.requires.1;
+      limit-le = omega (arith, c.density_limit.ensures, density_limit-le s.args.letter);
+      demand-le = omega (arith, s.requires.2);
+    }
+
+pub returns : goal.returns
+returns c =
+    simp (c.greatest_meeting.ensures, c.density_limit.ensures)

@@ -1,0 +1,72 @@
+-- `answer::evaluate::greatest_meeting` meets its contract: the halving keeps a demand that passes below one that fails or is past the
+-- end, until they are neighbours, and counts what it tries.
+-- Assumes nothing.
+use mathlib.Core.Path.{sym, ◌∙◌}
+use Prim.Native.Nat.{◌-◌}
+use native.Mathlib.Omega.{arith}
+use Rattle.numbers.specs.Halving.{middle}
+use Rattle.numbers.proofs.HalvingLaws.{Halved, halved-start, halved-passes, halved-fails, halved-done}
+use Rattle.answer.specs.Search.{demand_meets}
+use Rattle.answer.proofs.VolumeLaws.{demand_meets-zero, demand_meets-down}
+use Rattle.answer.proofs.evaluate.greatest_meeting.Goals as goal
+
+pub overflow_add-high : goal.overflow_add-high
+overflow_add-high c =
+    omega (arith, c.requires.demand-le)
+
+pub loop-high-init : goal.loop-high-init
+loop-high-init c =
+    let s = c in
+    halved-start _ s.args.end
+    (demand_meets-zero s.args.terms.curve s.args.load s.args.limit s.requires.ready.prepared.well-formed
+    s.requires.load_fits.divisor-pos)
+
+pub overflow_sub-high : goal.overflow_sub-high
+overflow_sub-high c =
+    omega arith
+
+pub overflow_sub-middle : goal.overflow_sub-middle
+overflow_sub-middle c =
+    omega arith
+
+pub overflow_add-middle : goal.overflow_add-middle
+overflow_add-middle c =
+    omega arith
+
+pub overflow_add-tries : goal.overflow_add-tries
+overflow_add-tries c =
+    omega (arith, c.loop-high.invariant.near, c.requires.demand-le)
+
+pub demand_meets-requires : goal.demand_meets-requires
+demand_meets-requires c =
+    let p = c.requires in
+    record { ready = p.ready; load_fits = p.load_fits; limit-le = p.limit-le; demand-le = omega (arith, p.demand-le) }
+
+pub loop-high-smaller-then-demand_meets : goal.loop-high-smaller-then-demand_meets
+loop-high-smaller-then-demand_meets c =
+    omega arith
+
+pub loop-high-preserved-then-demand_meets : goal.loop-high-preserved-then-demand_meets
+unfolding middle
+loop-high-preserved-then-demand_meets c =
+    halved-passes _ _ _ _ _ c.loop-high.invariant (omega arith)
+    (sym c.demand_meets.ensures ∙ c.if-demand_meets.true)
+
+pub loop-high-smaller : goal.loop-high-smaller
+loop-high-smaller c =
+    omega arith
+
+pub loop-high-preserved : goal.loop-high-preserved
+unfolding middle
+loop-high-preserved c =
+    halved-fails _ _ _ _ _ c.loop-high.invariant (omega arith)
+    (sym c.demand_meets.ensures ∙ c.if-demand_meets.false)
+
+pub returns : goal.returns
+returns c =
+    let s = c in
+    let found = halved-done _ _ _ _ _ c.loop-high.invariant
+    (demand_meets-down s.args.terms.curve s.args.load s.args.limit s.requires.ready.prepared.well-formed
+    s.requires.load_fits.divisor-pos)
+    (omega arith) in
+    simp (found.0, found.1)

@@ -1,0 +1,17 @@
+-- `answer::evaluate::greatest_meeting` meets its contract: the halving keeps a demand that passes below one that fails or is past the
+-- end, until they are neighbours, and counts what it tries.
+-- Assumes nothing.
+use mathlib.Core.Path.{sym, ◌∙◌}
+use Prim.Native.Nat.{◌-◌}
+use native.Mathlib.Omega.{arith}
+use Rattle.numbers.specs.Halving.{middle}
+use Rattle.numbers.proofs.HalvingLaws.{Halved, halved-start, halved-passes, halved-fails, halved-done}
+use Rattle.answer.specs.Search.{demand_meets}
+use Rattle.answer.proofs.VolumeLaws.{demand_meets-zero, demand_meets-down}
+use Rattle.answer.proofs.evaluate.greatest_meeting.Given as goal
+
+abbrev pub invariant-loop-high : goal.invariant-loop-high
+invariant-loop-high l = Halved (demand_meets l.terms.curve l.load l.limit) l.end l.low l.high l.tries
+
+abbrev pub decreases-loop-high : goal.decreases-loop-high
+decreases-loop-high l = l.high - l.low
