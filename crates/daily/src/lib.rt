@@ -6,6 +6,8 @@
 //   DailyAnswer       a grade with daily service volumes, or a refusal
 //   evaluate_daily    for any case, any shares and any daily traffic
 //   put_figures       the sixteen numbers of an answer, at the start of lent numbers
+#![tactic(auto)]
+
 ghost use Rattle.std.specs.Prelude.{◌≡◌, ◌≤◌, length};
 ghost use Rattle.checks.specs.Refusals.{first_refusal};
 ghost use Rattle.text.specs.Buffer.{Wrote};

@@ -6,6 +6,8 @@
 //   lent_refusal   18 where demands and lent numbers do not fit, else 0
 //   put_day        the answers to a case with each demand, where they fit
 //   evaluate_day   for any case, any demands and any lent numbers
+#![tactic(auto)]
+
 mod shared;
 
 ghost use Rattle.std.specs.Prelude.{◌≡◌, ◌∷◌, ◌+◌, ◌≤◌, ◌<◌, length};

@@ -8,6 +8,8 @@
 //   ForecastAnswer    the best outcome and the worst, or a refusal
 //   evaluate_forecast   for any case and any forecast
 //   put_figures       the eight numbers of an answer, at the start of lent numbers
+#![tactic(auto)]
+
 ghost use Rattle.std.specs.Prelude.{◌≡◌, ◌≤◌, length};
 ghost use Rattle.checks.specs.Refusals.{first_refusal};
 ghost use Rattle.text.specs.Buffer.{Wrote};

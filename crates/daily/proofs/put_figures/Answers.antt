@@ -1,0 +1,13 @@
+-- `daily::put_figures` meets its contract: the eleven figures of the grade, and the daily volumes behind them.
+-- Assumes nothing.
+use native.Mathlib.Omega.{arith}
+use Rattle.text.proofs.BufferLaws.{then}
+use borrow.Author.Rules.{rules}
+use Rattle.daily.proofs.put_figures.Goals as goal
+
+pub returns : goal.returns
+returns c =
+    let first = c in
+    let graded = first in
+    then (rw graded.grade_values-figures.ensures at first.put_numbers-at.ensures) c.put_numbers-at.ensures
+    (omega (arith, graded.requires))

@@ -1,0 +1,13 @@
+-- `day::put_answer` meets its contract: of a grade 0 and its eleven figures are written, of a refusal its number and eleven zeros.
+-- Assumes nothing.
+use borrow.Author.Rules.{rules}
+use Rattle.day.proofs.put_answer.Goals as goal
+
+pub returns-in-Graded : goal.returns-in-Graded
+returns-in-Graded c =
+    let found = c in
+    rw found.in-Graded.is (rw found.grade_values-figures.ensures at c.put_position.ensures)
+
+pub returns-in-Refused : goal.returns-in-Refused
+returns-in-Refused c =
+    rw c.in-Refused.is c.put_position-in-Refused.ensures

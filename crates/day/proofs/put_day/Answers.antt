@@ -1,0 +1,24 @@
+-- `day::put_day` meets its contract: the check with no demand finds a curve, or what refuses the case with every demand that 7 lets pass.
+-- Assumes nothing.
+use mathlib.Core.Path.{sym, ap, ◌∙◌}
+use Rattle.method.specs.Checked.{checked}
+use Rattle.method.proofs.CheckedLaws.{checked_refused, checked-number}
+use borrow.Author.Rules.{rules}
+use Rattle.day.proofs.put_day.Goals as goal
+
+pub put_accepted-requires : goal.put_accepted-requires
+put_accepted-requires c =
+    let asked = c in
+    let s = asked in
+    let e = sym (ap checked asked.with_demand.ensures) ∙ sym c.check-checked.ensures
+    ∙ c.in-Accepted.is in
+    (e, s.requires)
+
+pub put_answers-requires : goal.put_answers-requires
+put_answers-requires c =
+    let asked = c in
+    let s = asked in
+    let e = sym (ap checked asked.with_demand.ensures) ∙ sym c.check-checked.ensures
+    ∙ c.in-Refused.is in
+    let own = checked-number _ _ e in
+    ((sym own, rw own at (checked_refused _ _ e)), s.requires)

@@ -1,0 +1,43 @@
+-- `day::shared::answer_with` meets its contract: up to the greatest demand the answer goes by what is shared, above it 7 has its place.
+-- Assumes nothing.
+use mathlib.Core.Path.{sym, ap, ◌∙◌}
+use Rattle.answer.specs.declared.evaluate.Answer.TheVariants as Answer
+use Rattle.answer.specs.Answers.{graded}
+use Rattle.day.specs.declared.shared.Shared.TheVariants as Shared
+use Rattle.day.proofs.SharedLaws.{accepted-within, accepted-above, refused-within, refused-above, ready-within}
+use Rattle.day.proofs.SharedLaws.{told}
+use borrow.Author.Rules.{rules}
+use Rattle.day.proofs.shared.answer_with.Goals as goal
+
+pub returns-then-case-gt-GREATEST_DEMAND : goal.returns-then-case-gt-GREATEST_DEMAND
+returns-then-case-gt-GREATEST_DEMAND c =
+    let s = c in
+    let by = told _ _ _ s.requires (Shared.Accepted _ _) c.in-Accepted.is in
+    sym (accepted-above s.args.case by.0.accepted c.if-case-gt-GREATEST_DEMAND.true)
+
+pub measures_with-requires : goal.measures_with-requires
+measures_with-requires c =
+    let s = c in
+    ready-within s.args.case _ _ (told _ _ _ s.requires (Shared.Accepted _ _) c.in-Accepted.is).0
+    c.if-case-gt-GREATEST_DEMAND.false
+
+pub returns-then-case-gt-GREATEST_DEMAND-2 : goal.returns-then-case-gt-GREATEST_DEMAND-2
+returns-then-case-gt-GREATEST_DEMAND-2 c =
+    let s = c in
+    let by = told _ _ _ s.requires (Shared.Refused _) c.in-Refused.is in
+    ap Answer.Refused c.lesser.ensures ∙ sym (refused-above s.args.case _ by.0 by.1 c.if-case-gt-GREATEST_DEMAND-2.true)
+
+pub returns-else-case-gt-GREATEST_DEMAND : goal.returns-else-case-gt-GREATEST_DEMAND
+unfolding graded
+returns-else-case-gt-GREATEST_DEMAND c =
+    let measured = c in
+    let s = measured in
+    let by = told _ _ _ s.requires (Shared.Accepted _ _) measured.in-Accepted.is in
+    ap Answer.Graded (simp (c.grade_of.ensures, measured.measures_with.ensures, by.1))
+    ∙ sym (accepted-within s.args.case by.0.accepted measured.if-case-gt-GREATEST_DEMAND.false)
+
+pub returns-else-case-gt-GREATEST_DEMAND-2 : goal.returns-else-case-gt-GREATEST_DEMAND-2
+returns-else-case-gt-GREATEST_DEMAND-2 c =
+    let s = c in
+    let by = told _ _ _ s.requires (Shared.Refused _) c.in-Refused.is in
+    sym (refused-within s.args.case _ by.0 by.1 c.if-case-gt-GREATEST_DEMAND-2.false)

@@ -1,0 +1,17 @@
+-- `replies::block::answer_last` meets its contract: no newline is held, so what is held is one line, or none where it is empty.
+-- Assumes nothing.
+use native.Mathlib.Omega.{arith}
+use Rattle.stream.proofs.BlockLaws.{last_none, last_one}
+use Rattle.replies.specs.Output.{line_texts}
+use Rattle.replies.proofs.TextsLaws.{line_text-le}
+use borrow.Author.Rules.{rules}
+use Rattle.replies.proofs.block.answer_last.Goals as goal
+
+pub returns-then-held-eq0 : goal.returns-then-held-eq0
+returns-then-held-eq0 c =
+    let s = c in record { wrote = last_none line_texts s.args.held.now s.requires.1 s.args.out.now c.if-held-eq0.true; upper_bound = search rules }
+
+pub returns : goal.returns
+returns c =
+    let s = c in
+    let w = c.answer_line in record { wrote = rw (last_one line_texts s.args.held.now s.requires.1 c.if-held-eq0.false) w.ensures; upper_bound = omega (arith, w.ensures.ends, line_text-le s.args.held.now) }

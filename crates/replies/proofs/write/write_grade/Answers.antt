@@ -1,0 +1,18 @@
+-- `replies::write::write_grade` meets its contract: the row of the letter's byte and the ten figures behind the letter is the text of the
+-- eleven values.
+-- Assumes nothing.
+use Rattle.replies.specs.Texts.{text_of}
+use borrow.Author.Rules.{rules}
+use Rattle.replies.proofs.write.write_grade.Goals as goal
+
+pub put_row-requires : goal.put_row-requires
+unfolding text_of
+put_row-requires c =
+    let found = c in
+    rw (found.letter_byte.ensures, found.grade_values-figures.ensures) found.requires
+
+pub returns : goal.returns
+unfolding text_of
+returns c =
+    let found = c in
+    rw (found.letter_byte.ensures, found.grade_values-figures.ensures) at c.put_row.ensures
