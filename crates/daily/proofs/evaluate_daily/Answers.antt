@@ -8,7 +8,7 @@ use Rattle.daily.proofs.evaluate_daily.Goals as goal
 pub returns-then-number-gt0 : goal.returns-then-number-gt0
 returns-then-number-gt0 c =
     let a = c.args in
-    answer-stopped a.case a.shares a.daily-traffic _ c.traffic_refusal-number.ensures c.if-number-gt0.true
+    answer-stopped a.case a.shares a.daily_traffic _ c.traffic_refusal-number.ensures c.if-number-gt0.true
 
 pub hourly_demand-requires : goal.hourly_demand-requires
 hourly_demand-requires c =
@@ -19,28 +19,28 @@ volumes_within-requires c =
     let engine = c in
     let asked = engine in
     let a = asked.args in
-    let fits = passed a.shares a.daily-traffic _ asked.traffic_refusal-number.ensures asked.if-number-gt0.false in
-    let e = engine-answers a.case a.shares a.daily-traffic engine.hourly_demand.ensures
+    let fits = passed a.shares a.daily_traffic _ asked.traffic_refusal-number.ensures asked.if-number-gt0.false in
+    let e = engine-answers a.case a.shares a.daily_traffic engine.hourly_demand.ensures
     engine.with_demand.ensures engine.evaluate-answer.ensures c.in-Graded.is in
-    (shares-fit a.shares a.daily-traffic fits, volumes-fit _ (engine-accepted _ _ e) _ e)
+    (shares-fit a.shares a.daily_traffic fits, volumes-fit _ (engine-accepted _ _ e) _ e)
 
 pub returns-in-Graded : goal.returns-in-Graded
 returns-in-Graded c =
     let engine = c in
     let asked = engine in
     let a = asked.args in
-    let e = engine-answers a.case a.shares a.daily-traffic engine.hourly_demand.ensures
+    let e = engine-answers a.case a.shares a.daily_traffic engine.hourly_demand.ensures
     engine.with_demand.ensures engine.evaluate-answer.ensures c.in-Graded.is in
     rw c.volumes_within.ensures
-    (answer-graded a.case a.shares a.daily-traffic
-    (passed a.shares a.daily-traffic _ asked.traffic_refusal-number.ensures asked.if-number-gt0.false) _ e)
+    (answer-graded a.case a.shares a.daily_traffic
+    (passed a.shares a.daily_traffic _ asked.traffic_refusal-number.ensures asked.if-number-gt0.false) _ e)
 
 pub returns-in-Refused : goal.returns-in-Refused
 returns-in-Refused c =
     let engine = c in
     let asked = engine in
     let a = asked.args in
-    let e = engine-answers a.case a.shares a.daily-traffic engine.hourly_demand.ensures
+    let e = engine-answers a.case a.shares a.daily_traffic engine.hourly_demand.ensures
     engine.with_demand.ensures engine.evaluate-answer.ensures c.in-Refused.is in
-    answer-refused a.case a.shares a.daily-traffic
-    (passed a.shares a.daily-traffic _ asked.traffic_refusal-number.ensures asked.if-number-gt0.false) _ e
+    answer-refused a.case a.shares a.daily_traffic
+    (passed a.shares a.daily_traffic _ asked.traffic_refusal-number.ensures asked.if-number-gt0.false) _ e

@@ -16,8 +16,8 @@ pub overflow_mul-daily_traffic-2 : goal.overflow_mul-daily_traffic-2
 overflow_mul-daily_traffic-2 c =
     let a = c.args in
     let fits = c.requires in
-    let direction = (shares-fit a.shares a.daily-traffic fits).3 in
-    let most = mul-le-mul {n₂ = 4000000000 * 1000} {m₂ = 1000} (scaled-le a.shares a.daily-traffic fits) direction in
+    let direction = (shares-fit a.shares a.daily_traffic fits).3 in
+    let most = mul-le-mul {n₂ = 4000000000 * 1000} {m₂ = 1000} (scaled-le a.shares a.daily_traffic fits) direction in
     record { fits = omega (arith, most) }
 
 pub returns : goal.returns

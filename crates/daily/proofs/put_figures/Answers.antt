@@ -9,5 +9,5 @@ pub returns : goal.returns
 returns c =
     let first = c in
     let graded = first in
-    then (rw graded.grade_values-figures.ensures at first.put_numbers-at.ensures) c.put_numbers-at.ensures
+    then (rw graded.grade_values-figures.ensures at first.put_numbers-at.ensures) c.put_numbers.ensures
     (omega (arith, graded.requires))

@@ -7,4 +7,4 @@ use Rattle.daily.proofs.traffic_refusal.Goals as goal
 pub returns : goal.returns
 unfolding traffic_refusals
 returns c =
-    simp (c.refused_if-too_large.ensures, c.shares_unfit.ensures, c.refused_if-too_large.ensures)
+    simp (c.refused_if.ensures, c.shares_unfit.ensures, c.refused_if-too_large.ensures)

@@ -8,7 +8,8 @@ use Rattle.day.proofs.evaluate_day.Goals as goal
 pub returns-then-number-gt0 : goal.returns-then-number-gt0
 returns-then-number-gt0 c =
     let a = c.args in
-    day-refused a.case a.demands.now a.answers.now _ c.lent_refusal-number.ensures c.if-number-gt0.true
+    let refused = day-refused a.case a.demands.now a.answers.now _ c.lent_refusal-number.ensures c.if-number-gt0.true in
+    record { result = refused.0; answers = refused.1 }
 
 pub put_day-requires : goal.put_day-requires
 put_day-requires c =

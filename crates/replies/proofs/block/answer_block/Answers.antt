@@ -21,8 +21,9 @@ returns-then-end-block c =
     let a = c.args in
     let l = c.loop-written in
     let f = c.find-end in
-    stopped line_texts a.block.now a.out.now l.out l.read l.written f.result l.invariant.1 f.ensures.value
-    (none_left line_texts _ (drop l.read a.block.now) (omega (arith, length-drop l.read a.block.now, f.ensures.value)))
+    let done = stopped line_texts a.block.now a.out.now l.out l.read l.written f.result l.invariant.1 f.ensures.value
+    (none_left line_texts _ (drop l.read a.block.now) (omega (arith, length-drop l.read a.block.now, f.ensures.value))) in
+    record { read = done.0; text = done.1.0; read_in_bounds = done.1.1 }
 
 pub loop-written-preserved : goal.loop-written-preserved
 loop-written-preserved c =
@@ -40,5 +41,6 @@ pub returns : goal.returns
 returns c =
     let a = c.args in
     let l = c.loop-written in
-    stopped line_texts a.block.now a.out.now l.out l.read l.written _ l.invariant.1 refl
-    (full line_texts _ (drop l.read a.block.now) (omega arith))
+    let done = stopped line_texts a.block.now a.out.now l.out l.read l.written _ l.invariant.1 refl
+    (full line_texts _ (drop l.read a.block.now) (omega arith)) in
+    record { read = done.0; text = done.1.0; read_in_bounds = done.1.1 }

@@ -23,7 +23,7 @@ carry_over-carried-requires c =
     let s = c in
     omega (
       arith,
-      c.answer_block-progress.ensures.text.1.0,
+      c.answer_block-progress.ensures.read_in_bounds.0,
       length-take-le s.args.held s.args.buffer.now s.requires,
       s.requires,
     )
@@ -37,18 +37,18 @@ returns c =
     let block = c.answer_block-progress in
     let read = c.answer_block-progress.result.read in
     let over = c.carry_over-carried in
-    let le : read ≤ held = omega (arith, block.ensures.text.1.0, length-take-le held old s.requires) in
+    let le : read ≤ held = omega (arith, block.ensures.read_in_bounds.0, length-take-le held old s.requires) in
     let is : carried line_texts (length s.args.out.now) (take held old) ≡ cut_off 81 (take (held - read) (drop read old)) =
     carried-is line_texts room held read old le block.ensures.read in record {
       carried = over.ensures.count ∙ ap length (sym is);
       buffer = over.ensures.buffer ∙ ap (λ (l : List ℕ). l ++ drop over.result old) (sym is);
-      text = block.ensures.text.0;
-      carried_le_held = (omega (arith, over.ensures.count, cut-within 81 held read old), block.ensures.text.1.1);
+      text = block.ensures.text;
+      carried_le_held = (omega (arith, over.ensures.count, cut-within 81 held read old), block.ensures.read_in_bounds.1);
       room = λ h z. omega (
         arith,
         over.ensures.count,
         ap length is,
         carried-short line_texts room (take held old)
-            (nothing_left line_texts room (take held old) line_text-pos h (omega (arith, z, block.ensures.text.0.ends))),
+            (nothing_left line_texts room (take held old) line_text-pos h (omega (arith, z, block.ensures.text.ends))),
       );
     }
