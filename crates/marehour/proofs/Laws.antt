@@ -47,7 +47,7 @@ use Rattle.lines.proofs.ReadingLaws.{read_line-by, read_line-refused}
 use Rattle.replies.specs.Texts.{longest_answer}
 use Rattle.replies.proofs.TextsLaws.{answer_text-le, answer_text-pos}
 use Rattle.marehour.specs.Calls.{Reply, refusal as refusal_reply, answer_reply, count_reply, case_reply, lanes_reply, day_reply, line_reply}
-use Rattle.marehour.specs.Calls.{figures_reply, daily_reply, forecast_reply, line_call, buffer_refusals, day_call, result, day_result}
+use Rattle.marehour.specs.Calls.{figures_reply, daily_reply, forecast_reply, line_call, buffer_refusals, day_call, call_result, day_result}
 use Rattle.marehour.specs.Calls.{content, result_of}
 use Rattle.marehour.specs.Laws.{last_refusal, last_daily_refusal, last_forecast_refusal, WithinEnds, RepliesWithinEnds, BufferTooShort}
 use Rattle.marehour.specs.Laws.{NoDemandIsRefused, LastRefusalIsReached, HandsBackFigures, DailyHandsBack, ForecastHandsBack}
@@ -216,7 +216,7 @@ module _ (count last : ℕ) (h : 1 ≤ count) (number : Case → ℕ) (values : 
       λ z.
           let long = (fit case).some z in
           let wrote = read room ∙ ap (line_reply reply) e ∙ figures-written (number case) (values case) (omega arith) in
-          (ap result wrote ∙ ap pos long, ap (λ r. content r old) wrote ∙ rw (zero-add (length (values case)), long)),
+          (ap call_result wrote ∙ ap pos long, ap (λ r. content r old) wrote ∙ rw (zero-add (length (values case)), long)),
     ),
   )
     where
@@ -227,8 +227,8 @@ module _ (count last : ℕ) (h : 1 ≤ count) (number : Case → ℕ) (values : 
       read room = unless_refused-none _ on_line refusal_reply (buffer-fits count (length old) room)
 
       back : {n : ℕ} → call line (length old) ≡ refusal_reply n
-          → (result (call line (length old)) ≡ neg_ℤ (pos n)) × (content (call line (length old)) old ≡ old)
-      back e = (ap result e, ap (λ r. content r old) e)
+          → (call_result (call line (length old)) ≡ neg_ℤ (pos n)) × (content (call line (length old)) old ≡ old)
+      back e = (ap call_result e, ap (λ r. content r old) e)
 
 pub daily-hands-back : DailyHandsBack
 daily-hands-back shares traffic = hand-back-figures daily.figure_count last_daily_refusal (omega arith) _ _ (daily-fit shares traffic)

@@ -20,7 +20,7 @@
 --   daily_call line shares traffic room   the same for a daily traffic and its shares, with room for so many numbers
 --   forecast_call line forecast room   the same for a forecast, with room for so many numbers
 --   handed_back count r     what a call hands back, by how it counts what is written
---   result r               the same in bytes, or in numbers where numbers are written
+--   call_result r          the same in bytes, or in numbers where numbers are written
 --   answer_count ns         how many answers so many numbers are
 --   day_result r            what a call hands back, in answers
 --   content r old          what the lent memory holds afterwards, if it held old
@@ -130,8 +130,8 @@ handed_back count (writes ns) = pos (count ns)
 handed_back count (refusal number) = neg_ℤ (pos number)
 
 -- "gets the count of bytes written, newline included, or minus the refusal number"
-abbrev pub result : Reply → ℤ
-result = handed_back length
+abbrev pub call_result : Reply → ℤ
+call_result = handed_back length
 
 abbrev pub answer_count : List ℕ → ℕ
 answer_count ns = length ns / figure_count

@@ -35,7 +35,7 @@ use Rattle.lines.specs.declared.read.LineRead.TheVariants as LineRead
 use Rattle.lines.specs.Reading.{read_line}
 use Rattle.replies.specs.Texts.{longest_answer}
 use Rattle.marehour.specs.Calls.{Reply, writes, refusal, answer_reply, answer_call, lanes_call, day_call, daily_call}
-use Rattle.marehour.specs.Calls.{forecast_call, result, day_result, content, result_of}
+use Rattle.marehour.specs.Calls.{forecast_call, call_result, day_result, content, result_of}
 
 abbrev pub last_refusal : ℕ
 last_refusal = 19
@@ -103,11 +103,11 @@ abbrev pub HandsBackFigures : (count : ℕ) (number : Case → ℕ) (values : Ca
 HandsBackFigures count number values call =
     (line old : List ℕ)
     → let reply = call line (length old) in
-    (length old < count → (result reply ≡ neg_ℤ (pos 17)) × (content reply old ≡ old))
-    × (count ≤ length old → (n : ℕ) → read_line line ≡ LineRead.Refused n → (result reply ≡ neg_ℤ (pos 15)) × (content reply old ≡ old))
+    (length old < count → (call_result reply ≡ neg_ℤ (pos 17)) × (content reply old ≡ old))
+    × (count ≤ length old → (n : ℕ) → read_line line ≡ LineRead.Refused n → (call_result reply ≡ neg_ℤ (pos 15)) × (content reply old ≡ old))
     × (count ≤ length old → (case : Case) → read_line line ≡ LineRead.Case case
-    → ((n : ℕ) → number case ≡ n → 0 < n → (result reply ≡ neg_ℤ (pos n)) × (content reply old ≡ old))
-    × (number case ≡ 0 → (result reply ≡ pos count) × (content reply old ≡ values case ++ drop count old)))
+    → ((n : ℕ) → number case ≡ n → 0 < n → (call_result reply ≡ neg_ℤ (pos n)) × (content reply old ≡ old))
+    × (number case ≡ 0 → (call_result reply ≡ pos count) × (content reply old ≡ values case ++ drop count old)))
 
 abbrev pub DailyHandsBack : Type 0
 DailyHandsBack =

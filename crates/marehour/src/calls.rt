@@ -5,7 +5,7 @@
 //   marehour_lanes     the lanes question for a line and a letter number
 ghost use Rattle.std.specs.Prelude.{◌≡◌, ◌≤◌, pos, neg_ℤ, length};
 ghost use Rattle.replies.specs.Texts.{longest_answer};
-ghost use Rattle.marehour.specs.Calls.{case_reply, lanes_reply, answer_call, lanes_call, result, content};
+ghost use Rattle.marehour.specs.Calls.{case_reply, lanes_reply, answer_call, lanes_call, call_result, content};
 
 use answer::evaluate::Answer;
 use answer::lanes::LanesAnswer;
@@ -23,15 +23,15 @@ const ANSWER_SIZE: usize = LONGEST_ANSWER;
 // Minus a refusal's number.
 pub(crate) fn refused(number: u64) -> i32
     requires { number ≤ 99 }
-    ensures* { λ r. ⌜ r ≡ neg_ℤ (pos number) ⌝ }
+    ensures { result ≡ neg_ℤ (pos number) }
 {
     -(number as i32)
 }
 
 fn answer_case(case: Case, answer: &mut [u8]) -> i32
     requires { longest_answer ≤ length answer.old }
-    ensures* result { λ r. ⌜ r ≡ result (case_reply case) ⌝ }
-    ensures* buffer { λ _. ⌜ answer.new ≡ content (case_reply case) answer.old ⌝ }
+    ensures result { result ≡ call_result (case_reply case) }
+    ensures buffer { answer.new ≡ content (case_reply case) answer.old }
 {
     let found = evaluate::evaluate(case);
     match found {
@@ -45,8 +45,8 @@ fn answer_case(case: Case, answer: &mut [u8]) -> i32
 
 fn lanes_case(case: Case, letter: u64, answer: &mut [u8]) -> i32
     requires { longest_answer ≤ length answer.old }
-    ensures* result { λ r. ⌜ r ≡ result (lanes_reply letter case) ⌝ }
-    ensures* buffer { λ _. ⌜ answer.new ≡ content (lanes_reply letter case) answer.old ⌝ }
+    ensures result { result ≡ call_result (lanes_reply letter case) }
+    ensures buffer { answer.new ≡ content (lanes_reply letter case) answer.old }
 {
     let found = lanes::lanes_needed(case, letter);
     match found {
@@ -61,9 +61,9 @@ fn lanes_case(case: Case, letter: u64, answer: &mut [u8]) -> i32
 
 #[unsafe(no_mangle)]
 pub extern "C" fn marehour_answer(line: &[u8], answer: &mut [u8]) -> i32
-    ensures* result { λ r. ⌜ r ≡ result (answer_call line.now (length answer.old)) ⌝ }
-    ensures* buffer { λ _. ⌜ answer.new
-        ≡ content (answer_call line.now (length answer.old)) answer.old ⌝ }
+    ensures result { result ≡ call_result (answer_call line.now (length answer.old)) }
+    ensures buffer { answer.new
+        ≡ content (answer_call line.now (length answer.old)) answer.old }
 {
     if answer.len() < ANSWER_SIZE {
         return refused(BUFFER_TOO_SHORT);
@@ -77,9 +77,9 @@ pub extern "C" fn marehour_answer(line: &[u8], answer: &mut [u8]) -> i32
 
 #[unsafe(no_mangle)]
 pub extern "C" fn marehour_lanes(line: &[u8], letter: u32, answer: &mut [u8]) -> i32
-    ensures* result { λ r. ⌜ r ≡ result (lanes_call line.now letter (length answer.old)) ⌝ }
-    ensures* buffer { λ _. ⌜ answer.new
-        ≡ content (lanes_call line.now letter (length answer.old)) answer.old ⌝ }
+    ensures result { result ≡ call_result (lanes_call line.now letter (length answer.old)) }
+    ensures buffer { answer.new
+        ≡ content (lanes_call line.now letter (length answer.old)) answer.old }
 {
     if answer.len() < ANSWER_SIZE {
         return refused(BUFFER_TOO_SHORT);

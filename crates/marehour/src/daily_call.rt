@@ -2,7 +2,7 @@
 //   marehour_daily   the answer to the line's case with the hourly demand of the daily traffic, and its daily service volumes
 ghost use Rattle.std.specs.Prelude.{◌≡◌, ◌≤◌, length};
 ghost use Rattle.daily.specs.Daily.{shares_of, figure_count};
-ghost use Rattle.marehour.specs.Calls.{daily_reply, daily_call, result, content};
+ghost use Rattle.marehour.specs.Calls.{daily_reply, daily_call, call_result, content};
 
 use crate::calls::{BUFFER_TOO_SHORT, refused};
 use daily::{DailyAnswer, FIGURES, Shares};
@@ -12,8 +12,8 @@ use road::Case;
 
 fn daily_case(case: Case, shares: Shares, daily_traffic: u64, figures: &mut [u64]) -> i32
     requires { figure_count ≤ length figures.old }
-    ensures* result { λ r. ⌜ r ≡ result (daily_reply shares daily_traffic case) ⌝ }
-    ensures* figures { λ _. ⌜ figures.new ≡ content (daily_reply shares daily_traffic case) figures.old ⌝ }
+    ensures result { result ≡ call_result (daily_reply shares daily_traffic case) }
+    ensures figures { figures.new ≡ content (daily_reply shares daily_traffic case) figures.old }
 {
     let found = daily::evaluate_daily(case, shares, daily_traffic);
     match found {
@@ -33,10 +33,10 @@ pub extern "C" fn marehour_daily(
     direction_share: u32,
     figures: &mut [u64],
 ) -> i32
-    ensures* result { λ r. ⌜ r ≡ result (daily_call line.now (shares_of peak_share direction_share) daily_traffic
-        (length figures.old)) ⌝ }
-    ensures* figures { λ _. ⌜ figures.new ≡ content (daily_call line.now (shares_of peak_share direction_share)
-        daily_traffic (length figures.old)) figures.old ⌝ }
+    ensures result { result ≡ call_result (daily_call line.now (shares_of peak_share direction_share) daily_traffic
+        (length figures.old)) }
+    ensures figures { figures.new ≡ content (daily_call line.now (shares_of peak_share direction_share)
+        daily_traffic (length figures.old)) figures.old }
 {
     if figures.len() < FIGURES {
         return refused(BUFFER_TOO_SHORT);

@@ -2,7 +2,7 @@
 //   marehour_forecast   the best and the worst letter of the line's case within the ends, each with its combination
 ghost use Rattle.std.specs.Prelude.{◌≡◌, ◌≤◌, length};
 ghost use Rattle.forecast.specs.Forecasts.{forecast_of, figure_count};
-ghost use Rattle.marehour.specs.Calls.{forecast_reply, forecast_call, result, content};
+ghost use Rattle.marehour.specs.Calls.{forecast_reply, forecast_call, call_result, content};
 
 use crate::calls::{BUFFER_TOO_SHORT, refused};
 use forecast::{FIGURES, Forecast, ForecastAnswer, Range};
@@ -12,8 +12,8 @@ use road::Case;
 
 fn forecast_case(case: Case, forecast: Forecast, figures: &mut [u64]) -> i32
     requires { figure_count ≤ length figures.old }
-    ensures* result { λ r. ⌜ r ≡ result (forecast_reply forecast case) ⌝ }
-    ensures* figures { λ _. ⌜ figures.new ≡ content (forecast_reply forecast case) figures.old ⌝ }
+    ensures result { result ≡ call_result (forecast_reply forecast case) }
+    ensures figures { figures.new ≡ content (forecast_reply forecast case) figures.old }
 {
     let found = forecast::evaluate_forecast(case, forecast);
     match found {
@@ -36,11 +36,11 @@ pub extern "C" fn marehour_forecast(
     factor_high: u64,
     figures: &mut [u64],
 ) -> i32
-    ensures* result { λ r. ⌜ r ≡ result (forecast_call line.now
-        (forecast_of demand_low demand_high share_low share_high factor_low factor_high) (length figures.old)) ⌝ }
-    ensures* figures { λ _. ⌜ figures.new ≡ content (forecast_call line.now
+    ensures result { result ≡ call_result (forecast_call line.now
+        (forecast_of demand_low demand_high share_low share_high factor_low factor_high) (length figures.old)) }
+    ensures figures { figures.new ≡ content (forecast_call line.now
         (forecast_of demand_low demand_high share_low share_high factor_low factor_high) (length figures.old))
-        figures.old ⌝ }
+        figures.old }
 {
     if figures.len() < FIGURES {
         return refused(BUFFER_TOO_SHORT);

@@ -5,6 +5,8 @@
 //   forecast_call   the best and the worst letter within the ends of a forecast, over a lent line and lent numbers
 //   speed        the surveyed speed
 //   tries        how many demands the search for the service volumes tries
+#![tactic(auto)]
+
 mod calls;
 mod daily_call;
 mod day_call;

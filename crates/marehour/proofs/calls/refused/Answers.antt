@@ -1,0 +1,16 @@
+-- `marehour::calls::refused` meets its contract: a number of at most 99 has its minus in 32 bits.
+-- Assumes nothing.
+use mathlib.Core.Path.{◌∙◌}
+use mir.Syntax.{w32}
+use mir.ValLaws.{to_z-of_z}
+use Rattle.marehour.proofs.CallLaws.{minus_is, minus-fits}
+use borrow.Author.Rules.{rules}
+use Rattle.marehour.proofs.calls.refused.Goals as goal
+
+pub overflow_sub-result : goal.overflow_sub-result
+overflow_sub-result c =
+    minus-fits c.args.number c.requires
+
+pub returns : goal.returns
+returns c =
+    to_z-of_z w32 _ (minus-fits c.args.number c.requires) ∙ minus_is c.args.number c.requires

@@ -1,0 +1,35 @@
+-- `marehour::forecast_call::marehour_forecast` meets its contract: 17, then 15, then the reply to the case that was read, which asks 1 to 6
+-- and 22 first.
+-- Assumes nothing.
+use mathlib.Core.Path.{sym, ◌∙◌}
+use Rattle.forecast.specs.Forecasts.{figure_count}
+use Rattle.marehour.specs.Calls.{forecast_reply}
+use Rattle.marehour.proofs.CallLaws.{call-short, call-malformed, call-read}
+use borrow.Author.Rules.{rules}
+use Rattle.marehour.proofs.forecast_call.marehour_forecast.Goals as goal
+
+pub returns-then-figures-lt-FIGURES : goal.returns-then-figures-lt-FIGURES
+returns-then-figures-lt-FIGURES c =
+    let both =
+    let a = c.args in
+    call-short figure_count (forecast_reply _) a.line.now a.figures.now _ c.if-figures-lt-FIGURES.true c.refused.ensures in
+    record { result = both.0; figures = both.1 }
+
+pub returns-in_default : goal.returns-in_default
+returns-in_default c =
+    let both =
+    let read = c in
+    let a = read.args in
+    call-malformed figure_count (forecast_reply _) a.line.now a.figures.now read.if-figures-lt-FIGURES.false _ _
+    (sym read.read_line-reading.ensures ∙ c.in_default.is) c.refused-in_default.ensures in
+    record { result = both.0; figures = both.1 }
+
+pub returns : goal.returns
+returns c =
+    let both =
+    let read = c in
+    let a = read.args in
+    let s = c.forecast_case in
+    call-read figure_count (forecast_reply _) a.line.now a.figures.now read.if-figures-lt-FIGURES.false _ _ _
+    (sym read.read_line-reading.ensures ∙ c.in-Case.is) (search rules) (s.ensures.result, s.ensures.figures) in
+    record { result = both.0; figures = both.1 }
