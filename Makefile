@@ -9,8 +9,9 @@ SHELL = /bin/bash
 BUILD = build
 RUSTC = rustc --edition 2021 -O
 CFLAGS = -std=c11 -Wall -Wextra -Werror -O2
-SOURCES = $(shell find crates -name "*.rt" -o -name "*.antt") crates.txt
+SOURCES = $(shell find crates -name out -prune -o \( -name "*.rt" -o -name "*.antt" \) -print) crates.txt
 LIBRARY = target/staticlib/libmarehour.a
+PROGRAM = target/bin/los
 
 # Plain C is compiled by gcc, and by clang too where it is installed.
 BENCH = $(BUILD)/bench
@@ -20,32 +21,32 @@ TABLES = $(BENCH)/powers.inc $(BENCH)/ramps.inc
 
 .PHONY: run test prove tests full tables vectors bench clean
 
-run: target/bin/los
-	@target/bin/los < examples/sections.tsv
+run: $(PROGRAM)
+	@$(PROGRAM) < examples/sections.tsv
 
 # The last line is the verdict of rt ci, shown only where every test has passed.
 test:
-	rt fmt --check
 	@$(MAKE) --no-print-directory prove
 	@$(MAKE) --no-print-directory tests
 	@tail -n 1 $(BUILD)/ci.log
 
-# rt ci removes target and proves everything from nothing. What it prints is shown as it comes, all but the last line, which is shown here
-# where rt ci fails.
+# What rt ci prints is shown as it comes, all but the last line, which is shown here where rt ci fails. rt ci passes where an edit can't be
+# applied or read, and tells it as ", N bad" on its line rt: ok; that fails here.
 prove:
 	@mkdir -p $(BUILD)
 	rt ci 2>&1 | tee $(BUILD)/ci.log | sed -u '$$d' || { tail -n 1 $(BUILD)/ci.log; exit 1; }
+	@! grep -E '^rt: ok.*, [0-9]+ bad' $(BUILD)/ci.log || { echo "an edit is bad"; exit 1; }
 
-tests: $(addprefix $(BUILD)/,tables references calls widening widening-test yearly yearly-test stream compare published) target/bin/los
+tests: $(addprefix $(BUILD)/,tables references calls widening widening-test yearly yearly-test stream compare published) $(PROGRAM)
 	$(BUILD)/tables check
 	$(BUILD)/references
 	$(BUILD)/calls
 	$(BUILD)/widening-test $(BUILD)/widening
 	$(BUILD)/yearly-test $(BUILD)/yearly
-	$(BUILD)/stream target/bin/los
+	$(BUILD)/stream $(PROGRAM)
 	$(BUILD)/compare quick
-	$(BUILD)/compare los target/bin/los
-	$(BUILD)/published target/bin/los
+	$(BUILD)/compare los $(PROGRAM)
+	$(BUILD)/published $(PROGRAM)
 
 full: $(BUILD)/compare
 	$(BUILD)/compare full-curves
@@ -58,18 +59,20 @@ tables: $(BUILD)/tables
 vectors: $(BUILD)/compare
 	$(BUILD)/compare write-vectors
 
-# What is proved already is not proved again. Each crate is told as it is proved.
+# Proves a crate, over what earlier checks kept, builds it, and puts what it built where it belongs: COMMAND CRATE FILE.
 define rt
-@mkdir -p $(BUILD)
-@echo "rt $(1)" >&2
-@rt $(1) 2>&1 | tee $(BUILD)/rt.log | sed -un '/^rt: /p' >&2 || { cat $(BUILD)/rt.log; exit 1; }
+@mkdir -p $(BUILD) $(dir $@)
+@echo "rt $(1) $(2)" >&2
+@cd crates/$(2) && rt $(1) < /dev/null > ../../$(BUILD)/rt.log 2>&1 || { cat ../../$(BUILD)/rt.log; exit 1; }
+@cp crates/$(2)/out/$(3) $@
 endef
 
-target/bin/%: $(SOURCES)
-	$(call rt,check $*)
+# rt run proves and builds the program, and answers an input without lines.
+$(PROGRAM): $(SOURCES)
+	$(call rt,run,los,los)
 
 $(LIBRARY): $(SOURCES)
-	$(call rt,staticlib marehour)
+	$(call rt,lib,marehour_c,libmarehour_c.a)
 
 $(BUILD)/calls: tests/calls.c tests/overrun.c tests/calls.h include/marehour.h $(LIBRARY)
 	@mkdir -p $(BUILD)
@@ -95,8 +98,8 @@ $(BUILD)/%: tools/%.rs
 	@mkdir -p $(BUILD)
 	$(RUSTC) -o $@ $<
 
-bench: target/bin/los $(PLAIN) $(BENCH)/race $(BENCH)/calls $(BENCH)/days $(BENCH)/lines.tsv
-	@bench/run.sh $(BENCH) target/bin/los $(PLAIN)
+bench: $(PROGRAM) $(PLAIN) $(BENCH)/race $(BENCH)/calls $(BENCH)/days $(BENCH)/lines.tsv
+	@bench/run.sh $(BENCH) $(PROGRAM) $(PLAIN)
 
 $(BENCH)/plain-%: bench/plain.c bench/section.c bench/section.h $(TABLES)
 	$* $(PLAINFLAGS) -o $@ $(filter %.c,$^)
@@ -107,16 +110,16 @@ $(BENCH)/calls $(BENCH)/days: $(BENCH)/%: bench/%.c bench/lines.c bench/lines.h 
 $(BENCH)/lines.tsv: $(BENCH)/generate
 	$< > $@
 
-# The engine's own tables, as C reads them.
+# The engine's own tables, as C reads them: the lines of numbers.
 $(BENCH)/powers.inc: crates/powers/src/table.rt
 $(BENCH)/ramps.inc: crates/road/src/ramp_table.rt
 $(TABLES):
 	@mkdir -p $(BENCH)
-	@grep -E '^ *[0-9]+,$$' $< > $@
+	@grep -E '^ *[0-9]+,[0-9, ]*$$' $< > $@
 
 $(BENCH)/%: bench/%.c
 	@mkdir -p $(BENCH)
 	$(CC) $(CFLAGS) -o $@ $<
 
 clean:
-	rm -rf $(BUILD) target
+	rm -rf $(BUILD) target crates/*/out

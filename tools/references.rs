@@ -61,10 +61,10 @@ impl Tree {
         self.0.contains_key(path) || self.0.range(folder.clone()..).next().is_some_and(|(file, _)| file.starts_with(&folder))
     }
 
-    // The lines of crates.txt: a crate and those it needs.
+    // The lines of crates.txt: a crate and those it needs. Behind the name may stand staticlib.
     fn crates(&self) -> Vec<(&str, &str)> {
         let lines = self.text("crates.txt").lines().filter(|line| !line.starts_with('#'));
-        lines.filter_map(|line| line.split_once(':')).map(|(name, needed)| (name.trim(), needed)).collect()
+        lines.filter_map(|line| line.split_once(':')).map(|(name, needed)| (first_identifier(name.trim()), needed)).collect()
     }
 
     fn has_crate(&self, name: &str) -> bool {
@@ -82,7 +82,8 @@ fn add_files(folder: &Path, files: &mut BTreeMap<String, String>) {
     for entry in fs::read_dir(listed).into_iter().flatten().flatten() {
         let path = folder.join(entry.file_name());
         let name = path.to_string_lossy().to_string();
-        if name == ".git" || BUILT.contains(&name.as_str()) {
+        let made = name == ".git" || BUILT.contains(&name.as_str()) || (name.starts_with("crates/") && path.ends_with("out"));
+        if made {
             continue;
         }
         if path.is_dir() {

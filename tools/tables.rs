@@ -82,16 +82,32 @@ struct Table {
     entries: Vec<u32>,
 }
 
+// How wide `rt fmt` lets a line of a table be.
+const WIDTH: usize = 99;
+
 impl Table {
+    // The entries as `rt fmt` lays them out: as many a line as fit.
+    fn rows(&self) -> String {
+        let mut rows = vec![String::from("   ")];
+        for n in &self.entries {
+            let entry = format!(" {n},");
+            if rows[rows.len() - 1].len() + entry.len() > WIDTH {
+                rows.push(String::from("   "));
+            }
+            let last = rows.len() - 1;
+            rows[last].push_str(&entry);
+        }
+        rows.iter().map(|row| format!("{row}\n")).collect()
+    }
+
     fn source(&self) -> (String, String) {
-        let entries: String = self.entries.iter().map(|n| format!("    {n},\n")).collect();
         let text = format!(
             "// {}. Made by tools/tables.rs, with {}: `make tables`.\npub(crate) const {}: [u32; {}] = [\n{}];\n",
             self.what,
             self.list_file,
             self.constant,
             self.entries.len(),
-            entries
+            self.rows()
         );
         (format!("crates/{}/{}", self.crate_name, self.source_file), text)
     }
@@ -104,7 +120,7 @@ impl Table {
             "-- {}. Made by tools/tables.rs, with {}: `make tables`.\n\
              --   {}\n\
              -- Assumes nothing.\n\
-             use mathlib.Core.List.{{List, [], _∷_}}\n\
+             use mathlib.Core.List.{{List, [], ◌∷◌}}\n\
              use Prim.Native.Nat.{{ℕ}}\n\n\
              unfoldable pub {} : List ℕ\n{} =\n{}\n",
             self.what,
@@ -125,7 +141,7 @@ fn main() {
             source_file: "src/table.rt",
             constant: "POWERS",
             list_file: "proofs/PowerTable.antt",
-            list: "powerTable",
+            list: "power_table",
             what: "T(i), i from 0 to 1,000",
             entries: (0..=1_000).map(power).collect(),
         },
@@ -134,7 +150,7 @@ fn main() {
             source_file: "src/ramp_table.rt",
             constant: "RAMP_TERMS",
             list_file: "proofs/RampTable.antt",
-            list: "rampTable",
+            list: "ramp_table",
             what: "The ramp term of k ramps in six miles, k from 0 to 48",
             entries: (0..=48).map(ramp_term).collect(),
         },

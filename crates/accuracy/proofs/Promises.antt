@@ -21,7 +21,6 @@ use Rattle.powers.specs.Power.{power}
 use Rattle.powers.proofs.PowerLaws.{power_le}
 use Rattle.powers.proofs.Laws.{power-is-least}
 use Rattle.curve.specs.declared.kind.Kind.{Kind}
-use Rattle.curve.specs.declared.kind.Kind.TheVariants as Kind
 use Rattle.curve.specs.declared.Curve.{Curve}
 use Rattle.curve.specs.declared.Weather.{Weather}
 use Rattle.curve.specs.Kinds.{highest_speed, lowest_adjusted_speed}

@@ -21,7 +21,6 @@ use Rattle.curve.specs.Service.{letter_at, letter_number, performance}
 use Rattle.curve.proofs.WeatherLaws.{curve_under-clear}
 use Rattle.curve.proofs.ServiceLaws.{letter_at-flow, letter_at-mono}
 use Rattle.road.specs.declared.Terrain.{Terrain}
-use Rattle.road.specs.declared.Terrain.TheVariants as Terrain
 use Rattle.road.specs.declared.Case.{Case}
 use Rattle.road.specs.Cases.{with_demand, with_lanes, SameRoad}
 use Rattle.road.specs.FreeFlowSpeed.{free_flow_speed_of}

@@ -15,7 +15,6 @@ use Rattle.method.specs.Assess.{measures}
 use Rattle.answer.specs.declared.evaluate.Volumes.{Volumes}
 use Rattle.answer.specs.declared.evaluate.Grade.{Grade}
 use Rattle.answer.specs.declared.evaluate.Answer.{Answer}
-use Rattle.answer.specs.declared.evaluate.Answer.TheVariants as Answer
 use Rattle.answer.specs.Volumes.{service_volumes}
 
 abbrev pub grade_of : Measures → Volumes → Grade

@@ -13,7 +13,6 @@ use Rattle.curve.specs.Kinds.{most_lanes}
 use Rattle.checks.specs.Refusals.{Refusal, refuses, first_refusal, unless_refused, outside}
 use Rattle.road.specs.Refusals.{field_refusals}
 use Rattle.answer.specs.declared.lanes.LanesAnswer.{LanesAnswer}
-use Rattle.answer.specs.declared.lanes.LanesAnswer.TheVariants as LanesAnswer
 use Rattle.road.specs.Cases.{with_lanes}
 use Rattle.answer.specs.Volumes.{meets}
 

@@ -15,7 +15,6 @@
 use Rattle.std.specs.Prelude.{◌≡◌, ◌↔◌, ◌⊎◌, [], ◌∷◌, ℕ, ◌+◌, ◌≤◌, ◌<◌, get_or}
 use Rattle.road.specs.declared.Way.TheVariants as Way
 use Rattle.road.specs.declared.Terrain.{Terrain}
-use Rattle.road.specs.declared.Terrain.TheVariants as Terrain
 use Rattle.road.specs.declared.Case.{Case}
 use Rattle.curve.specs.Kinds.{fewest_lanes, most_lanes}
 use Rattle.curve.specs.Weather.{clear}

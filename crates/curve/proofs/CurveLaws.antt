@@ -9,7 +9,6 @@
 use Prim.Native.Nat.{ℕ, ◌≤◌}
 use native.Mathlib.Omega.{arith}
 use Rattle.curve.specs.declared.kind.Kind.{Kind}
-use Rattle.curve.specs.declared.kind.Kind.TheVariants as Kind
 use Rattle.curve.specs.Kinds.{lowest_speed, highest_speed, lowest_capacity, highest_capacity}
 use Rattle.curve.specs.Curves.{capacity, breakpoint, curve_at, WellFormed, Sized}
 

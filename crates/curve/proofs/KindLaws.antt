@@ -4,7 +4,6 @@
 use Prim.Native.Nat.{◌≤◌}
 use native.Mathlib.Omega.{arith}
 use Rattle.curve.specs.declared.kind.Kind.{Kind}
-use Rattle.curve.specs.declared.kind.Kind.TheVariants as Kind
 use Rattle.curve.specs.Kinds.{lowest_speed, highest_speed, fewest_lanes, most_lanes}
 
 pub record KindEnds (kind : Kind) : Type 0 where

@@ -34,10 +34,8 @@ use Rattle.numbers.proofs.DivisionLaws.{div_up-le-iff, div_up-zero}
 use Rattle.numbers.proofs.FractionLaws.{AtMost-trans, rounded_down-mono, rounded_up-mono, rounded_up-eq, divided_by-mono, quotient-le-iff}
 use Rattle.numbers.proofs.BoolLaws.{and_left, and_right, leb-iff, cond-le, le-cond, cond-leb-mono}
 use Rattle.curve.specs.declared.kind.Kind.{Kind}
-use Rattle.curve.specs.declared.kind.Kind.TheVariants as Kind
 use Rattle.curve.specs.declared.Curve.{Curve}
 use Rattle.curve.specs.declared.service.Letter.{Letter}
-use Rattle.curve.specs.declared.service.Letter.TheVariants as Letter
 use Rattle.curve.specs.Kinds.{lowest_speed, highest_speed}
 use Rattle.curve.specs.Curves.{capacity, curve_at, WellFormed}
 use Rattle.curve.specs.Speed.{speed, shown_speed, ExactSpeed}

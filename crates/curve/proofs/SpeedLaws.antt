@@ -25,7 +25,6 @@ use Rattle.numbers.proofs.DivisionLaws.{div_up-le-iff, div_up-mono, div_up-zero}
 use Rattle.numbers.proofs.FractionLaws.{AtMost-trans, SameValue-pos}
 use Rattle.powers.proofs.PowerLaws.{power_zero, power_le, power-mono}
 use Rattle.curve.specs.declared.kind.Kind.{Kind}
-use Rattle.curve.specs.declared.kind.Kind.TheVariants as Kind
 use Rattle.curve.specs.declared.Curve.{Curve}
 use Rattle.curve.specs.Curves.{WellFormed, Sized}
 use Rattle.curve.specs.Speed.{beyond_breakpoint, span_to_capacity, fall_share_by, fall_share, speed, ExactSpeed}

@@ -15,7 +15,6 @@ use native.Mathlib.Nat.{mul-le-mul}
 use Rattle.numbers.specs.Fraction.{over}
 use Rattle.powers.specs.Power.{PowerTable}
 use Rattle.curve.specs.declared.kind.Kind.{Kind}
-use Rattle.curve.specs.declared.kind.Kind.TheVariants as Kind
 use Rattle.curve.specs.declared.Curve.{Curve}
 use Rattle.curve.specs.declared.speed.CurveTerms.{CurveTerms}
 use Rattle.curve.specs.Curves.{WellFormed, Sized}

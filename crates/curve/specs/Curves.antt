@@ -8,7 +8,6 @@
 use Rattle.std.specs.Prelude.{ℕ, ◌+◌, ◌*◌, ◌-◌, ◌≤◌, ◌<◌, min}
 use Rattle.numbers.specs.Fraction.{over, whole, AtMost}
 use Rattle.curve.specs.declared.kind.Kind.{Kind}
-use Rattle.curve.specs.declared.kind.Kind.TheVariants as Kind
 use Rattle.curve.specs.declared.Curve.{Curve}
 
 -- "F: c = least of 240,000 and 170,000 + F", "M: c = least of 230,000 and 100,000 + 2F"

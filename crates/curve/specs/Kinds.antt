@@ -9,7 +9,6 @@
 -- Assumes nothing.
 use Rattle.std.specs.Prelude.{ℕ}
 use Rattle.curve.specs.declared.kind.Kind.{Kind}
-use Rattle.curve.specs.declared.kind.Kind.TheVariants as Kind
 
 -- "F from 55,000 to 75,000", "45,000 to 70,000"
 abbrev pub lowest_speed : Kind → ℕ

@@ -13,7 +13,6 @@ use Rattle.std.specs.Prelude.{ℕ, ◌*◌, Bool, cond, ◌&&◌, leb, eqb}
 use Rattle.numbers.specs.Fraction.{whole, divided_by, rounded_up}
 use Rattle.curve.specs.declared.Curve.{Curve}
 use Rattle.curve.specs.declared.service.Letter.{Letter}
-use Rattle.curve.specs.declared.service.Letter.TheVariants as Letter
 use Rattle.curve.specs.declared.service.Performance.{Performance}
 use Rattle.curve.specs.Speed.{speed, shown_speed}
 

@@ -12,7 +12,6 @@ use Rattle.numbers.specs.declared.Fraction.{Fraction}
 use Rattle.numbers.specs.Fraction.{over, whole, minus, times, squared, SameValue, rounded_down, rounded_up}
 use Rattle.powers.specs.Power.{power}
 use Rattle.curve.specs.declared.kind.Kind.{Kind}
-use Rattle.curve.specs.declared.kind.Kind.TheVariants as Kind
 use Rattle.curve.specs.declared.Curve.{Curve}
 
 abbrev pub beyond_breakpoint : Curve → ℕ → ℕ

@@ -9,7 +9,6 @@
 use Rattle.std.specs.Prelude.{◌≡◌, List, ℕ, ◌*◌, ◌-◌, ◌/◌}
 use Rattle.powers.specs.Power.{PowerTable}
 use Rattle.curve.specs.declared.kind.Kind.{Kind}
-use Rattle.curve.specs.declared.kind.Kind.TheVariants as Kind
 use Rattle.curve.specs.declared.Curve.{Curve}
 use Rattle.curve.specs.declared.speed.CurveTerms.{CurveTerms}
 use Rattle.curve.specs.Curves.{WellFormed, Sized}

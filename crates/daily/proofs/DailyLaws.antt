@@ -37,7 +37,6 @@ use Rattle.method.proofs.RefusalLaws.{accepted-fields, refusal-le}
 use Rattle.answer.specs.declared.evaluate.Volumes.{Volumes}
 use Rattle.answer.specs.declared.evaluate.Grade.{Grade}
 use Rattle.answer.specs.declared.evaluate.Answer.{Answer}
-use Rattle.answer.specs.declared.evaluate.Answer.TheVariants as Answer
 use Rattle.answer.specs.Volumes.{meets}
 use Rattle.answer.specs.Answers as answers
 use Rattle.answer.specs.Answers.{graded, answer_to}
@@ -49,7 +48,6 @@ use Rattle.answer.proofs.Laws.{figures-within-ends}
 use Rattle.answer.proofs.Promises.{meets-up-to-the-service-volume}
 use Rattle.daily.specs.declared.Shares.{Shares}
 use Rattle.daily.specs.declared.DailyAnswer.{DailyAnswer}
-use Rattle.daily.specs.declared.DailyAnswer.TheVariants as DailyAnswer
 use Rattle.daily.specs.Daily.{greatest_daily_traffic, traffic_refusals, TrafficFits, hourly_demand, hourly_case, daily_volume}
 use Rattle.daily.specs.Daily.{daily_volumes, with_volumes, daily_answer, refusal_number}
 use Rattle.daily.specs.Within.{traffic_within, VolumesFit, volumes_within}

@@ -24,13 +24,11 @@ use Rattle.road.specs.declared.Case.{Case}
 use Rattle.road.specs.Cases.{with_demand}
 use Rattle.answer.specs.declared.evaluate.Volumes.{Volumes}
 use Rattle.answer.specs.declared.evaluate.Answer.{Answer}
-use Rattle.answer.specs.declared.evaluate.Answer.TheVariants as Answer
 use Rattle.answer.specs.Volumes.{meets}
 use Rattle.answer.specs.Answers as answers
 use Rattle.answer.specs.Answers.{answer_to}
 use Rattle.daily.specs.declared.Shares.{Shares}
 use Rattle.daily.specs.declared.DailyAnswer.{DailyAnswer}
-use Rattle.daily.specs.declared.DailyAnswer.TheVariants as DailyAnswer
 
 -- "daily traffic above 4,000,000,000"
 abbrev pub greatest_daily_traffic : ℕ

@@ -27,7 +27,6 @@ use Rattle.text.proofs.BufferLaws.{then}
 use Rattle.road.specs.declared.Case.{Case}
 use Rattle.road.specs.Cases.{with_demand}
 use Rattle.answer.specs.declared.evaluate.Answer.{Answer}
-use Rattle.answer.specs.declared.evaluate.Answer.TheVariants as Answer
 use Rattle.answer.specs.Answers.{answer_to, refusal_number}
 use Rattle.answer.specs.Promises.{letter_in}
 use Rattle.day.specs.declared.DayAnswer.TheVariants as DayAnswer

@@ -19,7 +19,6 @@ use Rattle.checks.specs.Refusals.{first_refusal, unless_refused, outside}
 use Rattle.checks.proofs.RefusalLaws.{none-met, none_of, within, inside, unless_refused-some}
 use Rattle.text.specs.Buffer.{written}
 use Rattle.curve.specs.declared.service.Letter.{Letter}
-use Rattle.curve.specs.declared.service.Letter.TheVariants as Letter
 use Rattle.curve.specs.Service.{letter_number}
 use Rattle.road.specs.declared.Case.{Case}
 use Rattle.road.specs.Cases.{with_demand}
@@ -27,7 +26,6 @@ use Rattle.road.specs.Refusals.{greatest_demand}
 use Rattle.method.specs.Refusals.{refusal}
 use Rattle.method.proofs.RefusalLaws.{refusal-within, refusal-above, accepted-with_demand}
 use Rattle.answer.specs.declared.evaluate.Answer.{Answer}
-use Rattle.answer.specs.declared.evaluate.Answer.TheVariants as Answer
 use Rattle.answer.specs.Answers.{answer_to}
 use Rattle.answer.specs.Promises.{letter_in}
 use Rattle.answer.proofs.AnswerLaws.{answer_to-number}

@@ -23,7 +23,6 @@ use Rattle.answer.specs.Answers.{graded, answer_to}
 use Rattle.answer.proofs.AnswerLaws.{answer_to-accepted, answer_to-refused}
 use Rattle.answer.proofs.VolumeLaws.{service_volumes-with_demand}
 use Rattle.day.specs.declared.shared.Shared.{Shared}
-use Rattle.day.specs.declared.shared.Shared.TheVariants as Shared
 use Rattle.day.specs.Shared.{SharedBy}
 
 module _ (case : Case) where

@@ -23,7 +23,6 @@ use Rattle.answer.specs.declared.evaluate.Answer.{Answer}
 use Rattle.answer.specs.Answers as answers
 use Rattle.answer.specs.Answers.{answer_to}
 use Rattle.day.specs.declared.DayAnswer.{DayAnswer}
-use Rattle.day.specs.declared.DayAnswer.TheVariants as DayAnswer
 
 -- "up to 24 demands"
 abbrev pub most_demands : ℕ

@@ -9,7 +9,6 @@ use Rattle.method.specs.Refusals.{refusal}
 use Rattle.method.specs.Assess.{CaseReady}
 use Rattle.answer.specs.Volumes.{service_volumes}
 use Rattle.day.specs.declared.shared.Shared.{Shared}
-use Rattle.day.specs.declared.shared.Shared.TheVariants as Shared
 
 -- of a case that is accepted with no demand its service volumes and terms, else its refusal
 abbrev pub SharedBy : Case → Shared → List ℕ → Type 0

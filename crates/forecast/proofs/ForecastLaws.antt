@@ -25,7 +25,6 @@ use Rattle.checks.specs.Refusals.{first_refusal, found}
 use Rattle.checks.proofs.RefusalLaws.{first_refusal-none, first_refusal-le, unless_refused-none, unless_refused-some, unless_refused-number}
 use Rattle.curve.specs.declared.Curve.{Curve}
 use Rattle.curve.specs.declared.service.Letter.{Letter}
-use Rattle.curve.specs.declared.service.Letter.TheVariants as Letter
 use Rattle.curve.specs.Service.{letter_number}
 use Rattle.curve.proofs.ServiceLaws.{letter_number-le}
 use Rattle.road.specs.declared.Case.{Case}
@@ -45,7 +44,6 @@ use Rattle.answer.proofs.Promises.{no-better-under-more-load}
 use Rattle.forecast.specs.declared.Forecast.{Forecast}
 use Rattle.forecast.specs.declared.Combination.{Combination}
 use Rattle.forecast.specs.declared.ForecastAnswer.{ForecastAnswer}
-use Rattle.forecast.specs.declared.ForecastAnswer.TheVariants as ForecastAnswer
 use Rattle.forecast.specs.Forecasts.{with_combination, every_combination, some_combination, best_letter, worst_letter, letter_of}
 use Rattle.forecast.specs.Forecasts.{best_combination, worst_combination, range_refusals, forecast_refusals, forecast_answer}
 use Rattle.forecast.specs.Forecasts.{refusal_number, values}

@@ -15,7 +15,6 @@ use Rattle.forecast.specs.declared.Forecast.{Forecast}
 use Rattle.forecast.specs.declared.Combination.{Combination}
 use Rattle.forecast.specs.declared.Outcome.{Outcome}
 use Rattle.forecast.specs.declared.ForecastAnswer.{ForecastAnswer}
-use Rattle.forecast.specs.declared.ForecastAnswer.TheVariants as ForecastAnswer
 use Rattle.forecast.specs.Forecasts.{with_combination, best_combination, worst_combination}
 
 abbrev pub AcceptedWith : Case → Combination → Curve → Type 0

@@ -25,7 +25,6 @@ use Rattle.numbers.specs.Search.{least}
 use Rattle.numbers.specs.Table.{every_up_to}
 use Rattle.checks.specs.Refusals.{Refusal, refuses, first_refusal, by_turns, unless_refused}
 use Rattle.curve.specs.declared.service.Letter.{Letter}
-use Rattle.curve.specs.declared.service.Letter.TheVariants as Letter
 use Rattle.curve.specs.Service.{letter_number}
 use Rattle.road.specs.declared.Case.{Case}
 use Rattle.road.specs.Cases.{loaded}
@@ -36,7 +35,6 @@ use Rattle.forecast.specs.declared.Range.{Range}
 use Rattle.forecast.specs.declared.Forecast.{Forecast}
 use Rattle.forecast.specs.declared.Combination.{Combination}
 use Rattle.forecast.specs.declared.ForecastAnswer.{ForecastAnswer}
-use Rattle.forecast.specs.declared.ForecastAnswer.TheVariants as ForecastAnswer
 
 abbrev pub range_of : (low high : ℕ) → Range
 range_of low high = record { low = low; high = high }

@@ -20,7 +20,6 @@ use Rattle.numbers.proofs.BoolLaws.{and_right, T_true, cond-all}
 use Rattle.text.specs.Bytes.{bytes_of, tab}
 use Rattle.text.specs.Parts.{parts, on_first}
 use Rattle.text.proofs.PartsLaws.{parts-append, spread, parts-spread}
-use Rattle.road.specs.declared.Case.{Case}
 use Rattle.checks.specs.Refusals.{outside}
 use Rattle.checks.proofs.RefusalLaws.{within}
 use Rattle.lines.specs.declared.field.FieldValue.{FieldValue}

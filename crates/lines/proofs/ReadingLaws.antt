@@ -16,7 +16,6 @@ use Rattle.text.specs.Bytes.{tab}
 use Rattle.text.specs.Parts.{parts}
 use Rattle.road.specs.declared.Case.{Case}
 use Rattle.lines.specs.declared.read.LineRead.{LineRead}
-use Rattle.lines.specs.declared.read.LineRead.TheVariants as LineRead
 use Rattle.lines.specs.Fields.{layout, completed, values_of}
 use Rattle.lines.specs.Reading.{read_values, longest_line, read_line}
 

@@ -14,18 +14,13 @@ use Rattle.std.proofs.Math.Option.{Option, none, some}
 use Rattle.text.specs.Bytes.{tab}
 use Rattle.text.specs.Parts.{parts}
 use Rattle.curve.specs.declared.kind.Kind.{Kind}
-use Rattle.curve.specs.declared.kind.Kind.TheVariants as Kind
 use Rattle.curve.specs.Weather.{factors}
 use Rattle.road.specs.declared.Way.{Way}
-use Rattle.road.specs.declared.Way.TheVariants as Way
 use Rattle.road.specs.declared.Median.{Median}
-use Rattle.road.specs.declared.Median.TheVariants as Median
 use Rattle.road.specs.declared.Terrain.{Terrain}
-use Rattle.road.specs.declared.Terrain.TheVariants as Terrain
 use Rattle.road.specs.declared.Case.{Case}
 use Rattle.road.specs.Cases.{road, loaded}
 use Rattle.lines.specs.declared.read.LineRead.{LineRead}
-use Rattle.lines.specs.declared.read.LineRead.TheVariants as LineRead
 use Rattle.lines.specs.Fields.{layout, completed, values_of}
 
 abbrev pub kind_of : ℕ → Kind

@@ -2,6 +2,8 @@
 // Its steps are those of stream/specs/Runs.Run: a piece is read behind the bytes held (feed), whole lines are answered and the rest is
 // carried over (turn), and at the end of the input a last line without newline is answered (end). It stops with a message when its output
 // can't be written or its input can't be read: half a line is never answered.
+#![tactic(auto)]
+
 ghost use Rattle.std.specs.Prelude.{◌≡◌, true, false, ◌↔◌, ◌+◌, ◌≤◌, ◌<◌, length, take};
 ghost use Rattle.text.specs.Bytes.{newline};
 ghost use Rattle.text.specs.Parts.{count_before};
@@ -11,8 +13,8 @@ ghost use Rattle.stream.specs.Stream.{texts};
 ghost use Rattle.stream.specs.Turns.{answered, carried};
 ghost use Rattle.replies.specs.Output.{line_texts};
 
-use libc::{STDERR_FILENO, STDIN_FILENO, STDOUT_FILENO};
 use replies::block;
+use std::io::{Read, Write};
 
 // After a step: the bytes held, whether there may be more, and whether reading and writing went well.
 #[derive(Clone, Copy)]
@@ -22,43 +24,50 @@ struct Step {
     sound: bool,
 }
 
+// Tells what went wrong on standard error, as far as that can be written.
+fn tell(rt: HostRuntime, message: &[u8]) {
+    let mut errors = rt.stderr();
+    let _ = errors.write_all(message).is_ok();
+}
+
 // Writes answers to standard output, and says whether that went well; where it did not, a line on standard error tells.
-fn write_out(answers: &[u8]) -> bool {
-    let sound = io::write_all(STDOUT_FILENO, answers);
+fn write_out(rt: HostRuntime, answers: &[u8]) -> bool {
+    let mut output = rt.stdout();
+    let sound = output.write_all(answers).is_ok();
     if !sound {
-        io::write_all(STDERR_FILENO, b"los: standard output can't be written\n");
+        tell(rt, b"los: standard output can't be written\n");
     }
     sound
 }
 
 // Reads a piece behind the bytes held. There has to be room: nothing read is the end of the input, and nothing else is.
-fn read_more(buffer: &mut [u8], held: usize) -> Step
+fn read_more(rt: HostRuntime, buffer: &mut [u8], held: usize) -> Step
     requires { held < length buffer.old }
-    ensures held_le_held { (held ≤ result.held) × (result.held ≤ length buffer.old) }
+    ensures in_bounds { (held ≤ result.held) × (result.held ≤ length buffer.old) }
     ensures kept { take held buffer.new ≡ take held buffer.old }
     ensures ended { (result.more ≡ false) ↔ (result.held ≡ held) }
 {
-    let part = &mut buffer[held..];
-    let got = libc::read(STDIN_FILENO, part);
-    if got < 0 {
-        io::write_all(STDERR_FILENO, b"los: standard input can't be read\n");
-        return Step {
-            held,
-            more: false,
-            sound: false,
-        };
-    }
-    let n = io::count(got, part);
-    Step {
-        held: held + n,
-        more: 0 < n,
-        sound: true,
+    let mut input = rt.stdin();
+    match input.read(&mut buffer[held..]) {
+        Ok(n) => Step {
+            held: held + n,
+            more: 0 < n,
+            sound: true,
+        },
+        Err(_) => {
+            tell(rt, b"los: standard input can't be read\n");
+            Step {
+                held,
+                more: false,
+                sound: false,
+            }
+        }
     }
 }
 
 // Answers the whole lines that are held, or reads more where there is none. Where lines are answered, what is held is what is carried over,
 // and only a failed write ends it.
-fn advance(buffer: &mut [u8], held: usize, out: &mut [u8]) -> Step
+fn advance(rt: HostRuntime, buffer: &mut [u8], held: usize, out: &mut [u8]) -> Step
     requires { (held ≤ length buffer.old) × ((longest_line + 2 ≤ length buffer.old) × (longest_answer ≤ length out.old)) }
     ensures held_in_bounds { result.held ≤ length buffer.old }
     ensures answered { 0 < length (texts line_texts (answered line_texts (length out.old)
@@ -72,9 +81,9 @@ fn advance(buffer: &mut [u8], held: usize, out: &mut [u8]) -> Step
     let turn = block::answer_turn(buffer, held, out);
     let written = turn.written;
     if written == 0 {
-        return read_more(buffer, turn.carried);
+        return read_more(rt, buffer, turn.carried);
     }
-    let sound = write_out(&out[..written]);
+    let sound = write_out(rt, &out[..written]);
     Step {
         held: turn.carried,
         more: sound,
@@ -82,7 +91,7 @@ fn advance(buffer: &mut [u8], held: usize, out: &mut [u8]) -> Step
     }
 }
 
-fn run(buffer: &mut [u8], out: &mut [u8])
+fn run(rt: HostRuntime, buffer: &mut [u8], out: &mut [u8])
     requires { (longest_line + 2 ≤ length buffer.old) × (longest_answer ≤ length out.old) }
 {
     let mut held = 0;
@@ -94,7 +103,7 @@ fn run(buffer: &mut [u8], out: &mut [u8])
         if steps == 0 {
             return;
         }
-        let step = advance(buffer, held, out);
+        let step = advance(rt, buffer, held, out);
         held = step.held;
         more = step.more;
         sound = step.sound;
@@ -104,11 +113,11 @@ fn run(buffer: &mut [u8], out: &mut [u8])
         return;
     }
     let written = block::answer_last(&buffer[..held], out);
-    write_out(&out[..written]);
+    write_out(rt, &out[..written]);
 }
 
-fn main() {
+fn main(rt: HostRuntime) {
     let mut buffer = [0u8; 65536];
     let mut out = [0u8; 131072];
-    run(&mut buffer, &mut out);
+    run(rt, &mut buffer, &mut out);
 }

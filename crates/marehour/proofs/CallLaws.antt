@@ -30,7 +30,6 @@ use Rattle.text.proofs.DigitLaws.{decimal-small}
 use Rattle.text.proofs.BufferLaws.{first_byte, then-byte}
 use Rattle.road.specs.declared.Case.{Case}
 use Rattle.lines.specs.declared.read.LineRead.{LineRead}
-use Rattle.lines.specs.declared.read.LineRead.TheVariants as LineRead
 use Rattle.lines.specs.Reading.{read_line}
 use Rattle.lines.proofs.ReadingLaws.{read_line-refused}
 use Rattle.marehour.specs.Calls.{Reply, writes, refusal, count_text, figures_reply, line_reply, line_call, buffer_refusals}

@@ -2,7 +2,6 @@
 --   tries-hand-back, tries-of-lines
 -- Assumes nothing.
 use mathlib.Core.Path.{refl, ap, ◌∙◌}
-use mathlib.Core.List.{[]}
 use Rattle.text.specs.Bytes.{bytes_of}
 use Rattle.text.specs.Parts.{on_first, parts}
 use Rattle.method.specs.Boundary.{example}

@@ -49,7 +49,6 @@ use Rattle.forecast.specs.Forecasts.{forecast_answer}
 use Rattle.survey.specs.declared.SurveyAnswer.{SurveyAnswer}
 use Rattle.survey.specs.Survey as survey
 use Rattle.lines.specs.declared.read.LineRead.{LineRead}
-use Rattle.lines.specs.declared.read.LineRead.TheVariants as LineRead
 use Rattle.lines.specs.Reading.{read_line}
 use Rattle.replies.specs.Texts.{answer_text, longest_answer}
 

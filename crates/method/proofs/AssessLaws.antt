@@ -14,7 +14,7 @@ use Rattle.road.specs.declared.Case.{Case}
 use Rattle.method.specs.declared.assess.CaseTerms.{CaseTerms}
 use Rattle.method.specs.declared.checked.Checked.TheVariants as Checked
 use Rattle.method.specs.declared.assess.Assessment.TheVariants as Assessment
-use Rattle.method.specs.Refusals.{refusal, Accepted}
+use Rattle.method.specs.Refusals.{refusal}
 use Rattle.method.specs.Checked.{case_curve, checked}
 use Rattle.method.specs.Flow.{LoadFits}
 use Rattle.method.specs.Assess.{measures, assessment, refusal_number, case_terms, CaseReady}

@@ -14,7 +14,6 @@ use Rattle.numbers.specs.Division.{div_up}
 use Rattle.numbers.proofs.DivisionLaws.{div_up-mono, div_up-zero}
 use Rattle.curve.proofs.KindLaws.{kind-ends}
 use Rattle.road.specs.declared.Terrain.{Terrain}
-use Rattle.road.specs.declared.Terrain.TheVariants as Terrain
 use Rattle.road.specs.declared.Case.{Case}
 use Rattle.road.specs.Cases.{with_lanes}
 use Rattle.road.specs.Refusals.{FieldsFit}

@@ -14,7 +14,6 @@ use Rattle.road.specs.declared.Case.{Case}
 use Rattle.method.specs.declared.assess.CaseTerms.{CaseTerms}
 use Rattle.method.specs.declared.assess.Measures.{Measures}
 use Rattle.method.specs.declared.assess.Assessment.{Assessment}
-use Rattle.method.specs.declared.assess.Assessment.TheVariants as Assessment
 use Rattle.method.specs.Refusals.{refusal, Accepted}
 use Rattle.method.specs.Checked.{case_curve}
 use Rattle.method.specs.Flow.{load_of, case_flow_rate}

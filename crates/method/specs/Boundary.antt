@@ -12,14 +12,12 @@ use Rattle.std.specs.Prelude.{List, [], ◌∷◌, map, ℕ}
 use Rattle.checks.specs.Figures.{Figure, figure}
 use Rattle.powers.specs.Power.{power}
 use Rattle.curve.specs.declared.kind.Kind.{Kind}
-use Rattle.curve.specs.declared.kind.Kind.TheVariants as Kind
 use Rattle.curve.specs.declared.Weather.{Weather}
 use Rattle.curve.specs.Curves.{curve_at}
 use Rattle.curve.specs.Weather.{factors, clear}
 use Rattle.curve.specs.Service.{shown_density, letter_at, letter_number}
 use Rattle.road.specs.declared.Way.TheVariants as Way
 use Rattle.road.specs.declared.Median.{Median}
-use Rattle.road.specs.declared.Median.TheVariants as Median
 use Rattle.road.specs.declared.Terrain.TheVariants as Terrain
 use Rattle.road.specs.declared.Road.{Road}
 use Rattle.road.specs.declared.Case.{Case}

@@ -16,7 +16,6 @@ use Rattle.road.specs.declared.Road.{Road}
 use Rattle.road.specs.declared.Case.{Case}
 use Rattle.road.specs.FreeFlowSpeed.{free_flow_speed_of}
 use Rattle.method.specs.declared.checked.Checked.{Checked}
-use Rattle.method.specs.declared.checked.Checked.TheVariants as Checked
 use Rattle.method.specs.Refusals.{speed_refusals, refusals_with, refusal}
 
 unfoldable pub curve_of : Road → Weather → ℕ → Curve

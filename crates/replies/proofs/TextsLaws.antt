@@ -17,7 +17,6 @@ use Rattle.text.proofs.RowLaws.{row_text-length, row_text-one, figures_text-mono
 use Rattle.road.specs.declared.Case.{Case}
 use Rattle.method.specs.Refusals.{refusal}
 use Rattle.answer.specs.declared.evaluate.Answer.{Answer}
-use Rattle.answer.specs.declared.evaluate.Answer.TheVariants as Answer
 use Rattle.answer.specs.Answers.{graded, answer_to, values}
 use Rattle.answer.specs.Laws.{figure_ends}
 use Rattle.answer.proofs.Laws.{figures-within-ends}

@@ -22,7 +22,6 @@ use Rattle.numbers.specs.Table.{every_up_to}
 use Rattle.numbers.proofs.TableLaws.{every_up_to-at}
 use Rattle.numbers.proofs.BoolLaws.{cond-all, cond-le, cond-leb-antitone}
 use Rattle.road.specs.declared.Median.{Median}
-use Rattle.road.specs.declared.Median.TheVariants as Median
 use Rattle.road.specs.Interpolation.{entry_before, entry_after, weighted_sum, interpolated}
 use Rattle.road.specs.Adjustments.{lane_width_adjustment, per_missing_foot, right_clearance_row, right_clearance_adjustment}
 use Rattle.road.specs.Adjustments.{counted_left_clearance, total_clearance, two_lane_row, three_lane_row, total_clearance_row}

@@ -11,9 +11,7 @@ use Prim.Native.Nat.{ℕ, ◌+◌, ◌-◌, ◌≤◌}
 use native.Mathlib.Omega.{arith}
 use native.Mathlib.Nat.{le_refl}
 use Rattle.curve.specs.declared.kind.Kind.{Kind}
-use Rattle.curve.specs.declared.kind.Kind.TheVariants as Kind
 use Rattle.road.specs.declared.Way.{Way}
-use Rattle.road.specs.declared.Way.TheVariants as Way
 use Rattle.road.specs.declared.Road.{Road}
 use Rattle.curve.specs.Kinds.{highest_speed}
 use Rattle.road.specs.Adjustments.{lane_width_adjustment, right_clearance_adjustment, total_clearance, total_clearance_adjustment}

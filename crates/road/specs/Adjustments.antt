@@ -14,7 +14,6 @@
 use Rattle.std.specs.Prelude.{ℕ, ◌+◌, ◌*◌, ◌-◌, min, cond, List, [], ◌∷◌, leb}
 use Rattle.road.specs.Interpolation.{interpolated}
 use Rattle.road.specs.declared.Median.{Median}
-use Rattle.road.specs.declared.Median.TheVariants as Median
 
 -- "120 or more takes 0 off, 110 to 119 takes 1,900, 100 to 109 takes 6,600"
 unfoldable pub lane_width_adjustment : ℕ → ℕ

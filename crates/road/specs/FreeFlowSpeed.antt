@@ -6,9 +6,7 @@
 -- Assumes nothing.
 use Rattle.std.specs.Prelude.{ℕ, ◌-◌, min}
 use Rattle.curve.specs.declared.kind.Kind.{Kind}
-use Rattle.curve.specs.declared.kind.Kind.TheVariants as Kind
 use Rattle.road.specs.declared.Way.{Way}
-use Rattle.road.specs.declared.Way.TheVariants as Way
 use Rattle.road.specs.declared.Road.{Road}
 use Rattle.curve.specs.Kinds.{highest_speed}
 use Rattle.road.specs.Adjustments.{lane_width_adjustment, right_clearance_adjustment, total_clearance, total_clearance_adjustment}

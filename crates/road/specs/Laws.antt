@@ -4,7 +4,6 @@
 -- Assumes nothing.
 use Rattle.std.specs.Prelude.{◌≡◌, false, ◌↔◌, List, ℕ, suc, ◌+◌, ◌*◌, ◌-◌, ◌^◌, ◌≤◌, ◌<◌, min, get_or}
 use Rattle.curve.specs.declared.kind.Kind.{Kind}
-use Rattle.curve.specs.declared.kind.Kind.TheVariants as Kind
 use Rattle.curve.specs.declared.Weather.{Weather}
 use Rattle.curve.specs.Weather.{FactorsFit}
 use Rattle.road.specs.declared.Road.{Road}

@@ -17,11 +17,9 @@
 use Rattle.std.specs.Prelude.{ℕ, ◌≡◌, Bool, true, false, ◌||◌, List, [], ◌∷◌, ◌++◌, ltb}
 use Rattle.checks.specs.Refusals.{Refusal, refuses, first_refusal, outside}
 use Rattle.curve.specs.declared.kind.Kind.{Kind}
-use Rattle.curve.specs.declared.kind.Kind.TheVariants as Kind
 use Rattle.curve.specs.declared.Weather.{Weather}
 use Rattle.curve.specs.Kinds.{lowest_factor, fewest_lanes, most_lanes}
 use Rattle.road.specs.declared.Median.{Median}
-use Rattle.road.specs.declared.Median.TheVariants as Median
 use Rattle.road.specs.declared.Road.{Road}
 use Rattle.road.specs.declared.Case.{Case}
 

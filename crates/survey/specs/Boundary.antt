@@ -7,7 +7,6 @@ use Rattle.std.specs.Prelude.{true, false, List, [], ◌∷◌, ℕ, pos, negsuc
 use Rattle.std.specs.Float.{nan, inf, fin}
 use Rattle.checks.specs.Figures.{Figure, figure}
 use Rattle.survey.specs.declared.SurveyedSpeed.{SurveyedSpeed}
-use Rattle.survey.specs.declared.SurveyedSpeed.TheVariants as SurveyedSpeed
 use Rattle.survey.specs.declared.Survey.{Survey}
 use Rattle.survey.specs.Survey.{survey_answer, refusal_number, values}
 

@@ -7,7 +7,6 @@ use Rattle.std.specs.Prelude.{◌≤◌, ◌≡◌, true, negsuc}
 use Rattle.std.specs.Float.{fin}
 use Rattle.survey.specs.declared.Survey.{Survey}
 use Rattle.survey.specs.declared.SurveyAnswer.{SurveyAnswer}
-use Rattle.survey.specs.declared.SurveyAnswer.TheVariants as SurveyAnswer
 use Rattle.survey.specs.Survey.{mile_an_hour, thousandths, rounded_in, survey_answer}
 
 abbrev pub AnswerWithinEnds : SurveyAnswer → Type 0

@@ -20,10 +20,8 @@ use Rattle.numbers.specs.declared.Fraction.{Fraction}
 use Rattle.numbers.specs.Fraction.{over, whole, times, divided_by, rounded_down, rounded_up}
 use Rattle.checks.specs.Refusals.{Refusal, refuses, first_refusal, unless_refused, outside}
 use Rattle.survey.specs.declared.SurveyedSpeed.{SurveyedSpeed}
-use Rattle.survey.specs.declared.SurveyedSpeed.TheVariants as SurveyedSpeed
 use Rattle.survey.specs.declared.Survey.{Survey}
 use Rattle.survey.specs.declared.SurveyAnswer.{SurveyAnswer}
-use Rattle.survey.specs.declared.SurveyAnswer.TheVariants as SurveyAnswer
 
 -- "1 mi = 1.609344 km"
 abbrev pub mile_in_kilometres : Fraction

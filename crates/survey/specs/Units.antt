@@ -6,7 +6,6 @@
 use Rattle.std.specs.Prelude.{◌*◌, ◌≤◌, ◌<◌, cond}
 use Rattle.numbers.specs.declared.Fraction.{Fraction}
 use Rattle.survey.specs.declared.SurveyAnswer.{SurveyAnswer}
-use Rattle.survey.specs.declared.SurveyAnswer.TheVariants as SurveyAnswer
 use Rattle.survey.specs.Survey.{RoundedSpeed, speed_refused, thousandths_in}
 
 pub record UnitFits (unit : Fraction) : Type 0 where

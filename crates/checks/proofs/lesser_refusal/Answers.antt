@@ -2,7 +2,6 @@
 -- Assumes nothing.
 use borrow.Author.Tests.{ne_eqb}
 use Rattle.checks.specs.Refusals.{lesser_refusal}
-use borrow.Author.Rules.{rules}
 use Rattle.checks.proofs.lesser_refusal.Goals as goal
 
 pub returns-then-one-eq0 : goal.returns-then-one-eq0

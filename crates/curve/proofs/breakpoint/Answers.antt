@@ -3,7 +3,6 @@
 use native.Mathlib.Omega.{arith}
 use Rattle.curve.specs.Curves.{breakpoint}
 use Rattle.curve.proofs.KindLaws.{kind-ends}
-use borrow.Author.Rules.{rules}
 use Rattle.curve.proofs.breakpoint.Goals as goal
 
 pub overflow_mul-result : goal.overflow_mul-result

@@ -3,7 +3,6 @@
 use native.Mathlib.Omega.{arith}
 use Rattle.curve.specs.Curves.{capacity}
 use Rattle.curve.proofs.KindLaws.{kind-ends}
-use borrow.Author.Rules.{rules}
 use Rattle.curve.proofs.capacity.Goals as goal
 
 pub overflow_add-speed : goal.overflow_add-speed

@@ -2,7 +2,6 @@
 -- Assumes nothing.
 use Rattle.daily.proofs.WithinLaws.{passed, shares-fit}
 use Rattle.daily.proofs.DailyLaws.{answer-stopped, engine-answers, engine-accepted, answer-graded, answer-refused, volumes-fit}
-use borrow.Author.Rules.{rules}
 use Rattle.daily.proofs.evaluate_daily.Goals as goal
 
 pub returns-then-number-gt0 : goal.returns-then-number-gt0

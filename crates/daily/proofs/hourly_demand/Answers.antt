@@ -5,7 +5,6 @@ use native.Mathlib.Omega.{arith}
 use native.Mathlib.Nat.{mul-le-mul}
 use Rattle.daily.specs.Daily.{hourly_demand}
 use Rattle.daily.proofs.WithinLaws.{shares-fit, scaled-le}
-use borrow.Author.Rules.{rules}
 use Rattle.daily.proofs.hourly_demand.Goals as goal
 
 pub overflow_mul-daily_traffic : goal.overflow_mul-daily_traffic

@@ -2,7 +2,6 @@
 -- Assumes nothing.
 use native.Mathlib.Omega.{arith}
 use Rattle.text.proofs.BufferLaws.{then}
-use borrow.Author.Rules.{rules}
 use Rattle.daily.proofs.put_figures.Goals as goal
 
 pub returns : goal.returns

@@ -1,7 +1,6 @@
 -- `daily::traffic_refusal` meets its contract: its two lines are those of the list.
 -- Assumes nothing.
 use Rattle.daily.specs.Daily.{traffic_refusals}
-use borrow.Author.Rules.{rules}
 use Rattle.daily.proofs.traffic_refusal.Goals as goal
 
 pub returns : goal.returns

@@ -3,7 +3,6 @@
 use mathlib.Core.Path.{sym, ◌∙◌}
 use native.Mathlib.Omega.{arith}
 use Rattle.daily.proofs.WithinLaws.{product-pos, product_le, traffic_within-eq}
-use borrow.Author.Rules.{rules}
 use Rattle.daily.proofs.traffic_within.Goals as goal
 
 pub overflow_mul-shares : goal.overflow_mul-shares

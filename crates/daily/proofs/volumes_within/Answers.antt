@@ -1,6 +1,5 @@
 -- `daily::volumes_within` meets its contract, field by field.
 -- Assumes nothing.
-use borrow.Author.Rules.{rules}
 use Rattle.daily.proofs.volumes_within.Goals as goal
 
 pub returns : goal.returns

@@ -2,7 +2,6 @@
 -- Assumes nothing.
 use mathlib.Core.Path.{◌∙◌}
 use Rattle.day.proofs.DayLaws.{lent-passed, day-refused, day-answered}
-use borrow.Author.Rules.{rules}
 use Rattle.day.proofs.evaluate_day.Goals as goal
 
 pub returns-then-number-gt0 : goal.returns-then-number-gt0

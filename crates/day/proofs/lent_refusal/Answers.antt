@@ -1,7 +1,6 @@
 -- `day::lent_refusal` meets its contract: its line is that of the list.
 -- Assumes nothing.
 use Rattle.day.specs.Days.{lent_refusals}
-use borrow.Author.Rules.{rules}
 use Rattle.day.proofs.lent_refusal.Goals as goal
 
 pub returns : goal.returns

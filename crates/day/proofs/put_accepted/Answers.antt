@@ -5,7 +5,6 @@ use Rattle.curve.proofs.TermsLaws.{table_none, table-lent}
 use Rattle.method.specs.Checked.{checked}
 use Rattle.method.specs.Assess.{case_terms}
 use Rattle.method.proofs.AssessLaws.{case-readied}
-use borrow.Author.Rules.{rules}
 use Rattle.day.proofs.put_accepted.Goals as goal
 
 pub case_terms-terms-requires : goal.case_terms-terms-requires

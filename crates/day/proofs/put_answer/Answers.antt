@@ -1,6 +1,5 @@
 -- `day::put_answer` meets its contract: of a grade 0 and its eleven figures are written, of a refusal its number and eleven zeros.
 -- Assumes nothing.
-use borrow.Author.Rules.{rules}
 use Rattle.day.proofs.put_answer.Goals as goal
 
 pub returns-in-Graded : goal.returns-in-Graded

@@ -2,11 +2,9 @@
 -- Assumes nothing.
 use mathlib.Core.Path.{◌≡◌, refl, sym, ap, ◌∙◌}
 use mathlib.Core.List.{flat_map}
-use Prim.Native.Nat.{◌-◌, ◌≤◌}
 use native.Mathlib.Omega.{arith}
-use lib.ListN.{length, take, get_or}
+use lib.ListN.{get_or}
 use lib.Seq.{take_all}
-use Rattle.text.specs.Buffer.{Wrote}
 use Rattle.text.proofs.BufferLaws.{none_written}
 use Rattle.road.specs.Cases.{with_demand}
 use Rattle.answer.specs.Answers.{answer_to}

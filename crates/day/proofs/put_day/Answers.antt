@@ -3,7 +3,6 @@
 use mathlib.Core.Path.{sym, ap, ◌∙◌}
 use Rattle.method.specs.Checked.{checked}
 use Rattle.method.proofs.CheckedLaws.{checked_refused, checked-number}
-use borrow.Author.Rules.{rules}
 use Rattle.day.proofs.put_day.Goals as goal
 
 pub put_accepted-requires : goal.put_accepted-requires

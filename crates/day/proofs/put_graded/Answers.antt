@@ -2,7 +2,6 @@
 -- Assumes nothing.
 use mathlib.Core.Path.{◌∙◌}
 use Rattle.answer.proofs.VolumeLaws.{volume-ready, service_volumes-terms, service_volumes-with_demand}
-use borrow.Author.Rules.{rules}
 use Rattle.day.proofs.put_graded.Goals as goal
 
 pub volumes_with-volumes-requires : goal.volumes_with-volumes-requires

@@ -4,7 +4,6 @@ use mathlib.Core.Path.{◌∙◌}
 use native.Mathlib.Omega.{arith}
 use lib.ListN.{length-set}
 use Rattle.text.proofs.BufferLaws.{first_byte, then}
-use borrow.Author.Rules.{rules}
 use Rattle.day.proofs.put_position.Goals as goal
 
 pub put_numbers-requires : goal.put_numbers-requires

@@ -3,7 +3,6 @@
 -- Assumes nothing.
 use mathlib.Core.Path.{sym, ◌∙◌}
 use Rattle.forecast.proofs.ForecastLaws.{found-accepted, ends-accepted, answer-accepted, answer-refused}
-use borrow.Author.Rules.{rules}
 use Rattle.forecast.proofs.evaluate_forecast.Goals as goal
 
 pub outcomes-requires : goal.outcomes-requires

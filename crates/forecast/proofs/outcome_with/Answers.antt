@@ -3,7 +3,6 @@
 use mathlib.Core.Path.{ap, ◌∙◌}
 use Rattle.method.specs.Checked.{checked}
 use Rattle.method.proofs.AssessLaws.{case-readied}
-use borrow.Author.Rules.{rules}
 use Rattle.forecast.proofs.outcome_with.Goals as goal
 
 pub case_terms-requires : goal.case_terms-requires

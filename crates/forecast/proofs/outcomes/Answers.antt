@@ -1,7 +1,6 @@
 -- `forecast::outcomes` meets its contract: kind F reads no table, and kind M gets the table of powers.
 -- Assumes nothing.
 use Rattle.curve.proofs.TermsLaws.{table_none, table-lent}
-use borrow.Author.Rules.{rules}
 use Rattle.forecast.proofs.outcomes.Goals as goal
 
 pub outcomes_with-requires : goal.outcomes_with-requires

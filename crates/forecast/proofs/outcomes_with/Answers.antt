@@ -1,6 +1,5 @@
 -- `forecast::outcomes_with` meets its contract: the best combination and the worst, one after the other.
 -- Assumes nothing.
-use borrow.Author.Rules.{rules}
 use Rattle.forecast.proofs.outcomes_with.Goals as goal
 
 pub outcome_with-requires : goal.outcome_with-requires

@@ -1,6 +1,5 @@
 -- `forecast::put_figures` meets its contract: the eight numbers are written as they are.
 -- Assumes nothing.
-use borrow.Author.Rules.{rules}
 use Rattle.forecast.proofs.put_figures.Goals as goal
 
 pub returns : goal.returns

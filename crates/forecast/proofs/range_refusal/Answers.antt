@@ -2,7 +2,6 @@
 -- Assumes nothing.
 use mathlib.Core.Path.{sym}
 use Rattle.forecast.proofs.RangeLaws.{range-number}
-use borrow.Author.Rules.{rules}
 use Rattle.forecast.proofs.range_refusal.Goals as goal
 
 pub returns : goal.returns

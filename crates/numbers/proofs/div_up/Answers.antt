@@ -3,7 +3,6 @@
 use mathlib.Core.Path.{sym}
 use native.Mathlib.Omega.{arith}
 use native.Mathlib.Nat.{div-le_self}
-use borrow.Author.Rules.{rules}
 use Prim.Native.Nat.{◌-◌}
 use Rattle.numbers.proofs.DivisionLaws.{div_up-zero, div_up-suc}
 use Rattle.numbers.proofs.div_up.Goals as goal

@@ -3,7 +3,6 @@
 use native.Mathlib.Nat.{lt_of_le_of_lt}
 use lib.Dec.{lit<}
 use Rattle.powers.proofs.PowerLaws.{power_le}
-use borrow.Author.Rules.{rules}
 use Rattle.powers.proofs.power.Goals as goal
 
 pub overflow_cast-result : goal.overflow_cast-result

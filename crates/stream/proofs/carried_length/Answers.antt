@@ -2,7 +2,6 @@
 -- Assumes nothing.
 use native.Mathlib.Omega.{arith}
 use Rattle.stream.proofs.CarryLaws.{cut_short, cut_line, cut-long}
-use borrow.Author.Rules.{rules}
 use Rattle.stream.proofs.carried_length.Goals as goal
 
 pub returns-then-n-kept : goal.returns-then-n-kept

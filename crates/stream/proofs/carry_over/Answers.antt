@@ -6,7 +6,6 @@ use Prim.Native.Nat.{ℕ}
 use native.Mathlib.Omega.{arith}
 use lib.ListN.{take, drop}
 use Rattle.stream.proofs.CarryLaws.{cut-within, cut_moved}
-use borrow.Author.Rules.{rules}
 use Rattle.stream.proofs.carry_over.Goals as goal
 
 pub move_to_start-requires : goal.move_to_start-requires

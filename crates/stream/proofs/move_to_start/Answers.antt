@@ -1,10 +1,8 @@
 -- `stream::move_to_start` meets its contract: a byte is moved to a place before its own, so those not yet moved are as they were.
 -- Assumes nothing.
 use mathlib.Core.Path.{◌≡◌, refl}
-use mathlib.Core.List.{◌++◌}
-use Prim.Native.Nat.{◌-◌, ◌≤◌}
 use native.Mathlib.Omega.{arith}
-use lib.ListN.{length, take, drop, length-set}
+use lib.ListN.{length-set}
 use Rattle.stream.proofs.CarryLaws.{moved}
 use borrow.Author.Rules.{rules}
 use Rattle.stream.proofs.move_to_start.Goals as goal

@@ -1,12 +1,9 @@
 -- `stream::move_to_start` meets its contract: a byte is moved to a place before its own, so those not yet moved are as they were.
 -- Assumes nothing.
-use mathlib.Core.Path.{◌≡◌, refl}
+use mathlib.Core.Path.{◌≡◌}
 use mathlib.Core.List.{◌++◌}
 use Prim.Native.Nat.{◌-◌, ◌≤◌}
-use native.Mathlib.Omega.{arith}
-use lib.ListN.{length, take, drop, length-set}
-use Rattle.stream.proofs.CarryLaws.{moved}
-use borrow.Author.Rules.{rules}
+use lib.ListN.{length, take, drop}
 use Rattle.stream.proofs.move_to_start.Given as goal
 
 abbrev pub invariant-loop-i : goal.invariant-loop-i

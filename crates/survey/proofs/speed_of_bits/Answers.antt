@@ -6,7 +6,6 @@ use mathlib.Core.Bool.{true, false}
 use Prim.Native.Nat.{◌/◌, ◌%◌}
 use native.Mathlib.Omega.{arith}
 use Rattle.survey.proofs.FloatLaws.{steps, bits-low, bits-by, bits-high, numerator-fits, denominator-fits, denominator-pos}
-use borrow.Author.Rules.{rules}
 use Rattle.survey.proofs.speed_of_bits.Goals as goal
 
 pub returns-then-exponent-lt127 : goal.returns-then-exponent-lt127

@@ -10,7 +10,6 @@ use denote.Floats.{passes}
 use Rattle.survey.specs.Survey.{rounded_in}
 use Rattle.survey.specs.Units.{speed_answer}
 use Rattle.survey.proofs.FloatLaws.{not_nan, rounded_in-nan}
-use borrow.Author.Rules.{rules}
 use Rattle.survey.proofs.speed_of_float.Goals as goal
 
 pub returns-then-x : goal.returns-then-x

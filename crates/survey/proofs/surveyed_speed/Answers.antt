@@ -4,7 +4,6 @@ use mathlib.Core.Path.{sym, ap, ◌∙◌}
 use Rattle.survey.specs.Survey.{rounded_speed}
 use Rattle.survey.specs.Units.{speed_answer}
 use Rattle.survey.proofs.SurveyLaws.{survey_answer-cars, survey_answer-flow, survey_answer-speed}
-use borrow.Author.Rules.{rules}
 use Rattle.survey.proofs.surveyed_speed.Goals as goal
 
 pub returns-then-survey-lt-FEWEST_CARS : goal.returns-then-survey-lt-FEWEST_CARS

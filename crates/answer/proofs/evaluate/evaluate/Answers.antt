@@ -1,7 +1,6 @@
 -- `answer::evaluate::evaluate` meets its contract: the answer is the one that was counted for.
 -- Assumes nothing.
 use mathlib.Core.Path.{ap}
-use borrow.Author.Rules.{rules}
 use Rattle.answer.proofs.evaluate.evaluate.Goals as goal
 
 pub returns : goal.returns

@@ -7,7 +7,6 @@ use Rattle.answer.specs.declared.evaluate.Answer.TheVariants as Answer
 use Rattle.answer.specs.Answers.{graded}
 use Rattle.answer.specs.Tries.{demands_tried}
 use Rattle.method.proofs.CheckedLaws.{by-refused}
-use borrow.Author.Rules.{rules}
 use Rattle.answer.proofs.evaluate.evaluate_counted.Goals as goal
 
 pub graded-requires : goal.graded-requires

@@ -2,8 +2,7 @@
 -- added.
 -- Assumes nothing.
 use native.Mathlib.Omega.{arith}
-use Rattle.answer.proofs.TriesLaws.{Done, done-start, done_next, done-volumes, done-end-le, done-tries-le}
-use borrow.Author.Rules.{rules}
+use Rattle.answer.proofs.TriesLaws.{done-start, done_next, done-volumes, done-end-le, done-tries-le}
 use Rattle.answer.proofs.evaluate.found_volumes.Goals as goal
 
 pub loop-letter-init : goal.loop-letter-init

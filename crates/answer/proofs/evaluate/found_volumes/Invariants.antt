@@ -1,9 +1,7 @@
 -- `answer::evaluate::found_volumes` meets its contract: each search hands back what it would up to the greatest demand, and the counts are
 -- added.
 -- Assumes nothing.
-use native.Mathlib.Omega.{arith}
-use Rattle.answer.proofs.TriesLaws.{Done, done-start, done_next, done-volumes, done-end-le, done-tries-le}
-use borrow.Author.Rules.{rules}
+use Rattle.answer.proofs.TriesLaws.{Done}
 use Rattle.answer.proofs.evaluate.found_volumes.Given as goal
 
 abbrev pub invariant-loop-letter : goal.invariant-loop-letter

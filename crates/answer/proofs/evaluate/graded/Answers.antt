@@ -2,7 +2,6 @@
 -- Assumes nothing.
 use Rattle.curve.proofs.TermsLaws.{table_none, table-lent}
 use Rattle.method.proofs.AssessLaws.{case-readied}
-use borrow.Author.Rules.{rules}
 use Rattle.answer.proofs.evaluate.graded.Goals as goal
 
 pub graded_with-requires : goal.graded_with-requires

@@ -4,7 +4,6 @@ use mathlib.Core.Path.{◌∙◌}
 use Rattle.answer.specs.Answers.{graded}
 use Rattle.answer.proofs.VolumeLaws.{volume-ready}
 use Rattle.answer.proofs.TriesLaws.{found_volumes-terms}
-use borrow.Author.Rules.{rules}
 use Rattle.answer.proofs.evaluate.graded_with.Goals as goal
 
 pub found_volumes-found-requires : goal.found_volumes-found-requires

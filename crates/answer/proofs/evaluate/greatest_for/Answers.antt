@@ -2,7 +2,6 @@
 -- Assumes nothing.
 use native.Mathlib.Omega.{arith}
 use Rattle.curve.proofs.ServiceLaws.{density_limit-le}
-use borrow.Author.Rules.{rules}
 use Rattle.answer.proofs.evaluate.greatest_for.Goals as goal
 
 pub greatest_meeting-requires : goal.greatest_meeting-requires

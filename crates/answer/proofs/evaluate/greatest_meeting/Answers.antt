@@ -2,11 +2,9 @@
 -- end, until they are neighbours, and counts what it tries.
 -- Assumes nothing.
 use mathlib.Core.Path.{sym, ◌∙◌}
-use Prim.Native.Nat.{◌-◌}
 use native.Mathlib.Omega.{arith}
 use Rattle.numbers.specs.Halving.{middle}
-use Rattle.numbers.proofs.HalvingLaws.{Halved, halved-start, halved-passes, halved-fails, halved-done}
-use Rattle.answer.specs.Search.{demand_meets}
+use Rattle.numbers.proofs.HalvingLaws.{halved-start, halved-passes, halved-fails, halved-done}
 use Rattle.answer.proofs.VolumeLaws.{demand_meets-zero, demand_meets-down}
 use Rattle.answer.proofs.evaluate.greatest_meeting.Goals as goal
 

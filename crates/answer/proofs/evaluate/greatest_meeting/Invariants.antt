@@ -1,13 +1,9 @@
 -- `answer::evaluate::greatest_meeting` meets its contract: the halving keeps a demand that passes below one that fails or is past the
 -- end, until they are neighbours, and counts what it tries.
 -- Assumes nothing.
-use mathlib.Core.Path.{sym, ◌∙◌}
 use Prim.Native.Nat.{◌-◌}
-use native.Mathlib.Omega.{arith}
-use Rattle.numbers.specs.Halving.{middle}
-use Rattle.numbers.proofs.HalvingLaws.{Halved, halved-start, halved-passes, halved-fails, halved-done}
+use Rattle.numbers.proofs.HalvingLaws.{Halved}
 use Rattle.answer.specs.Search.{demand_meets}
-use Rattle.answer.proofs.VolumeLaws.{demand_meets-zero, demand_meets-down}
 use Rattle.answer.proofs.evaluate.greatest_meeting.Given as goal
 
 abbrev pub invariant-loop-high : goal.invariant-loop-high

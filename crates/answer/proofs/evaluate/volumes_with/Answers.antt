@@ -1,7 +1,6 @@
 -- `answer::evaluate::volumes_with` meets its contract: the volumes are those that were found.
 -- Assumes nothing.
 use mathlib.Core.Path.{ap}
-use borrow.Author.Rules.{rules}
 use Rattle.answer.proofs.evaluate.volumes_with.Goals as goal
 
 pub returns : goal.returns

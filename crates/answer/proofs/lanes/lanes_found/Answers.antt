@@ -2,16 +2,14 @@
 -- are refused with 6.
 -- Assumes nothing.
 use mathlib.Core.Path.{◌≡◌, sym, ◌∙◌}
-use Prim.Native.Nat.{ℕ, suc, ◌-◌, ◌≤◌, ◌<◌}
+use Prim.Native.Nat.{suc}
 use native.Mathlib.Omega.{arith}
 use borrow.Author.Count.{below_more}
-use lib.Dec.{T}
 use Rattle.numbers.proofs.BoolLaws.{T_true, T_false}
-use Rattle.curve.specs.Kinds.{fewest_lanes, most_lanes}
+use Rattle.curve.specs.Kinds.{most_lanes}
 use Rattle.curve.proofs.KindLaws.{kind-ends}
 use Rattle.road.specs.Cases.{with_lanes}
 use Rattle.road.proofs.RefusalLaws.{fields-with_lanes}
-use Rattle.answer.specs.Lanes.{lanes_meet}
 use Rattle.answer.proofs.LanesLaws.{meets-of-kind, lanes_found-eq, lanes_found-none}
 use Rattle.answer.proofs.lanes.lanes_found.Goals as goal
 

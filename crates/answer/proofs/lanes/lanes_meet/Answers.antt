@@ -11,7 +11,6 @@ use Rattle.method.specs.Flow.{heavy_factor_of}
 use Rattle.method.proofs.CheckedLaws.{checked_curve-accepted, checked_curve-refused, case_curve-well_formed, case_curve-sized}
 use Rattle.method.proofs.FlowLaws.{load_of-fits}
 use Rattle.answer.proofs.VolumeLaws.{meets-accepted, meets-refused}
-use borrow.Author.Rules.{rules}
 use Rattle.answer.proofs.lanes.lanes_meet.Goals as goal
 
 pub checked_curve-checked-requires : goal.checked_curve-checked-requires

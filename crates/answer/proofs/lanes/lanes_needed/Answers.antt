@@ -5,7 +5,6 @@ use native.Mathlib.Omega.{arith}
 use Rattle.checks.proofs.RefusalLaws.{within}
 use Rattle.answer.specs.declared.lanes.LanesAnswer.TheVariants as LanesAnswer
 use Rattle.answer.proofs.LanesLaws.{lanes_answer-letter, lanes_answer-fields, lanes_answer-none, lanes_answer-found}
-use borrow.Author.Rules.{rules}
 use Rattle.answer.proofs.lanes.lanes_needed.Goals as goal
 
 pub returns-then-outside : goal.returns-then-outside

@@ -1,7 +1,6 @@
 -- `curve::kind::highest_speed` meets its contract, kind by kind.
 -- Assumes nothing.
 use mathlib.Core.Path.{ap, sym}
-use borrow.Author.Rules.{rules}
 use Rattle.curve.specs.Kinds.{highest_speed}
 use Rattle.curve.proofs.kind.highest_speed.Goals as goal
 

@@ -2,7 +2,6 @@
 -- Assumes nothing.
 use Rattle.curve.proofs.TermsLaws.{table_none, table-lent, flow-beyond}
 use Rattle.curve.proofs.ServiceLaws.{meets_limit-beyond}
-use borrow.Author.Rules.{rules}
 use Rattle.curve.proofs.service.flow_meets_limit.Goals as goal
 
 pub returns-then-terms-v : goal.returns-then-terms-v

@@ -11,7 +11,6 @@ use Rattle.curve.specs.Service.{density, shown_density, density_letter, letter_a
 use Rattle.curve.proofs.SpeedLaws.{speed-denominator-pos}
 use Rattle.curve.proofs.TermsLaws.{flow-within, flow-beyond}
 use Rattle.curve.proofs.ServiceLaws.{density-exact}
-use borrow.Author.Rules.{rules}
 use Rattle.curve.proofs.service.performance_at.Goals as goal
 
 pub returns-then-terms-v : goal.returns-then-terms-v

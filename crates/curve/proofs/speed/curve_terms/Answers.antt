@@ -5,7 +5,6 @@ use Rattle.numbers.proofs.ProductLaws.{product-fits}
 use Rattle.curve.specs.Terms.{curve_terms_of}
 use Rattle.curve.proofs.SpeedLaws.{share-denominator-le}
 use Rattle.curve.proofs.TermsLaws.{share-denominator-eq}
-use borrow.Author.Rules.{rules}
 use Rattle.curve.proofs.speed.curve_terms.Goals as goal
 
 pub overflow_mul-result-2 : goal.overflow_mul-result-2

@@ -4,7 +4,6 @@ use native.Mathlib.Nat.{le_trans}
 use native.Mathlib.Omega.{arith}
 use Rattle.numbers.proofs.ProductLaws.{product-fits}
 use Rattle.curve.proofs.TermsLaws.{terms-ends, terms-exact}
-use borrow.Author.Rules.{rules}
 use Rattle.curve.proofs.speed.exact_speed.Goals as goal
 
 pub overflow_mul-result : goal.overflow_mul-result

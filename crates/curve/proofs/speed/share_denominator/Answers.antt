@@ -2,7 +2,6 @@
 -- Assumes nothing.
 use native.Mathlib.Omega.{arith}
 use Rattle.numbers.proofs.ProductLaws.{product-fits}
-use borrow.Author.Rules.{rules}
 use Rattle.curve.proofs.speed.share_denominator.Goals as goal
 
 pub overflow_mul-result : goal.overflow_mul-result

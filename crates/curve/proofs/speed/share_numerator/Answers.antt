@@ -5,7 +5,6 @@ use Rattle.numbers.proofs.ProductLaws.{product-fits}
 use Rattle.curve.specs.Speed.{fall_share_by}
 use Rattle.curve.proofs.SpeedLaws.{place-le}
 use Rattle.curve.proofs.TermsLaws.{table-powers, terms-facts}
-use borrow.Author.Rules.{rules}
 use Rattle.curve.proofs.speed.share_numerator.Goals as goal
 
 pub overflow_mul-result : goal.overflow_mul-result

@@ -6,7 +6,6 @@ use Rattle.answer.specs.Answers.{graded}
 use Rattle.day.specs.declared.shared.Shared.TheVariants as Shared
 use Rattle.day.proofs.SharedLaws.{accepted-within, accepted-above, refused-within, refused-above, ready-within}
 use Rattle.day.proofs.SharedLaws.{told}
-use borrow.Author.Rules.{rules}
 use Rattle.day.proofs.shared.answer_with.Goals as goal
 
 pub returns-then-case-gt-GREATEST_DEMAND : goal.returns-then-case-gt-GREATEST_DEMAND

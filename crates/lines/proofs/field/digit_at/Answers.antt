@@ -6,7 +6,6 @@ use native.Mathlib.Omega.{arith}
 use lib.Dec.{leb}
 use lib.ListN.{get_or, get_or-eq_default}
 use Rattle.lines.proofs.PlacesLaws.{digit_low, digit-high}
-use borrow.Author.Rules.{rules}
 use Rattle.lines.proofs.field.digit_at.Goals as goal
 
 pub returns-then-i-line : goal.returns-then-i-line

@@ -3,7 +3,6 @@
 use native.Mathlib.Omega.{arith}
 use Rattle.lines.specs.Fields.{layout}
 use Rattle.lines.proofs.FieldsLaws.{number-at}
-use borrow.Author.Rules.{rules}
 use Rattle.lines.proofs.field.field_at.Goals as goal
 
 pub returns-in-0 : goal.returns-in-0

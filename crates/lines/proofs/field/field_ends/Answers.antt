@@ -5,7 +5,6 @@ use native.Mathlib.Omega.{arith}
 use borrow.Author.Tests.{eq-eqb}
 use Rattle.text.proofs.PartsLaws.{count_before-end}
 use Rattle.lines.proofs.PlacesLaws.{ends_by}
-use borrow.Author.Rules.{rules}
 use Rattle.lines.proofs.field.field_ends.Goals as goal
 
 pub returns-then-i-line : goal.returns-then-i-line

@@ -1,18 +1,14 @@
 -- `lines::field::field_values` meets its contract: the fields read so far have their values, and the rest of the line is read as the rest
 -- of the layout.
 -- Assumes nothing.
-use mathlib.Core.Path.{◌≡◌, refl, sym, ap, ◌∙◌}
-use mathlib.Core.List.{List, [], ◌∷◌}
-use Prim.Native.Nat.{ℕ, ◌-◌, ◌≤◌}
-use native.Mathlib.Omega.{arith}
-use lib.ListN.{length, take, drop, length-set}
-use lib.Seq.{drop-set-lt}
+use mathlib.Core.Path.{◌≡◌}
+use mathlib.Core.List.{[], ◌∷◌}
+use Prim.Native.Nat.{◌-◌, ◌≤◌}
+use lib.ListN.{length, take, drop}
 use Rattle.text.specs.Bytes.{tab}
 use Rattle.text.specs.Parts.{parts}
-use Rattle.lines.specs.Fields.{digits, layout, completed, spelled, number, field_as, values_of}
-use Rattle.lines.proofs.PlacesLaws.{field_end-le}
-use Rattle.lines.proofs.FieldsLaws.{after, after-nil, completed_from, completed_from-zero, rest, more_of, last_of, field-bad, too_many}
-use borrow.Author.Rules.{rules}
+use Rattle.lines.specs.Fields.{layout, completed, values_of}
+use Rattle.lines.proofs.FieldsLaws.{after, completed_from}
 use Rattle.lines.proofs.field.field_values.Given as goal
 
 abbrev pub invariant-loop-place : goal.invariant-loop-place

@@ -7,7 +7,6 @@ use lib.ListN.{take, drop}
 use Rattle.text.specs.Bytes.{tab}
 use Rattle.text.specs.Parts.{count_before}
 use Rattle.lines.specs.Fields.{letter, field_as}
-use borrow.Author.Rules.{rules}
 use Rattle.lines.proofs.field.letter_at.Goals as goal
 
 pub returns : goal.returns

@@ -1,13 +1,11 @@
 -- `lines::field::letter_value` meets its contract: the letters passed are not the byte, so it is one of all exactly when it is one of the
 -- rest.
 -- Assumes nothing.
-use mathlib.Core.Path.{◌≡◌, refl, sym, ap, ◌∙◌}
+use mathlib.Core.Path.{refl, sym, ap, ◌∙◌}
 use Rattle.lines.specs.declared.field.FieldValue.TheVariants.{Value}
 use mathlib.Core.Bool.{true, false}
-use Prim.Native.Nat.{◌-◌, ◌≤◌}
 use native.Mathlib.Omega.{arith}
-use lib.ListN.{length, drop, get_or}
-use Rattle.lines.specs.Fields.{one_of}
+use lib.ListN.{get_or}
 use Rattle.lines.proofs.FieldsLaws.{one_of-hit, one_of-miss, one_of-end, letter-not, letter-by}
 use borrow.Author.Rules.{rules}
 use Rattle.lines.proofs.field.letter_value.Goals as goal

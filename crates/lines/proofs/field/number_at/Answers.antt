@@ -1,14 +1,12 @@
 -- `lines::field::number_at` meets its contract: the digits read so far spell n, and 17 of them leave room for one more in 64 bits.
 -- Assumes nothing.
 use mathlib.Core.Path.{◌≡◌, refl, sym, ◌∙◌}
-use Prim.Native.Nat.{◌+◌, ◌-◌, ◌^◌, ◌≤◌, ◌<◌}
+use Prim.Native.Nat.{◌+◌, ◌-◌}
 use native.Mathlib.Omega.{arith}
-use lib.ListN.{length, get_or}
+use lib.ListN.{get_or}
 use Rattle.lines.specs.Fields.{digits, field_as}
-use Rattle.lines.specs.Places.{DigitsRead}
 use Rattle.lines.proofs.DigitsLaws.{more, small}
 use Rattle.lines.proofs.PlacesLaws.{digit-ends, digits-next, number-end, number_past, read-malformed}
-use borrow.Author.Rules.{rules}
 use Rattle.lines.proofs.field.number_at.Goals as goal
 
 pub loop-at-init : goal.loop-at-init

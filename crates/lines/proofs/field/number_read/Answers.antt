@@ -4,7 +4,6 @@ use mathlib.Core.Path.{sym, ◌∙◌}
 use native.Mathlib.Omega.{arith}
 use borrow.Author.Tests.{eqb-true, eqb-false}
 use Rattle.lines.proofs.PlacesLaws.{number-unended, ended-none, ended-one, ended-zero, ended-more}
-use borrow.Author.Rules.{rules}
 use Rattle.lines.proofs.field.number_read.Goals as goal
 
 pub field_ends-requires : goal.field_ends-requires

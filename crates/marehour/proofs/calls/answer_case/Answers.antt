@@ -9,7 +9,6 @@ use Rattle.replies.specs.Texts.{answer_text}
 use Rattle.replies.proofs.TextsLaws.{answer_text-le}
 use Rattle.marehour.specs.Calls.{answer_reply}
 use Rattle.marehour.proofs.CallLaws.{positive-fits, refused-reply, wrote-reply}
-use borrow.Author.Rules.{rules}
 use Rattle.marehour.proofs.calls.answer_case.Goals as goal
 
 pub write_grade-written-requires : goal.write_grade-written-requires

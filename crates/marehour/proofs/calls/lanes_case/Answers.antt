@@ -7,7 +7,6 @@ use Rattle.answer.specs.Lanes.{refusal_number}
 use Rattle.answer.proofs.Laws.{refusals-within-ends, found-digit}
 use Rattle.marehour.specs.Calls.{count_reply}
 use Rattle.marehour.proofs.CallLaws.{refused-reply, wrote-reply, count-written, count-length}
-use borrow.Author.Rules.{rules}
 use Rattle.marehour.proofs.calls.lanes_case.Goals as goal
 
 pub overflow_cast-answer : goal.overflow_cast-answer

@@ -4,7 +4,6 @@ use mathlib.Core.Path.{◌∙◌}
 use mir.Syntax.{w32}
 use mir.ValLaws.{to_z-of_z}
 use Rattle.marehour.proofs.CallLaws.{minus_is, minus-fits}
-use borrow.Author.Rules.{rules}
 use Rattle.marehour.proofs.calls.refused.Goals as goal
 
 pub overflow_sub-result : goal.overflow_sub-result

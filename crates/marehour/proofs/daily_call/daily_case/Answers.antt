@@ -9,7 +9,6 @@ use Rattle.daily.specs.Daily.{refusal_number, values}
 use Rattle.daily.proofs.DailyLaws.{number-le}
 use Rattle.marehour.specs.Calls.{figures_reply}
 use Rattle.marehour.proofs.CallLaws.{refused-reply, wrote-reply}
-use borrow.Author.Rules.{rules}
 use Rattle.marehour.proofs.daily_call.daily_case.Goals as goal
 
 pub refused-requires : goal.refused-requires

@@ -10,7 +10,6 @@ use Rattle.lines.specs.Reading.{read_line}
 use Rattle.lines.proofs.ReadingLaws.{read_line-refused}
 use Rattle.marehour.specs.Calls.{day_reply, answer_count}
 use Rattle.marehour.proofs.CallLaws.{call-lent, call-refused, call-wrote, positive-fits}
-use borrow.Author.Rules.{rules}
 use Rattle.marehour.proofs.day_call.marehour_day.Goals as goal
 
 -- 32 bits hold the count of the demands

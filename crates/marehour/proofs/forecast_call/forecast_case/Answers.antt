@@ -9,7 +9,6 @@ use Rattle.forecast.specs.Forecasts.{refusal_number, values}
 use Rattle.forecast.proofs.ForecastLaws.{number-le}
 use Rattle.marehour.specs.Calls.{figures_reply}
 use Rattle.marehour.proofs.CallLaws.{refused-reply, wrote-reply}
-use borrow.Author.Rules.{rules}
 use Rattle.marehour.proofs.forecast_call.forecast_case.Goals as goal
 
 pub refused-requires : goal.refused-requires

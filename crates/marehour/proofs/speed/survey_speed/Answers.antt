@@ -5,7 +5,6 @@ use native.Mathlib.Omega.{arith}
 use Rattle.survey.proofs.SurveyLaws.{survey_answer-speed-ends, survey_answer-refused-ends}
 use Rattle.marehour.specs.Calls.{survey_result}
 use Rattle.marehour.proofs.CallLaws.{positive-fits, positive-is, handed-back}
-use borrow.Author.Rules.{rules}
 use Rattle.marehour.proofs.speed.survey_speed.Goals as goal
 
 pub overflow_cast-result : goal.overflow_cast-result

@@ -10,7 +10,6 @@ use Rattle.answer.proofs.SearchOrder.{tries-le}
 use Rattle.method.proofs.RefusalLaws.{refusal-le}
 use Rattle.marehour.specs.Tries.{tries_result}
 use Rattle.marehour.proofs.CallLaws.{positive-fits, positive-is, handed-back}
-use borrow.Author.Rules.{rules}
 use Rattle.marehour.proofs.tries.tries_case.Goals as goal
 
 pub overflow_cast-result : goal.overflow_cast-result

@@ -3,7 +3,6 @@
 use mathlib.Core.Path.{sym, ap, ◌∙◌}
 use Rattle.method.specs.declared.assess.Assessment.TheVariants as Assessment
 use Rattle.method.proofs.CheckedLaws.{by-accepted, by-refused}
-use borrow.Author.Rules.{rules}
 use Rattle.method.proofs.assess.assess.Goals as goal
 
 pub measures_of-requires : goal.measures_of-requires

@@ -2,7 +2,6 @@
 -- Assumes nothing.
 use Rattle.curve.proofs.TermsLaws.{table_none, table-lent}
 use Rattle.method.proofs.AssessLaws.{case-readied}
-use borrow.Author.Rules.{rules}
 use Rattle.method.proofs.assess.measures_of.Goals as goal
 
 pub measures_with-requires : goal.measures_with-requires

@@ -5,7 +5,6 @@ use Rattle.checks.specs.Refusals.{unless_refused}
 use Rattle.method.specs.declared.checked.Checked.TheVariants as Checked
 use Rattle.method.specs.Checked.{case_curve}
 use Rattle.method.proofs.RefusalLaws.{refusals-with}
-use borrow.Author.Rules.{rules}
 use Rattle.method.proofs.checked.check.Goals as goal
 
 pub returns : goal.returns

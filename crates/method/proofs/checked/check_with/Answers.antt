@@ -11,7 +11,6 @@ use Rattle.method.specs.declared.checked.Checked.TheVariants as Checked
 use Rattle.method.specs.Refusals.{speed_refusals}
 use Rattle.method.specs.Checked.{case_curve}
 use Rattle.method.proofs.RefusalLaws.{refusals_with-fields}
-use borrow.Author.Rules.{rules}
 use Rattle.method.proofs.checked.check_with.Goals as goal
 
 pub checked_curve-requires : goal.checked_curve-requires

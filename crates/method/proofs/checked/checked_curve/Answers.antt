@@ -16,7 +16,6 @@ use Rattle.road.proofs.FreeFlowSpeedLaws.{free_flow_speed_of-le}
 use Rattle.method.specs.declared.checked.Checked.TheVariants as Checked
 use Rattle.method.specs.Refusals.{speed_refusals}
 use Rattle.method.specs.Checked.{curve_of, checked_curve}
-use borrow.Author.Rules.{rules}
 use Rattle.method.proofs.checked.checked_curve.Goals as goal
 
 -- where F is not below its lower end, the test after its factor decides

@@ -8,7 +8,6 @@ use Rattle.road.proofs.RefusalLaws.{load-ends}
 use Rattle.method.specs.Flow.{heavy_factor_of}
 use Rattle.method.proofs.FlowLaws.{truck_equivalent-ends, load_of-fits}
 use Rattle.road.specs.Cases.{with_lanes}
-use borrow.Author.Rules.{rules}
 use Rattle.method.proofs.flow.load_of.Goals as goal
 
 pub overflow_sub-result : goal.overflow_sub-result

@@ -1,7 +1,6 @@
 -- `method::flow::truck_equivalent` meets its contract, terrain by terrain.
 -- Assumes nothing.
 use mathlib.Core.Path.{ap, sym}
-use borrow.Author.Rules.{rules}
 use Rattle.method.specs.Flow.{truck_equivalent}
 use Rattle.method.proofs.flow.truck_equivalent.Goals as goal
 

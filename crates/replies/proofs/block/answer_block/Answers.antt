@@ -1,15 +1,13 @@
 -- `replies::block::answer_block` meets its contract: the lines answered so far, and what is left to do, are the lines that the block's turn
 -- answers.
 -- Assumes nothing.
-use mathlib.Core.Path.{◌≡◌, refl}
-use Prim.Native.Nat.{◌-◌}
+use mathlib.Core.Path.{refl}
 use native.Mathlib.Omega.{arith}
-use lib.ListN.{length, drop, length-drop}
+use lib.ListN.{drop, length-drop}
 use Rattle.stream.proofs.StreamLaws.{none_left, full}
-use Rattle.stream.proofs.BlockLaws.{Answering, begun, answered-one, stopped}
+use Rattle.stream.proofs.BlockLaws.{begun, answered-one, stopped}
 use Rattle.replies.specs.Output.{line_texts}
 use Rattle.replies.proofs.TextsLaws.{line_text-le}
-use borrow.Author.Rules.{rules}
 use Rattle.replies.proofs.block.answer_block.Goals as goal
 
 pub loop-written-init : goal.loop-written-init

@@ -1,15 +1,11 @@
 -- `replies::block::answer_block` meets its contract: the lines answered so far, and what is left to do, are the lines that the block's turn
 -- answers.
 -- Assumes nothing.
-use mathlib.Core.Path.{◌≡◌, refl}
+use mathlib.Core.Path.{◌≡◌}
 use Prim.Native.Nat.{◌-◌}
-use native.Mathlib.Omega.{arith}
-use lib.ListN.{length, drop, length-drop}
-use Rattle.stream.proofs.StreamLaws.{none_left, full}
-use Rattle.stream.proofs.BlockLaws.{Answering, begun, answered-one, stopped}
+use lib.ListN.{length}
+use Rattle.stream.proofs.BlockLaws.{Answering}
 use Rattle.replies.specs.Output.{line_texts}
-use Rattle.replies.proofs.TextsLaws.{line_text-le}
-use borrow.Author.Rules.{rules}
 use Rattle.replies.proofs.block.answer_block.Given as goal
 
 abbrev pub invariant-loop-written : goal.invariant-loop-written

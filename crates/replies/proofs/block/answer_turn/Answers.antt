@@ -11,7 +11,6 @@ use Rattle.stream.proofs.StreamLaws.{nothing_left}
 use Rattle.stream.proofs.CarryLaws.{cut-within, carried-is, carried-short}
 use Rattle.replies.specs.Output.{line_texts}
 use Rattle.replies.proofs.TextsLaws.{line_text-pos}
-use borrow.Author.Rules.{rules}
 use Rattle.replies.proofs.block.answer_turn.Goals as goal
 
 pub slice_bounds-answer_block-end-2 : goal.slice_bounds-answer_block-end-2

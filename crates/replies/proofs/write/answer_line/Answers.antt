@@ -3,7 +3,6 @@
 use mathlib.Core.Path.{sym, ◌∙◌}
 use native.Mathlib.Omega.{arith}
 use Rattle.replies.proofs.TextsLaws.{refusal_text-le, answer_text-le, line_text-refused, line_text-case}
-use borrow.Author.Rules.{rules}
 use Rattle.replies.proofs.write.answer_line.Goals as goal
 
 pub write_refusal-requires : goal.write_refusal-requires

@@ -1,6 +1,5 @@
 -- `replies::write::letter_byte` meets its contract, letter by letter.
 -- Assumes nothing.
-use borrow.Author.Rules.{rules}
 use Rattle.replies.proofs.write.letter_byte.Goals as goal
 
 pub returns-in-A : goal.returns-in-A

@@ -1,7 +1,6 @@
 -- `replies::write::write_answer` meets its contract: a grade and a refusal are written by the two functions before.
 -- Assumes nothing.
 use Rattle.replies.specs.Texts.{text_of}
-use borrow.Author.Rules.{rules}
 use Rattle.replies.proofs.write.write_answer.Goals as goal
 
 pub write_grade-requires : goal.write_grade-requires

@@ -2,7 +2,6 @@
 -- eleven values.
 -- Assumes nothing.
 use Rattle.replies.specs.Texts.{text_of}
-use borrow.Author.Rules.{rules}
 use Rattle.replies.proofs.write.write_grade.Goals as goal
 
 pub put_row-requires : goal.put_row-requires

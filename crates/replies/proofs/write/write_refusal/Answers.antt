@@ -1,7 +1,6 @@
 -- `replies::write::write_refusal` meets its contract: the row of X and the number is the text of a refusal.
 -- Assumes nothing.
 use Rattle.replies.specs.Texts.{refusal_text}
-use borrow.Author.Rules.{rules}
 use Rattle.replies.proofs.write.write_refusal.Goals as goal
 
 pub put_row-requires : goal.put_row-requires

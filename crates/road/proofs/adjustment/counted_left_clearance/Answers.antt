@@ -1,6 +1,5 @@
 -- `road::adjustment::counted_left_clearance` meets its contract, by the median.
 -- Assumes nothing.
-use borrow.Author.Rules.{rules}
 use Rattle.road.proofs.adjustment.counted_left_clearance.Goals as goal
 
 pub returns-in-Divided : goal.returns-in-Divided

@@ -1,7 +1,6 @@
 -- `road::adjustment::median_adjustment` meets its contract, median by median.
 -- Assumes nothing.
 use mathlib.Core.Path.{ap, sym}
-use borrow.Author.Rules.{rules}
 use Rattle.road.specs.Adjustments.{median_adjustment}
 use Rattle.road.proofs.adjustment.median_adjustment.Goals as goal
 

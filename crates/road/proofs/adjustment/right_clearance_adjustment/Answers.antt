@@ -6,7 +6,6 @@ use native.Mathlib.Omega.{arith}
 use Rattle.numbers.proofs.ProductLaws.{product-fits}
 use Rattle.road.specs.Adjustments.{per_missing_foot, right_clearance_adjustment}
 use Rattle.road.proofs.AdjustmentLaws.{per_missing_foot-le, right_clearance_adjustment-tenths}
-use borrow.Author.Rules.{rules}
 use Rattle.road.proofs.adjustment.right_clearance_adjustment.Goals as goal
 
 by-tenths : (r n t : ℕ) → 10 * t ≡ per_missing_foot n → (60 - min 60 r) * t ≡ right_clearance_adjustment r n

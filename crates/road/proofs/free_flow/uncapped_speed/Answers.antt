@@ -2,7 +2,6 @@
 -- Assumes nothing.
 use Rattle.road.specs.FreeFlowSpeed.{uncapped_by}
 use Rattle.road.proofs.RefusalLaws.{road-ends}
-use borrow.Author.Rules.{rules}
 use Rattle.road.proofs.free_flow.uncapped_speed.Goals as goal
 
 pub freeway_estimate-requires : goal.freeway_estimate-requires

@@ -5,7 +5,6 @@ use native.Mathlib.Nat.{lt_of_le_of_lt}
 use lib.Dec.{lit<}
 use Rattle.road.proofs.RampTable.{ramp_table}
 use Rattle.road.proofs.RampLaws.{ramp_table-at, ramp_term-le}
-use borrow.Author.Rules.{rules}
 use Rattle.road.proofs.ramp.ramp_term.Goals as goal
 
 pub overflow_cast-result : goal.overflow_cast-result

@@ -2,7 +2,6 @@
 -- Assumes nothing.
 use mathlib.Core.Path.{◌∙◌}
 use Rattle.road.proofs.RefusalLaws.{field_refusals-found}
-use borrow.Author.Rules.{rules}
 use Rattle.road.proofs.refusal.field_refusal.Goals as goal
 
 pub returns : goal.returns

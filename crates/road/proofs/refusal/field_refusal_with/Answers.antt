@@ -11,7 +11,6 @@ use Rattle.checks.proofs.RefusalLaws.{first_refusal-none, first_refusal-some}
 use Rattle.road.specs.declared.Case.{Case}
 use Rattle.road.specs.Refusals.{section_refusals, weather_refusals, field_refusals_with}
 use Rattle.road.proofs.RefusalLaws.{section-numbered}
-use borrow.Author.Rules.{rules}
 use Rattle.road.proofs.refusal.field_refusal_with.Goals as goal
 
 behind : (case : Case) (number loads : ℕ) → number ≡ first_refusal (section_refusals case) → number ≤ 0

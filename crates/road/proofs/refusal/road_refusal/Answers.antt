@@ -1,7 +1,6 @@
 -- `road::refusal::road_refusal` meets its contract: its lines are those of the list, one after the other.
 -- Assumes nothing.
 use Rattle.road.specs.Refusals.{road_refusals}
-use borrow.Author.Rules.{rules}
 use Rattle.road.proofs.refusal.road_refusal.Goals as goal
 
 pub returns : goal.returns

@@ -4,7 +4,6 @@ use mathlib.Core.List.{[]}
 use Rattle.checks.proofs.RefusalLaws.{first_refusal-found}
 use Rattle.road.specs.Refusals.{road_refusals, lane_refusals}
 use Rattle.road.proofs.RefusalLaws.{road-numbered}
-use borrow.Author.Rules.{rules}
 use Rattle.road.proofs.refusal.section_refusal.Goals as goal
 
 pub returns : goal.returns

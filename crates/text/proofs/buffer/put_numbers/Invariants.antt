@@ -1,16 +1,9 @@
 -- `text::buffer::put_numbers` meets its contract: each turn writes one number behind those before it.
 -- Assumes nothing.
-use mathlib.Core.Path.{◌≡◌, refl, sym, ap, ◌∙◌}
-use mathlib.Core.List.{[], ◌∷◌, ◌++◌}
-use Prim.Native.Nat.{◌+◌, ◌-◌, ◌≤◌}
-use native.Mathlib.Nat.{add-zero}
-use native.Mathlib.Numerals.{add-one}
-use native.Mathlib.Omega.{arith}
-use lib.ListN.{length, take, get_or, length-set}
-use lib.Seq.{length-take-le, take-suc, take_all}
+use mathlib.Core.Path.{◌≡◌}
+use Prim.Native.Nat.{◌-◌, ◌≤◌}
+use lib.ListN.{length, take}
 use Rattle.text.specs.Buffer.{Wrote}
-use Rattle.text.proofs.BufferLaws.{none_written, then-byte}
-use borrow.Author.Rules.{rules}
 use Rattle.text.proofs.buffer.put_numbers.Given as goal
 
 abbrev pub invariant-loop-i : goal.invariant-loop-i

@@ -3,7 +3,6 @@
 use mathlib.Core.Path.{sym}
 use native.Mathlib.Omega.{arith}
 use Rattle.text.proofs.DigitLaws.{length-small, length-decimal}
-use borrow.Author.Rules.{rules}
 use Rattle.text.proofs.decimal.digit_count.Goals as goal
 
 pub returns-in-0-to-9 : goal.returns-in-0-to-9

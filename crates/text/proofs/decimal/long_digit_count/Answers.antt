@@ -1,10 +1,6 @@
 -- `text::decimal::long_digit_count` meets its contract: each division by ten takes one digit off.
 -- Assumes nothing.
-use mathlib.Core.Path.{◌≡◌}
-use Prim.Native.Nat.{◌+◌, ◌≤◌}
 use native.Mathlib.Omega.{arith}
-use lib.ListN.{length}
-use Rattle.text.specs.Decimal.{decimal}
 use Rattle.text.proofs.DigitLaws.{length-small, length_more, decimal-room}
 use borrow.Author.Rules.{rules}
 use Rattle.text.proofs.decimal.long_digit_count.Goals as goal

@@ -2,11 +2,8 @@
 -- Assumes nothing.
 use mathlib.Core.Path.{◌≡◌}
 use Prim.Native.Nat.{◌+◌, ◌≤◌}
-use native.Mathlib.Omega.{arith}
 use lib.ListN.{length}
 use Rattle.text.specs.Decimal.{decimal}
-use Rattle.text.proofs.DigitLaws.{length-small, length_more, decimal-room}
-use borrow.Author.Rules.{rules}
 use Rattle.text.proofs.decimal.long_digit_count.Given as goal
 
 abbrev pub invariant-loop-rest : goal.invariant-loop-rest

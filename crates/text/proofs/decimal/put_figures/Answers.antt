@@ -1,11 +1,11 @@
 -- `text::decimal::put_figures` meets its contract: each turn writes a tab and a number behind what the figures before it took.
 -- Assumes nothing.
-use mathlib.Core.Path.{◌≡◌, refl, sym}
+use mathlib.Core.Path.{refl, sym}
 use mathlib.Core.List.{flat_map}
-use Prim.Native.Nat.{◌+◌, ◌-◌, ◌≤◌}
+use Prim.Native.Nat.{◌+◌}
 use native.Mathlib.Omega.{arith}
 use native.Mathlib.Nat.{add-zero}
-use lib.ListN.{length, take, length-set}
+use lib.ListN.{take, length-set}
 use lib.Seq.{take_all}
 use Rattle.text.specs.Decimal.{figures_text}
 use Rattle.text.specs.Buffer.{Wrote}

@@ -1,11 +1,10 @@
 -- `text::decimal::put_later_digits` meets its contract: the digits written so far are those behind the digits of the rest.
 -- Assumes nothing.
-use mathlib.Core.Path.{◌≡◌, refl}
-use Prim.Native.Nat.{◌≤◌}
+use mathlib.Core.Path.{refl}
 use native.Mathlib.Omega.{arith}
-use lib.ListN.{length, length-set}
+use lib.ListN.{length-set}
 use Rattle.text.proofs.DigitLaws.{length_more}
-use Rattle.text.proofs.RowLaws.{Filling, nothing-filled, one-filled, digits-left, all-filled}
+use Rattle.text.proofs.RowLaws.{nothing-filled, one-filled, digits-left, all-filled}
 use borrow.Author.Rules.{rules}
 use Rattle.text.proofs.decimal.put_later_digits.Goals as goal
 

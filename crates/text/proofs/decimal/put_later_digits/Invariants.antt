@@ -1,12 +1,9 @@
 -- `text::decimal::put_later_digits` meets its contract: the digits written so far are those behind the digits of the rest.
 -- Assumes nothing.
-use mathlib.Core.Path.{◌≡◌, refl}
+use mathlib.Core.Path.{◌≡◌}
 use Prim.Native.Nat.{◌≤◌}
-use native.Mathlib.Omega.{arith}
-use lib.ListN.{length, length-set}
-use Rattle.text.proofs.DigitLaws.{length_more}
-use Rattle.text.proofs.RowLaws.{Filling, nothing-filled, one-filled, digits-left, all-filled}
-use borrow.Author.Rules.{rules}
+use lib.ListN.{length}
+use Rattle.text.proofs.RowLaws.{Filling}
 use Rattle.text.proofs.decimal.put_later_digits.Given as goal
 
 abbrev pub invariant-loop-rest : goal.invariant-loop-rest

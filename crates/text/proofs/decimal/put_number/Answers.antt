@@ -4,7 +4,6 @@ use mathlib.Core.Path.{ap}
 use native.Mathlib.Omega.{arith}
 use lib.ListN.{length}
 use Rattle.text.proofs.RowLaws.{number-written}
-use borrow.Author.Rules.{rules}
 use Rattle.text.proofs.decimal.put_number.Goals as goal
 
 pub bounds-out-at : goal.bounds-out-at

@@ -3,7 +3,6 @@
 use native.Mathlib.Omega.{arith}
 use lib.ListN.{length-set}
 use Rattle.text.proofs.RowLaws.{row_text-length, row_written}
-use borrow.Author.Rules.{rules}
 use Rattle.text.proofs.decimal.put_row.Goals as goal
 
 pub bounds-out-at : goal.bounds-out-at

@@ -1,11 +1,8 @@
 -- `text::parts::find` meets its contract: the bytes passed are not the one sought, so the count from the start and the count from here
 -- differ by them.
 -- Assumes nothing.
-use mathlib.Core.Path.{◌≡◌, refl, sym, ◌∙◌}
-use Prim.Native.Nat.{◌+◌, ◌-◌, ◌≤◌}
+use mathlib.Core.Path.{refl, sym, ◌∙◌}
 use native.Mathlib.Omega.{arith}
-use lib.ListN.{length, drop}
-use Rattle.text.specs.Parts.{count_before}
 use Rattle.text.proofs.PartsLaws.{count_before-hit, count_before-miss, count_before-end}
 use borrow.Author.Rules.{rules}
 use Rattle.text.proofs.parts.find.Goals as goal

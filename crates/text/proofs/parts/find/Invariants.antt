@@ -1,13 +1,10 @@
 -- `text::parts::find` meets its contract: the bytes passed are not the one sought, so the count from the start and the count from here
 -- differ by them.
 -- Assumes nothing.
-use mathlib.Core.Path.{◌≡◌, refl, sym, ◌∙◌}
+use mathlib.Core.Path.{◌≡◌}
 use Prim.Native.Nat.{◌+◌, ◌-◌, ◌≤◌}
-use native.Mathlib.Omega.{arith}
 use lib.ListN.{length, drop}
 use Rattle.text.specs.Parts.{count_before}
-use Rattle.text.proofs.PartsLaws.{count_before-hit, count_before-miss, count_before-end}
-use borrow.Author.Rules.{rules}
 use Rattle.text.proofs.parts.find.Given as goal
 
 abbrev pub invariant-loop-i : goal.invariant-loop-i
