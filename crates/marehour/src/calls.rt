@@ -59,8 +59,7 @@ fn lanes_case(case: Case, letter: u64, answer: &mut [u8]) -> i32
     }
 }
 
-#[unsafe(no_mangle)]
-pub extern "C" fn marehour_answer(line: &[u8], answer: &mut [u8]) -> i32
+pub fn marehour_answer(line: &[u8], answer: &mut [u8]) -> i32
     ensures result { result ≡ call_result (answer_call line.now (length answer.old)) }
     ensures buffer { answer.new
         ≡ content (answer_call line.now (length answer.old)) answer.old }
@@ -75,8 +74,7 @@ pub extern "C" fn marehour_answer(line: &[u8], answer: &mut [u8]) -> i32
     answer_case(case, answer)
 }
 
-#[unsafe(no_mangle)]
-pub extern "C" fn marehour_lanes(line: &[u8], letter: u32, answer: &mut [u8]) -> i32
+pub fn marehour_lanes(line: &[u8], letter: u32, answer: &mut [u8]) -> i32
     ensures result { result ≡ call_result (lanes_call line.now letter (length answer.old)) }
     ensures buffer { answer.new
         ≡ content (lanes_call line.now letter (length answer.old)) answer.old }

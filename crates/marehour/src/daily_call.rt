@@ -25,8 +25,7 @@ fn daily_case(case: Case, shares: Shares, daily_traffic: u64, figures: &mut [u64
     }
 }
 
-#[unsafe(no_mangle)]
-pub extern "C" fn marehour_daily(
+pub fn marehour_daily(
     line: &[u8],
     daily_traffic: u64,
     peak_share: u32,

@@ -7,8 +7,7 @@ use crate::calls::refused;
 use lines::read;
 use lines::read::LineRead;
 
-#[unsafe(no_mangle)]
-pub extern "C" fn marehour_day(line: &[u8], demands: &[u64], answers: &mut [u64]) -> i32
+pub fn marehour_day(line: &[u8], demands: &[u64], answers: &mut [u64]) -> i32
     ensures result { result ≡ day_result (day_call line.now demands.now (length answers.old)) }
     ensures answers { answers.new
         ≡ content (day_call line.now demands.now (length answers.old)) answers.old }

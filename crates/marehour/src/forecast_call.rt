@@ -25,8 +25,7 @@ fn forecast_case(case: Case, forecast: Forecast, figures: &mut [u64]) -> i32
     }
 }
 
-#[unsafe(no_mangle)]
-pub extern "C" fn marehour_forecast(
+pub fn marehour_forecast(
     line: &[u8],
     demand_low: u64,
     demand_high: u64,

@@ -7,9 +7,9 @@
 //   tries        how many demands the search for the service volumes tries
 #![tactic(auto)]
 
-mod calls;
-mod daily_call;
-mod day_call;
-mod forecast_call;
-mod speed;
-mod tries;
+pub mod calls;
+pub mod daily_call;
+pub mod day_call;
+pub mod forecast_call;
+pub mod speed;
+pub mod tries;

@@ -23,8 +23,7 @@ fn tries_case(case: Case) -> i32
     }
 }
 
-#[unsafe(no_mangle)]
-pub extern "C" fn marehour_tries(line: &[u8]) -> i32
+pub fn marehour_tries(line: &[u8]) -> i32
     ensures { result ≡ tries_call line.now }
 {
     let reading = read::read_line(line);

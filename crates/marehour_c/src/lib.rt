@@ -8,7 +8,15 @@ ghost use Rattle.forecast.specs.Forecasts.{forecast_of};
 ghost use Rattle.survey.specs.Survey.{survey_answer};
 ghost use Rattle.survey.specs.declared.SurveyedSpeed.TheVariants.{MilesPerHour, KilometresPerHour};
 ghost use Rattle.marehour.specs.Calls.{
-    answer_call, lanes_call, day_call, daily_call, forecast_call, call_result, day_result, content, survey_result
+  answer_call,
+  lanes_call,
+  day_call,
+  daily_call,
+  forecast_call,
+  call_result,
+  day_result,
+  content,
+  survey_result,
 };
 ghost use Rattle.marehour.specs.Tries.{tries_call};
 
