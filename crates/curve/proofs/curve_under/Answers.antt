@@ -15,7 +15,6 @@ use Rattle.curve.proofs.WeatherLaws.{adjusted_speed-le}
 use Rattle.curve.proofs.curve_under.Goals as goal
 
 -- F after its factor is at most the upper end too
-
 within : (weather : Weather) (kind : Kind) (speed adjusted : ℕ) → (speed ≤ highest_speed kind) × FactorsFit kind weather
     → adjusted ≡ adjusted_speed weather speed
     → adjusted ≤ highest_speed kind
@@ -26,18 +25,15 @@ adjusted_speed-adjusted-requires c =
     (omega (arith, c.requires.0, (kind-ends c.args.kind).speed-le), c.requires.1.speed-high)
 
 pub capacity-requires : goal.capacity-requires
-capacity-requires c =
-    within _ _ _ _ c.requires c.adjusted_speed-adjusted.ensures
+capacity-requires c = within _ _ _ _ c.requires c.adjusted_speed-adjusted.ensures
 
 pub overflow_mul-result : goal.overflow_mul-result
 overflow_mul-result c =
-    let s = c in
-    let raw : c.capacity.result ≤ 240000 = rw c.capacity.ensures (capacity-le s.args.kind _) in
-    record { fits = product-fits 240000 1000 raw s.requires.1.capacity-high tt }
+    let raw : c.capacity.result ≤ 240000 = rw c.capacity.ensures (capacity-le c.args.kind _) in
+    record { fits = product-fits 240000 1000 raw c.requires.1.capacity-high tt }
 
 pub breakpoint-requires : goal.breakpoint-requires
-breakpoint-requires c =
-    within _ _ _ _ c.requires c.adjusted_speed-adjusted.ensures
+breakpoint-requires c = within _ _ _ _ c.requires c.adjusted_speed-adjusted.ensures
 
 pub overflow_mul-result-2 : goal.overflow_mul-result-2
 overflow_mul-result-2 c =
@@ -45,9 +41,8 @@ overflow_mul-result-2 c =
 
 pub overflow_mul-result-3 : goal.overflow_mul-result-3
 overflow_mul-result-3 c =
-    let s = c in
-    let high = s.requires.1.capacity-high in
-    let raw : c.breakpoint.result ≤ 400000 = rw c.breakpoint.ensures (breakpoint-le s.args.kind _) in
+    let high = c.requires.1.capacity-high in
+    let raw : c.breakpoint.result ≤ 400000 = rw c.breakpoint.ensures (breakpoint-le c.args.kind _) in
     record { fits = product-fits 400000 1000000 raw (mul-le-mul {n₂ = 1000} {m₂ = 1000} high high) tt }
 
 pub returns : goal.returns

@@ -15,31 +15,25 @@ hourly_demand-requires c =
 
 pub volumes_within-requires : goal.volumes_within-requires
 volumes_within-requires c =
-    let engine = c in
-    let asked = engine in
-    let a = asked.args in
-    let fits = passed a.shares a.daily_traffic _ asked.traffic_refusal-number.ensures asked.if-number-gt0.false in
-    let e = engine-answers a.case a.shares a.daily_traffic engine.hourly_demand.ensures
-    engine.with_demand.ensures engine.evaluate-answer.ensures c.in-Graded.is in
+    let a = c.args in
+    let fits = passed a.shares a.daily_traffic _ c.traffic_refusal-number.ensures c.if-number-gt0.false in
+    let e = engine-answers a.case a.shares a.daily_traffic c.hourly_demand.ensures
+    c.with_demand.ensures c.evaluate-answer.ensures c.in-Graded.is in
     (shares-fit a.shares a.daily_traffic fits, volumes-fit _ (engine-accepted _ _ e) _ e)
 
 pub returns-in-Graded : goal.returns-in-Graded
 returns-in-Graded c =
-    let engine = c in
-    let asked = engine in
-    let a = asked.args in
-    let e = engine-answers a.case a.shares a.daily_traffic engine.hourly_demand.ensures
-    engine.with_demand.ensures engine.evaluate-answer.ensures c.in-Graded.is in
+    let a = c.args in
+    let e = engine-answers a.case a.shares a.daily_traffic c.hourly_demand.ensures
+    c.with_demand.ensures c.evaluate-answer.ensures c.in-Graded.is in
     rw c.volumes_within.ensures
     (answer-graded a.case a.shares a.daily_traffic
-    (passed a.shares a.daily_traffic _ asked.traffic_refusal-number.ensures asked.if-number-gt0.false) _ e)
+    (passed a.shares a.daily_traffic _ c.traffic_refusal-number.ensures c.if-number-gt0.false) _ e)
 
 pub returns-in-Refused : goal.returns-in-Refused
 returns-in-Refused c =
-    let engine = c in
-    let asked = engine in
-    let a = asked.args in
-    let e = engine-answers a.case a.shares a.daily_traffic engine.hourly_demand.ensures
-    engine.with_demand.ensures engine.evaluate-answer.ensures c.in-Refused.is in
+    let a = c.args in
+    let e = engine-answers a.case a.shares a.daily_traffic c.hourly_demand.ensures
+    c.with_demand.ensures c.evaluate-answer.ensures c.in-Refused.is in
     answer-refused a.case a.shares a.daily_traffic
-    (passed a.shares a.daily_traffic _ asked.traffic_refusal-number.ensures asked.if-number-gt0.false) _ e
+    (passed a.shares a.daily_traffic _ c.traffic_refusal-number.ensures c.if-number-gt0.false) _ e

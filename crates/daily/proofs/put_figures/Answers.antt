@@ -6,7 +6,5 @@ use Rattle.daily.proofs.put_figures.Goals as goal
 
 pub returns : goal.returns
 returns c =
-    let first = c in
-    let graded = first in
-    then (rw graded.grade_values-figures.ensures at first.put_numbers-at.ensures) c.put_numbers.ensures
-    (omega (arith, graded.requires))
+    then (rw c.grade_values-figures.ensures at c.put_numbers-at.ensures) c.put_numbers.ensures
+    (omega (arith, c.requires))

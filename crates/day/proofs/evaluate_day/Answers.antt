@@ -16,7 +16,6 @@ put_day-requires c =
 
 pub returns : goal.returns
 returns c =
-    let s = c in
-    let a = s.args in
+    let a = c.args in
     let answered = day-answered a.case a.demands.now a.answers.now
-    (lent-passed _ _ _ s.lent_refusal-number.ensures c.if-number-gt0.false) in record { result = answered.0; answers = c.put_day.ensures ∙ answered.1 }
+    (lent-passed _ _ _ c.lent_refusal-number.ensures c.if-number-gt0.false) in record { result = answered.0; answers = c.put_day.ensures ∙ answered.1 }

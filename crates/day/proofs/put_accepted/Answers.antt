@@ -12,19 +12,15 @@ case_terms-terms-requires c =
     ap checked c.with_demand.ensures ∙ c.requires.0
 
 pub put_graded-requires : goal.put_graded-requires
-put_graded-requires c =
-    let s = c in
-    let terms = c in (
-      case-readied _ _ _ _ s.requires.0 (terms.case_terms-terms.ensures ∙ ap case_terms terms.with_demand.ensures)
-          (table_none _ _ c.in-Freeway.is),
-      s.requires.1,
-    )
+put_graded-requires c = (
+  case-readied _ _ _ _ c.requires.0 (c.case_terms-terms.ensures ∙ ap case_terms c.with_demand.ensures)
+      (table_none _ _ c.in-Freeway.is),
+  c.requires.1,
+)
 
 pub put_graded-requires-in-Multilane : goal.put_graded-requires-in-Multilane
-put_graded-requires-in-Multilane c =
-    let s = c in
-    let terms = c in (
-      case-readied _ _ _ _ s.requires.0 (terms.case_terms-terms.ensures ∙ ap case_terms terms.with_demand.ensures)
-          (table-lent _ _ c.in-Multilane.is c.power_table-table.ensures),
-      s.requires.1,
-    )
+put_graded-requires-in-Multilane c = (
+  case-readied _ _ _ _ c.requires.0 (c.case_terms-terms.ensures ∙ ap case_terms c.with_demand.ensures)
+      (table-lent _ _ c.in-Multilane.is c.power_table-table.ensures),
+  c.requires.1,
+)

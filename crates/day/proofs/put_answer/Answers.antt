@@ -4,8 +4,7 @@ use Rattle.day.proofs.put_answer.Goals as goal
 
 pub returns-in-Graded : goal.returns-in-Graded
 returns-in-Graded c =
-    let found = c in
-    rw found.in-Graded.is (rw found.grade_values-figures.ensures at c.put_position.ensures)
+    rw c.in-Graded.is (rw c.grade_values-figures.ensures at c.put_position.ensures)
 
 pub returns-in-Refused : goal.returns-in-Refused
 returns-in-Refused c =

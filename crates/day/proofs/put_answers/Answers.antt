@@ -21,21 +21,17 @@ loop-i-init c =
 
 pub answer_with-answer-requires : goal.answer_with-answer-requires
 answer_with-answer-requires c =
-    let s = c in
-    rw c.with_demand.ensures (shared-with_demand s.args.case _ s.args.shared s.args.table.now s.requires.0)
+    rw c.with_demand.ensures (shared-with_demand c.args.case _ c.args.shared c.args.table.now c.requires.0)
 
 pub put_answer-at-requires : goal.put_answer-at-requires
 put_answer-at-requires c =
-    let turn = c in
-    let l = turn.loop-i in
-    let s = turn in
-    omega (arith, l.invariant.1, next-room s.args.case s.args.demands.now l.i turn.loop-i-test.true s.requires.1 l.invariant.2)
+    let l = c.loop-i in
+    omega (arith, l.invariant.1, next-room c.args.case c.args.demands.now l.i c.loop-i-test.true c.requires.1 l.invariant.2)
 
 pub overflow_add-i : goal.overflow_add-i
 overflow_add-i c =
-    let turn = c in
-    let taken = turn.loop-i-test.true in
-    let room = turn.well_formed.1.1.1.0 in
+    let taken = c.loop-i-test.true in
+    let room = c.well_formed.1.1.1.0 in
     search rules
 
 pub loop-i-smaller : goal.loop-i-smaller
@@ -44,16 +40,13 @@ loop-i-smaller c =
 
 pub loop-i-preserved : goal.loop-i-preserved
 loop-i-preserved c =
-    let found = c in
-    let turn = found in
-    let l = turn.loop-i in
-    let s = turn in
+    let l = c.loop-i in
     let put = c.put_answer-at in
-    let same : found.answer_with-answer.result ≡ answer_to (with_demand s.args.case (get_or s.args.demands.now l.i 0)) =
-    found.answer_with-answer.ensures ∙ ap answer_to found.with_demand.ensures in (
-      omega (arith, turn.loop-i-test.true),
+    let same : c.answer_with-answer.result ≡ answer_to (with_demand c.args.case (get_or c.args.demands.now l.i 0)) =
+    c.answer_with-answer.ensures ∙ ap answer_to c.with_demand.ensures in (
+      omega (arith, c.loop-i-test.true),
       put.auto.out ∙ l.invariant.1,
-      next-answer s.args.case s.args.demands.now l.i turn.loop-i-test.true s.requires.1 l.invariant.2
+      next-answer c.args.case c.args.demands.now l.i c.loop-i-test.true c.requires.1 l.invariant.2
           (rw same at put.ensures),
     )
 

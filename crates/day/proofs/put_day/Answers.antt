@@ -7,17 +7,13 @@ use Rattle.day.proofs.put_day.Goals as goal
 
 pub put_accepted-requires : goal.put_accepted-requires
 put_accepted-requires c =
-    let asked = c in
-    let s = asked in
-    let e = sym (ap checked asked.with_demand.ensures) ∙ sym c.check-checked.ensures
+    let e = sym (ap checked c.with_demand.ensures) ∙ sym c.check-checked.ensures
     ∙ c.in-Accepted.is in
-    (e, s.requires)
+    (e, c.requires)
 
 pub put_answers-requires : goal.put_answers-requires
 put_answers-requires c =
-    let asked = c in
-    let s = asked in
-    let e = sym (ap checked asked.with_demand.ensures) ∙ sym c.check-checked.ensures
+    let e = sym (ap checked c.with_demand.ensures) ∙ sym c.check-checked.ensures
     ∙ c.in-Refused.is in
     let own = checked-number _ _ e in
-    ((sym own, rw own at (checked_refused _ _ e)), s.requires)
+    ((sym own, rw own at (checked_refused _ _ e)), c.requires)

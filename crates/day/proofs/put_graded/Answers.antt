@@ -10,5 +10,4 @@ volumes_with-volumes-requires c =
 
 pub put_answers-requires : goal.put_answers-requires
 put_answers-requires c =
-    let s = c in
-    ((s.requires.0, c.volumes_with-volumes.ensures ∙ service_volumes-terms _ _ _ s.requires.0 ∙ service_volumes-with_demand _ 0), s.requires.1)
+    ((c.requires.0, c.volumes_with-volumes.ensures ∙ service_volumes-terms _ _ _ c.requires.0 ∙ service_volumes-with_demand _ 0), c.requires.1)

@@ -17,6 +17,5 @@ shape_of-out c =
 
 pub returns : goal.returns
 returns c =
-    let s = c in
-    then (first_byte s.args.out.now s.args.at s.args.number (omega (arith, s.requires))) c.put_numbers.ensures
-    (omega (arith, s.requires))
+    then (first_byte c.args.out.now c.args.at c.args.number (omega (arith, c.requires))) c.put_numbers.ensures
+    (omega (arith, c.requires))

@@ -7,23 +7,20 @@ use Rattle.forecast.proofs.evaluate_forecast.Goals as goal
 
 pub outcomes-requires : goal.outcomes-requires
 outcomes-requires c =
-    let checked = c in
-    let a = checked.args in
-    ends-accepted a.case a.forecast _ checked.range_refusal.ensures _
-    (sym checked.check_with-checked.ensures ∙ c.in-Accepted.is)
+    let a = c.args in
+    ends-accepted a.case a.forecast _ c.range_refusal.ensures _
+    (sym c.check_with-checked.ensures ∙ c.in-Accepted.is)
 
 pub returns-in-Accepted : goal.returns-in-Accepted
 returns-in-Accepted c =
-    let checked = c in
-    let a = checked.args in
+    let a = c.args in
     c.outcomes.ensures
     ∙ sym (answer-accepted a.case a.forecast
-    (found-accepted a.case a.forecast _ checked.range_refusal.ensures _
-    (sym checked.check_with-checked.ensures ∙ c.in-Accepted.is)))
+    (found-accepted a.case a.forecast _ c.range_refusal.ensures _
+    (sym c.check_with-checked.ensures ∙ c.in-Accepted.is)))
 
 pub returns-in-Refused : goal.returns-in-Refused
 returns-in-Refused c =
-    let checked = c in
-    let a = checked.args in
-    answer-refused a.case a.forecast _ checked.range_refusal.ensures _
-    (sym checked.check_with-checked.ensures ∙ c.in-Refused.is)
+    let a = c.args in
+    answer-refused a.case a.forecast _ c.range_refusal.ensures _
+    (sym c.check_with-checked.ensures ∙ c.in-Refused.is)

@@ -12,8 +12,7 @@ case_terms-requires c =
 pub measures_with-measures-requires : goal.measures_with-measures-requires
 measures_with-measures-requires c =
     let asked = c.with_combination-asked in
-    let s = c in
-    case-readied _ _ _ _ (ap checked asked.ensures ∙ s.requires.0) c.case_terms.ensures s.requires.1
+    case-readied _ _ _ _ (ap checked asked.ensures ∙ c.requires.0) c.case_terms.ensures c.requires.1
 
 pub returns : goal.returns
 returns c =

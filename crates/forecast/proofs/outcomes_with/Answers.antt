@@ -4,11 +4,11 @@ use Rattle.forecast.proofs.outcomes_with.Goals as goal
 
 pub outcome_with-requires : goal.outcome_with-requires
 outcome_with-requires c =
-    let s = c in rw c.best_combination.ensures (s.requires.0.at-best, s.requires.1)
+    rw c.best_combination.ensures (c.requires.0.at-best, c.requires.1)
 
 pub outcome_with-requires-2 : goal.outcome_with-requires-2
 outcome_with-requires-2 c =
-    let s = c in rw c.worst_combination.ensures (s.requires.0.at-worst, s.requires.1)
+    rw c.worst_combination.ensures (c.requires.0.at-worst, c.requires.1)
 
 pub returns : goal.returns
 returns c =

@@ -4,5 +4,4 @@ use Rattle.forecast.proofs.put_figures.Goals as goal
 
 pub returns : goal.returns
 returns c =
-    let second = c in
-    rw (second.letter_number.ensures, second.letter_number-2.ensures) at c.put_numbers.ensures
+    rw (c.letter_number.ensures, c.letter_number-2.ensures) at c.put_numbers.ensures

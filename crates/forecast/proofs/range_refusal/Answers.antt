@@ -6,23 +6,20 @@ use Rattle.forecast.proofs.range_refusal.Goals as goal
 
 pub returns : goal.returns
 returns c =
-    let lesser = c in
-    let worst = lesser in
-    let best = worst in
-    let a = best.args in
+    let a = c.args in
     simp (
       c.refused_if-3.ensures,
       c.refused_if-2.ensures,
       c.refused_if.ensures,
-      lesser.lesser_refusal.ensures,
-      lesser.reversed-3.ensures,
-      lesser.reversed-2.ensures,
-      lesser.reversed.ensures,
-      worst.load_refusal-worst.ensures,
-      worst.with_combination-2.ensures,
-      worst.worst_combination.ensures,
-      best.load_refusal-best.ensures,
-      best.with_combination.ensures,
-      best.best_combination.ensures,
+      c.lesser_refusal.ensures,
+      c.reversed-3.ensures,
+      c.reversed-2.ensures,
+      c.reversed.ensures,
+      c.load_refusal-worst.ensures,
+      c.with_combination-2.ensures,
+      c.worst_combination.ensures,
+      c.load_refusal-best.ensures,
+      c.with_combination.ensures,
+      c.best_combination.ensures,
     )
     (sym (range-number a.case a.forecast))

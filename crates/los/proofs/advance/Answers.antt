@@ -26,16 +26,15 @@ read_more-requires c =
 
 pub returns-then-written-eq0 : goal.returns-then-written-eq0
 returns-then-written-eq0 c =
-    let s = c in
-    let held = take s.args.held s.args.buffer.now in
+    let held = take c.args.held c.args.buffer.now in
     let t = c.answer_turn-turn in
     let r = c.read_more in
-    let none = nothing_left line_texts (length s.args.out.now) held line_text-pos s.requires.1.1
+    let none = nothing_left line_texts (length c.args.out.now) held line_text-pos c.requires.1.1
     (omega (arith, t.ensures.text.ends, c.if-written-eq0.true)) in record {
       held_in_bounds = search rules;
       answered = λ h. absurd (omega (arith, t.ensures.text.ends, c.if-written-eq0.true));
       kept = begins _ _ _ _ _ _ t.ensures.carried t.ensures.buffer r.ensures.kept r.ensures.in_bounds.0;
-      ended = λ m s. ends_held _ _ _ _ _ _ t.ensures.carried t.ensures.buffer r.ensures.kept (r.ensures.ended.0 m)
+      ended = λ m c. ends_held _ _ _ _ _ _ t.ensures.carried t.ensures.buffer r.ensures.kept (r.ensures.ended.0 m)
           (carried-newline line_texts _ held none);
     }
 

@@ -10,19 +10,17 @@ use Rattle.los.proofs.read_more.Goals as goal
 
 pub returns-in-Ok : goal.returns-in-Ok
 returns-in-Ok c =
-    let s = c in
-    let held = take s.args.held s.args.buffer.now in
+    let held = take c.args.held c.args.buffer.now in
     let n = c.in-Ok.n in record {
       in_bounds = search rules;
-      kept = take_at held _ s.args.held (length-take-le s.args.held s.args.buffer.now (omega (arith, s.requires)));
+      kept = take_at held _ c.args.held (length-take-le c.args.held c.args.buffer.now (omega (arith, c.requires)));
       ended = (λ e. omega (arith, ltb-false 0 n e), λ e. le-ltb 0 n (omega arith));
     }
 
 pub returns-in-Err : goal.returns-in-Err
 returns-in-Err c =
-    let s = c in
-    let held = take s.args.held s.args.buffer.now in record {
+    let held = take c.args.held c.args.buffer.now in record {
       in_bounds = search rules;
-      kept = take_at held _ s.args.held (length-take-le s.args.held s.args.buffer.now (omega (arith, s.requires)));
+      kept = take_at held _ c.args.held (length-take-le c.args.held c.args.buffer.now (omega (arith, c.requires)));
       ended = (λ e. refl, λ e. refl);
     }

@@ -11,41 +11,36 @@ use Rattle.survey.proofs.speed_of_bits.Goals as goal
 pub returns-then-exponent-lt127 : goal.returns-then-exponent-lt127
 unfolding steps
 returns-then-exponent-lt127 c =
-    let s = c in sym (bits-low s.args.unit s.requires s.args.bits c.if-exponent-lt127.true)
+    sym (bits-low c.args.unit c.requires c.args.bits c.if-exponent-lt127.true)
 
 pub returns-then-exponent-gt135 : goal.returns-then-exponent-gt135
 unfolding steps
 returns-then-exponent-gt135 c =
-    let s = c in sym (bits-high s.args.unit s.requires s.args.bits c.if-exponent-gt135.true)
+    sym (bits-high c.args.unit c.requires c.args.bits c.if-exponent-gt135.true)
 
 pub overflow_mul-thousandths : goal.overflow_mul-thousandths
 unfolding steps
 overflow_mul-thousandths c =
-    let s = c in
-    record { fits = numerator-fits s.args.unit s.requires (s.args.bits % 8388608) (omega arith) }
+    record { fits = numerator-fits c.args.unit c.requires (c.args.bits % 8388608) (omega arith) }
 
 pub overflow_mul-thousandths-2 : goal.overflow_mul-thousandths-2
 unfolding steps
 overflow_mul-thousandths-2 c =
-    let s = c in
-    record { fits = denominator-fits s.args.unit s.requires (s.args.bits / 8388608) c.if-exponent-lt127.false }
+    record { fits = denominator-fits c.args.unit c.requires (c.args.bits / 8388608) c.if-exponent-lt127.false }
 
 pub nonzero_div-thousandths : goal.nonzero_div-thousandths
 unfolding steps
 nonzero_div-thousandths c =
-    let s = c in
-    denominator-pos s.args.unit s.requires (s.args.bits / 8388608) c.if-exponent-lt127.false
+    denominator-pos c.args.unit c.requires (c.args.bits / 8388608) c.if-exponent-lt127.false
 
 pub returns-then-outside : goal.returns-then-outside
 unfolding steps
 returns-then-outside c =
-    let s = c in
-    bits-by s.args.unit s.requires s.args.bits true c.if-exponent-lt127.false
+    bits-by c.args.unit c.requires c.args.bits true c.if-exponent-lt127.false
     c.if-exponent-gt135.false (sym c.outside.ensures ∙ c.if-outside.true)
 
 pub returns : goal.returns
 unfolding steps
 returns c =
-    let s = c in
-    bits-by s.args.unit s.requires s.args.bits false c.if-exponent-lt127.false
+    bits-by c.args.unit c.requires c.args.bits false c.if-exponent-lt127.false
     c.if-exponent-gt135.false (sym c.outside.ensures ∙ c.if-outside.false)

@@ -23,12 +23,10 @@ float_to_bits-bits c =
 
 pub overflow_cast-bits : goal.overflow_cast-bits
 overflow_cast-bits c =
-    let s = c in
-    record { fits = lt_of_lt_of_le (to_bits-lt binary32 s.args.x (passes (fits binary32 s.args.x) s.well_formed.0.1)) (lit≤ tt) }
+    record { fits = lt_of_lt_of_le (to_bits-lt binary32 c.args.x (passes (fits binary32 c.args.x) c.well_formed.0.1)) (lit≤ tt) }
 
 pub returns : goal.returns
 returns c =
-    let s = c in
     c.speed_of_bits.ensures
-    ∙ ap (λ (x : Float). speed_answer (rounded_in s.args.unit x))
-    (of_bits-to_bits binary32 s.args.x (passes (fits binary32 s.args.x) s.well_formed.0.1))
+    ∙ ap (λ (x : Float). speed_answer (rounded_in c.args.unit x))
+    (of_bits-to_bits binary32 c.args.x (passes (fits binary32 c.args.x) c.well_formed.0.1))

@@ -13,10 +13,9 @@ found_volumes-found-requires c =
 pub returns : goal.returns
 unfolding graded
 returns c =
-    let found = c in
     simp (
       c.grade_of-grade.ensures,
       c.measures_with.ensures,
-      found.found_volumes-found.ensures ∙ found_volumes-terms _ _ _ found.requires,
-      found.requires.accepted,
+      c.found_volumes-found.ensures ∙ found_volumes-terms _ _ _ c.requires,
+      c.requires.accepted,
     )

@@ -6,12 +6,11 @@ use Rattle.answer.proofs.evaluate.greatest_for.Goals as goal
 
 pub greatest_meeting-requires : goal.greatest_meeting-requires
 greatest_meeting-requires c =
-    let s = c in
     record {
-      ready = s.requires.0;
-      load_fits = s.requires.1;
-      limit-le = omega (arith, c.density_limit.ensures, density_limit-le s.args.letter);
-      demand-le = omega (arith, s.requires.2);
+      ready = c.requires.0;
+      load_fits = c.requires.1;
+      limit-le = omega (arith, c.density_limit.ensures, density_limit-le c.args.letter);
+      demand-le = omega (arith, c.requires.2);
     }
 
 pub returns : goal.returns

@@ -14,10 +14,9 @@ overflow_add-high c =
 
 pub loop-high-init : goal.loop-high-init
 loop-high-init c =
-    let s = c in
-    halved-start _ s.args.end
-    (demand_meets-zero s.args.terms.curve s.args.load s.args.limit s.requires.ready.prepared.well-formed
-    s.requires.load_fits.divisor-pos)
+    halved-start _ c.args.end
+    (demand_meets-zero c.args.terms.curve c.args.load c.args.limit c.requires.ready.prepared.well-formed
+    c.requires.load_fits.divisor-pos)
 
 pub overflow_sub-high : goal.overflow_sub-high
 overflow_sub-high c =
@@ -62,9 +61,8 @@ loop-high-preserved c =
 
 pub returns : goal.returns
 returns c =
-    let s = c in
     let found = halved-done _ _ _ _ _ c.loop-high.invariant
-    (demand_meets-down s.args.terms.curve s.args.load s.args.limit s.requires.ready.prepared.well-formed
-    s.requires.load_fits.divisor-pos)
+    (demand_meets-down c.args.terms.curve c.args.load c.args.limit c.requires.ready.prepared.well-formed
+    c.requires.load_fits.divisor-pos)
     (omega arith) in
     simp (found.0, found.1)

@@ -34,12 +34,11 @@ loop-lanes-init c =
 
 pub lanes_meet-requires : goal.lanes_meet-requires
 lanes_meet-requires c =
-    let s = c in
     let l = c.loop-lanes in
     record {
-      fields = fields-with_lanes s.args.case l.lanes s.requires.fields l.invariant.1 (omega (arith, l.invariant.0));
-      letter-low = s.requires.letter-low;
-      letter-high = s.requires.letter-high;
+      fields = fields-with_lanes c.args.case l.lanes c.requires.fields l.invariant.1 (omega (arith, l.invariant.0));
+      letter-low = c.requires.letter-low;
+      letter-high = c.requires.letter-high;
     }
 
 pub returns-then-lanes_meet : goal.returns-then-lanes_meet

@@ -15,47 +15,42 @@ use Rattle.answer.proofs.lanes.lanes_meet.Goals as goal
 
 pub checked_curve-checked-requires : goal.checked_curve-checked-requires
 checked_curve-checked-requires c =
-    let s = c in
-    let case = with_lanes s.args.case s.args.lanes in
-    (fields-road case s.requires.fields, fields-weather case s.requires.fields)
+    let case = with_lanes c.args.case c.args.lanes in
+    (fields-road case c.requires.fields, fields-weather case c.requires.fields)
 
 pub load_of-requires : goal.load_of-requires
 load_of-requires c =
     c.requires.fields
 
 pub flow_rate-v-requires : goal.flow_rate-v-requires
-flow_rate-v-requires c =
-    let s = c in (
-      rw c.load_of.ensures (load_of-fits s.args.case s.args.lanes s.requires.fields),
-      (load-ends (with_lanes s.args.case s.args.lanes) s.requires.fields).demand-high,
-    )
+flow_rate-v-requires c = (
+  rw c.load_of.ensures (load_of-fits c.args.case c.args.lanes c.requires.fields),
+  (load-ends (with_lanes c.args.case c.args.lanes) c.requires.fields).demand-high,
+)
 
 pub curve_terms-requires : goal.curve_terms-requires
 curve_terms-requires c =
-    let s = c in
-    let case = with_lanes s.args.case s.args.lanes in
-    let found = checked_curve-accepted case _ s.requires.fields
+    let case = with_lanes c.args.case c.args.lanes in
+    let found = checked_curve-accepted case _ c.requires.fields
     (sym c.checked_curve-checked.ensures ∙ c.in-Accepted.is) in
     rw found.1 (case_curve-well_formed case found.0, case_curve-sized case found.0)
 
 pub flow_meets_limit-requires : goal.flow_meets_limit-requires
 flow_meets_limit-requires c =
-    let s = c in
-    let case = with_lanes s.args.case s.args.lanes in
-    let found = checked_curve-accepted case _ s.requires.fields
+    let case = with_lanes c.args.case c.args.lanes in
+    let found = checked_curve-accepted case _ c.requires.fields
     (sym c.checked_curve-checked.ensures
     ∙ c.in-Accepted.is) in (
       rw (c.curve_terms.ensures, found.1)
           (curve_terms_of-prepared _ (case_curve-well_formed case found.0) (case_curve-sized case found.0)),
-      omega (arith, c.density_limit.ensures, density_limit-le s.args.letter),
+      omega (arith, c.density_limit.ensures, density_limit-le c.args.letter),
     )
 
 pub returns-in-Accepted : goal.returns-in-Accepted
 unfolding heavy_factor_of curve_terms_of
 returns-in-Accepted c =
-    let s = c in
-    let case = with_lanes s.args.case s.args.lanes in
-    let found = checked_curve-accepted case _ s.requires.fields
+    let case = with_lanes c.args.case c.args.lanes in
+    let found = checked_curve-accepted case _ c.requires.fields
     (sym c.checked_curve-checked.ensures
     ∙ c.in-Accepted.is) in
     let own = ap (λ t. t.curve) (c.curve_terms.ensures ∙ ap curve_terms_of found.1) in
@@ -66,11 +61,10 @@ returns-in-Accepted c =
       c.load_of.ensures,
       c.density_limit.ensures,
     )
-    (sym (meets-accepted case s.args.letter found.0 s.requires.letter-low s.requires.letter-high))
+    (sym (meets-accepted case c.args.letter found.0 c.requires.letter-low c.requires.letter-high))
 
 pub returns-in-Refused : goal.returns-in-Refused
 returns-in-Refused c =
-    let s = c in
-    let case = with_lanes s.args.case s.args.lanes in
-    sym (meets-refused case s.args.letter
-    (checked_curve-refused case _ s.requires.fields (sym c.checked_curve-checked.ensures ∙ c.in-Refused.is)))
+    let case = with_lanes c.args.case c.args.lanes in
+    sym (meets-refused case c.args.letter
+    (checked_curve-refused case _ c.requires.fields (sym c.checked_curve-checked.ensures ∙ c.in-Refused.is)))

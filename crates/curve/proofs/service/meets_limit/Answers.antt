@@ -8,26 +8,22 @@ use Rattle.curve.proofs.service.meets_limit.Goals as goal
 
 pub returns-then-terms-v : goal.returns-then-terms-v
 returns-then-terms-v c =
-    let s = c in
-    meets_limit-beyond s.args.terms.curve s.args.v s.args.limit
-    (flow-beyond s.args.terms s.requires.0.prepared s.args.v c.if-terms-v.true)
+    meets_limit-beyond c.args.terms.curve c.args.v c.args.limit
+    (flow-beyond c.args.terms c.requires.0.prepared c.args.v c.if-terms-v.true)
 
 pub exact_speed-exact-requires : goal.exact_speed-exact-requires
 exact_speed-exact-requires c =
-    let s = c in
-    (s.requires.0, (flow-within s.args.terms s.requires.0.prepared s.args.v c.if-terms-v.false).0)
+    (c.requires.0, (flow-within c.args.terms c.requires.0.prepared c.args.v c.if-terms-v.false).0)
 
 pub overflow_mul-result : goal.overflow_mul-result
 overflow_mul-result c =
-    let s = c in
-    omega (arith, (flow-within s.args.terms s.requires.0.prepared s.args.v c.if-terms-v.false).1)
+    omega (arith, (flow-within c.args.terms c.requires.0.prepared c.args.v c.if-terms-v.false).1)
 
 pub overflow_mul-result-2 : goal.overflow_mul-result-2
 overflow_mul-result-2 c =
-    let s = c in
     record {
       fits = product-fits 24000000 176400000000
-          (flow-within s.args.terms s.requires.0.prepared s.args.v c.if-terms-v.false).1
+          (flow-within c.args.terms c.requires.0.prepared c.args.v c.if-terms-v.false).1
           c.exact_speed-exact.ensures.denominator-le tt;
     }
 
@@ -40,8 +36,7 @@ overflow_mul-result-3 c =
 
 pub returns : goal.returns
 returns c =
-    let s = c in
-    limit-exact s.args.terms.curve s.args.v s.args.limit c.exact_speed-exact.result
-    s.requires.0.prepared.well-formed
-    (flow-within s.args.terms s.requires.0.prepared s.args.v c.if-terms-v.false).0
+    limit-exact c.args.terms.curve c.args.v c.args.limit c.exact_speed-exact.result
+    c.requires.0.prepared.well-formed
+    (flow-within c.args.terms c.requires.0.prepared c.args.v c.if-terms-v.false).0
     c.exact_speed-exact.ensures

@@ -16,38 +16,33 @@ use Rattle.curve.proofs.service.performance_at.Goals as goal
 pub returns-then-terms-v : goal.returns-then-terms-v
 unfolding performance shown_speed shown_density letter_at
 returns-then-terms-v c =
-    let s = c in
-    simp (lt-leb (100 * s.args.v) s.args.terms.curve.capacity
-    (flow-beyond s.args.terms s.requires.prepared s.args.v c.if-terms-v.true))
+    simp (lt-leb (100 * c.args.v) c.args.terms.curve.capacity
+    (flow-beyond c.args.terms c.requires.prepared c.args.v c.if-terms-v.true))
 
 pub exact_speed-exact-requires : goal.exact_speed-exact-requires
 exact_speed-exact-requires c =
-    let s = c in
-    (s.requires, (flow-within s.args.terms s.requires.prepared s.args.v c.if-terms-v.false).0)
+    (c.requires, (flow-within c.args.terms c.requires.prepared c.args.v c.if-terms-v.false).0)
 
 pub overflow_mul-v : goal.overflow_mul-v
 overflow_mul-v c =
-    let s = c in
-    omega (arith, (flow-within s.args.terms s.requires.prepared s.args.v c.if-terms-v.false).1)
+    omega (arith, (flow-within c.args.terms c.requires.prepared c.args.v c.if-terms-v.false).1)
 
 pub overflow_mul-v-2 : goal.overflow_mul-v-2
 overflow_mul-v-2 c =
-    let s = c in
     record {
       fits = product-fits 24000000 176400000000
-          (flow-within s.args.terms s.requires.prepared s.args.v c.if-terms-v.false).1
+          (flow-within c.args.terms c.requires.prepared c.args.v c.if-terms-v.false).1
           c.exact_speed-exact.ensures.denominator-le tt;
     }
 
 pub returns : goal.returns
 unfolding performance shown_speed shown_density letter_at
 returns c =
-    let s = c in
-    let curve = s.args.terms.curve in
-    let v = s.args.v in
+    let curve = c.args.terms.curve in
+    let v = c.args.v in
     let exact = c.exact_speed-exact in
-    let ok = s.requires.prepared.well-formed in
-    let up = (flow-within s.args.terms s.requires.prepared v c.if-terms-v.false).0 in
+    let ok = c.requires.prepared.well-formed in
+    let up = (flow-within c.args.terms c.requires.prepared v c.if-terms-v.false).0 in
     let dense : c.div_up-density.result ≡ density curve v = c.div_up-density.ensures
     ∙ density-exact curve v exact.result ok up exact.ensures in
     simp (

@@ -21,11 +21,10 @@ div_up-requires c =
 
 pub power-requires : goal.power-requires
 power-requires c =
-    let s = c in
-    let facts = terms-facts s.args.terms s.requires.0.prepared in (
-      table-powers _ _ c.in-Multilane.is s.requires.0.read,
+    let facts = terms-facts c.args.terms c.requires.0.prepared in (
+      table-powers _ _ c.in-Multilane.is c.requires.0.read,
       rw (c.div_up.ensures, c.beyond_breakpoint-beyond.ensures, facts.span-eq)
-          (place-le s.args.terms.curve s.args.v s.requires.0.prepared.well-formed s.requires.1),
+          (place-le c.args.terms.curve c.args.v c.requires.0.prepared.well-formed c.requires.1),
     )
 
 pub returns-in-Freeway : goal.returns-in-Freeway
@@ -36,11 +35,10 @@ returns-in-Freeway c =
 pub returns-in-Multilane : goal.returns-in-Multilane
 unfolding fall_share_by
 returns-in-Multilane c =
-    let s = c in
     simp (
       c.in-Multilane.is,
       c.power.ensures,
       c.div_up.ensures,
       c.beyond_breakpoint-beyond.ensures,
-      (terms-facts s.args.terms s.requires.0.prepared).span-eq,
+      (terms-facts c.args.terms c.requires.0.prepared).span-eq,
     )

@@ -10,33 +10,27 @@ use Rattle.day.proofs.shared.answer_with.Goals as goal
 
 pub returns-then-case-gt-GREATEST_DEMAND : goal.returns-then-case-gt-GREATEST_DEMAND
 returns-then-case-gt-GREATEST_DEMAND c =
-    let s = c in
-    let by = told _ _ _ s.requires (Shared.Accepted _ _) c.in-Accepted.is in
-    sym (accepted-above s.args.case by.0.accepted c.if-case-gt-GREATEST_DEMAND.true)
+    let by = told _ _ _ c.requires (Shared.Accepted _ _) c.in-Accepted.is in
+    sym (accepted-above c.args.case by.0.accepted c.if-case-gt-GREATEST_DEMAND.true)
 
 pub measures_with-requires : goal.measures_with-requires
 measures_with-requires c =
-    let s = c in
-    ready-within s.args.case _ _ (told _ _ _ s.requires (Shared.Accepted _ _) c.in-Accepted.is).0
+    ready-within c.args.case _ _ (told _ _ _ c.requires (Shared.Accepted _ _) c.in-Accepted.is).0
     c.if-case-gt-GREATEST_DEMAND.false
 
 pub returns-then-case-gt-GREATEST_DEMAND-2 : goal.returns-then-case-gt-GREATEST_DEMAND-2
 returns-then-case-gt-GREATEST_DEMAND-2 c =
-    let s = c in
-    let by = told _ _ _ s.requires (Shared.Refused _) c.in-Refused.is in
-    ap Answer.Refused c.lesser.ensures ∙ sym (refused-above s.args.case _ by.0 by.1 c.if-case-gt-GREATEST_DEMAND-2.true)
+    let by = told _ _ _ c.requires (Shared.Refused _) c.in-Refused.is in
+    ap Answer.Refused c.lesser.ensures ∙ sym (refused-above c.args.case _ by.0 by.1 c.if-case-gt-GREATEST_DEMAND-2.true)
 
 pub returns-else-case-gt-GREATEST_DEMAND : goal.returns-else-case-gt-GREATEST_DEMAND
 unfolding graded
 returns-else-case-gt-GREATEST_DEMAND c =
-    let measured = c in
-    let s = measured in
-    let by = told _ _ _ s.requires (Shared.Accepted _ _) measured.in-Accepted.is in
-    ap Answer.Graded (simp (c.grade_of.ensures, measured.measures_with.ensures, by.1))
-    ∙ sym (accepted-within s.args.case by.0.accepted measured.if-case-gt-GREATEST_DEMAND.false)
+    let by = told _ _ _ c.requires (Shared.Accepted _ _) c.in-Accepted.is in
+    ap Answer.Graded (simp (c.grade_of.ensures, c.measures_with.ensures, by.1))
+    ∙ sym (accepted-within c.args.case by.0.accepted c.if-case-gt-GREATEST_DEMAND.false)
 
 pub returns-else-case-gt-GREATEST_DEMAND-2 : goal.returns-else-case-gt-GREATEST_DEMAND-2
 returns-else-case-gt-GREATEST_DEMAND-2 c =
-    let s = c in
-    let by = told _ _ _ s.requires (Shared.Refused _) c.in-Refused.is in
-    sym (refused-within s.args.case _ by.0 by.1 c.if-case-gt-GREATEST_DEMAND-2.false)
+    let by = told _ _ _ c.requires (Shared.Refused _) c.in-Refused.is in
+    sym (refused-within c.args.case _ by.0 by.1 c.if-case-gt-GREATEST_DEMAND-2.false)

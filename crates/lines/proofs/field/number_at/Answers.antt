@@ -11,9 +11,8 @@ use Rattle.lines.proofs.field.number_at.Goals as goal
 
 pub loop-at-init : goal.loop-at-init
 loop-at-init c =
-    let s = c in
-    let none : s.args.at - s.args.at ≡ 0 = omega arith in (
-      record { begun = omega arith; within = s.requires.0; same-field = refl; spells = refl },
+    let none : c.args.at - c.args.at ≡ 0 = omega arith in (
+      record { begun = omega arith; within = c.requires.0; same-field = refl; spells = refl },
       omega arith,
       rw none (omega arith),
     )

@@ -12,35 +12,35 @@ field_ends-requires c =
 
 pub returns-then-not-field_ends : goal.returns-then-not-field_ends
 returns-then-not-field_ends c =
-    let s = c in let a = s.args in
-    λ most few. sym (number-unended a.line.now a.at a.end a.n s.requires.0 most few
-    (eqb-false _ a.end (sym c.field_ends.ensures ∙ c.if-not-field_ends.true)) s.requires.1)
+    let a = c.args in
+    λ most few. sym (number-unended a.line.now a.at a.end a.n c.requires.0 most few
+    (eqb-false _ a.end (sym c.field_ends.ensures ∙ c.if-not-field_ends.true)) c.requires.1)
 
 pub returns-then-end-at : goal.returns-then-end-at
 returns-then-end-at c =
-    let s = c in let a = s.args in
-    λ most few. sym (ended-none a.line.now a.at a.end a.n s.requires.0 most few
+    let a = c.args in
+    λ most few. sym (ended-none a.line.now a.at a.end a.n c.requires.0 most few
     (eqb-true _ a.end (sym c.field_ends.ensures ∙ c.if-not-field_ends.false)) c.if-end-at.true)
 
 pub returns-then-end-at-eq1 : goal.returns-then-end-at-eq1
 returns-then-end-at-eq1 c =
-    let s = c in let a = s.args in
-    λ most few. sym (ended-one a.line.now a.at a.end a.n s.requires.0 most few
+    let a = c.args in
+    λ most few. sym (ended-one a.line.now a.at a.end a.n c.requires.0 most few
     (eqb-true _ a.end (sym c.field_ends.ensures ∙ c.if-not-field_ends.false))
-    (omega (arith, s.requires.0.begun, c.if-end-at-eq1.true)))
+    (omega (arith, c.requires.0.begun, c.if-end-at-eq1.true)))
 
 pub returns-then-line-at-eq48 : goal.returns-then-line-at-eq48
 returns-then-line-at-eq48 c =
-    let s = c in let a = s.args in
-    λ most few. sym (ended-zero a.line.now a.at a.end a.n s.requires.0 most few
+    let a = c.args in
+    λ most few. sym (ended-zero a.line.now a.at a.end a.n c.requires.0 most few
     (eqb-true _ a.end
     (sym c.field_ends.ensures
-    ∙ c.if-not-field_ends.false)) (omega (arith, s.requires.0.begun)) c.if-line-at-eq48.true)
+    ∙ c.if-not-field_ends.false)) (omega (arith, c.requires.0.begun)) c.if-line-at-eq48.true)
 
 pub returns : goal.returns
 returns c =
-    let s = c in let a = s.args in
-    λ most few. sym (ended-more a.line.now a.at a.end a.n s.requires.0 most few
+    let a = c.args in
+    λ most few. sym (ended-more a.line.now a.at a.end a.n c.requires.0 most few
     (eqb-true _ a.end
     (sym c.field_ends.ensures
-    ∙ c.if-not-field_ends.false)) (omega (arith, s.requires.0.begun)) c.if-line-at-eq48.false)
+    ∙ c.if-not-field_ends.false)) (omega (arith, c.requires.0.begun)) c.if-line-at-eq48.false)

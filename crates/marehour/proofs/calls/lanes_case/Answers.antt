@@ -30,10 +30,9 @@ refused-requires c =
 pub returns-in-Lanes : goal.returns-in-Lanes
 returns-in-Lanes c =
     let both =
-    let s = c in
     let e = sym c.lanes_needed-found.ensures ∙ c.in-Lanes.is in
-    let digit = found-digit s.args.case s.args.letter _ e in
-    wrote-reply _ _ _ 2 _ (omega (arith, count-length _ digit)) (count-written _ s.args.answer.now digit s.requires) (ap count_reply e) in
+    let digit = found-digit c.args.case c.args.letter _ e in
+    wrote-reply _ _ _ 2 _ (omega (arith, count-length _ digit)) (count-written _ c.args.answer.now digit c.requires) (ap count_reply e) in
     record { result = both.0; buffer = both.1 }
 
 pub returns-in-Refused : goal.returns-in-Refused

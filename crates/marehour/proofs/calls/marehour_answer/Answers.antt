@@ -17,18 +17,16 @@ returns-then-answer-lt-ANSWER_SIZE c =
 pub returns-in_default : goal.returns-in_default
 returns-in_default c =
     let both =
-    let read = c in
-    let a = read.args in
-    call-malformed longest_answer case_reply a.line.now a.answer.now read.if-answer-lt-ANSWER_SIZE.false _ _
-    (sym read.read_line-reading.ensures ∙ c.in_default.is) c.refused-in_default.ensures in
+    let a = c.args in
+    call-malformed longest_answer case_reply a.line.now a.answer.now c.if-answer-lt-ANSWER_SIZE.false _ _
+    (sym c.read_line-reading.ensures ∙ c.in_default.is) c.refused-in_default.ensures in
     record { result = both.0; buffer = both.1 }
 
 pub returns : goal.returns
 returns c =
     let both =
-    let read = c in
-    let a = read.args in
+    let a = c.args in
     let s = c.answer_case in
-    call-read longest_answer case_reply a.line.now a.answer.now read.if-answer-lt-ANSWER_SIZE.false _ _ _
-    (sym read.read_line-reading.ensures ∙ c.in-Case.is) (search rules) (s.ensures.result, s.ensures.buffer) in
+    call-read longest_answer case_reply a.line.now a.answer.now c.if-answer-lt-ANSWER_SIZE.false _ _ _
+    (sym c.read_line-reading.ensures ∙ c.in-Case.is) (search rules) (s.ensures.result, s.ensures.buffer) in
     record { result = both.0; buffer = both.1 }

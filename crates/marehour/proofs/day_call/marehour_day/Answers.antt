@@ -13,7 +13,6 @@ use Rattle.marehour.proofs.CallLaws.{call-lent, call-refused, call-wrote, positi
 use Rattle.marehour.proofs.day_call.marehour_day.Goals as goal
 
 -- 32 bits hold the count of the demands
-
 pub refused-requires : goal.refused-requires
 refused-requires c =
     omega (arith, lent-number _ _ _ c.lent_refusal-number.ensures c.if-number-gt0.true)
@@ -30,26 +29,23 @@ returns-then-number-gt0 c =
 pub returns-in_default : goal.returns-in_default
 returns-in_default c =
     let both =
-    let found = c in
-    let a = found.args in
+    let a = c.args in
     let e = sym c.read_line-reading.ensures ∙ c.in_default.is in
     call-refused answer_count (day_reply a.demands.now) _ (lent_refusals _ _) a.answers.now
-    (lent-passed _ _ _ found.lent_refusal-number.ensures c.if-number-gt0.false) c.refused-in_default.result 15
+    (lent-passed _ _ _ c.lent_refusal-number.ensures c.if-number-gt0.false) c.refused-in_default.result 15
     (omega arith) (e ∙ ap LineRead.Refused (read_line-refused a.line.now _ e)) c.refused-in_default.ensures in
     record { result = both.0; answers = both.1 }
 
 pub overflow_cast-result : goal.overflow_cast-result
 overflow_cast-result c =
-    let found = c in
-    let fits = lent-passed _ _ _ found.lent_refusal-number.ensures found.if-number-gt0.false in
+    let fits = lent-passed _ _ _ c.lent_refusal-number.ensures c.if-number-gt0.false in
     positive-fits _ (omega (arith, (lent-fits-exactly _ _).0 fits))
 
 pub returns : goal.returns
 returns c =
     let both =
-    let found = c in
-    let a = found.args in
-    let fits = lent-passed _ _ _ found.lent_refusal-number.ensures found.if-number-gt0.false in
+    let a = c.args in
+    let fits = lent-passed _ _ _ c.lent_refusal-number.ensures c.if-number-gt0.false in
     call-wrote answer_count (day_reply a.demands.now) _ (lent_refusals _ _) a.answers.now fits _ _ _ _
     (sym c.read_line-reading.ensures
     ∙ c.in-Case.is) refl

@@ -13,9 +13,8 @@ use Rattle.marehour.proofs.forecast_call.forecast_case.Goals as goal
 
 pub refused-requires : goal.refused-requires
 refused-requires c =
-    let found = c in
-    let a = found.args in
-    let e = sym found.evaluate_forecast-found.ensures ∙ c.in-Refused.is in
+    let a = c.args in
+    let e = sym c.evaluate_forecast-found.ensures ∙ c.in-Refused.is in
     omega (arith, number-le a.case a.forecast, ap refusal_number e)
 
 pub returns-in-Graded : goal.returns-in-Graded
@@ -29,9 +28,8 @@ returns-in-Graded c =
 pub returns-in-Refused : goal.returns-in-Refused
 returns-in-Refused c =
     let both =
-    let found = c in
-    let a = found.args in
-    let e = sym found.evaluate_forecast-found.ensures ∙ c.in-Refused.is in
+    let a = c.args in
+    let e = sym c.evaluate_forecast-found.ensures ∙ c.in-Refused.is in
     refused-reply length c.refused.result _ _ _
     (omega (arith, number-le a.case a.forecast, ap refusal_number e)) c.refused.ensures
     (ap (λ a. figures_reply (refusal_number a) (values a)) e) in

@@ -18,18 +18,16 @@ returns-then-figures-lt-FIGURES c =
 pub returns-in_default : goal.returns-in_default
 returns-in_default c =
     let both =
-    let read = c in
-    let a = read.args in
-    call-malformed figure_count (forecast_reply _) a.line.now a.figures.now read.if-figures-lt-FIGURES.false _ _
-    (sym read.read_line-reading.ensures ∙ c.in_default.is) c.refused-in_default.ensures in
+    let a = c.args in
+    call-malformed figure_count (forecast_reply _) a.line.now a.figures.now c.if-figures-lt-FIGURES.false _ _
+    (sym c.read_line-reading.ensures ∙ c.in_default.is) c.refused-in_default.ensures in
     record { result = both.0; figures = both.1 }
 
 pub returns : goal.returns
 returns c =
     let both =
-    let read = c in
-    let a = read.args in
+    let a = c.args in
     let s = c.forecast_case in
-    call-read figure_count (forecast_reply _) a.line.now a.figures.now read.if-figures-lt-FIGURES.false _ _ _
-    (sym read.read_line-reading.ensures ∙ c.in-Case.is) (search rules) (s.ensures.result, s.ensures.figures) in
+    call-read figure_count (forecast_reply _) a.line.now a.figures.now c.if-figures-lt-FIGURES.false _ _ _
+    (sym c.read_line-reading.ensures ∙ c.in-Case.is) (search rules) (s.ensures.result, s.ensures.figures) in
     record { result = both.0; figures = both.1 }

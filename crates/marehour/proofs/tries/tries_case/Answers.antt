@@ -14,28 +14,24 @@ use Rattle.marehour.proofs.tries.tries_case.Goals as goal
 
 pub overflow_cast-result : goal.overflow_cast-result
 overflow_cast-result c =
-    let counted = c in
-    positive-fits _ (omega (arith, ap (λ r. r.tries) counted.evaluate_counted-counted.ensures, tries-le counted.args.case))
+    positive-fits _ (omega (arith, ap (λ r. r.tries) c.evaluate_counted-counted.ensures, tries-le c.args.case))
 
 pub refused-requires : goal.refused-requires
 refused-requires c =
-    let counted = c in
-    let e = sym (ap (λ r. r.answer) counted.evaluate_counted-counted.ensures) ∙ c.in-Refused.is in
-    omega (arith, ap refusal_number e, answer_to-number counted.args.case, refusal-le counted.args.case)
+    let e = sym (ap (λ r. r.answer) c.evaluate_counted-counted.ensures) ∙ c.in-Refused.is in
+    omega (arith, ap refusal_number e, answer_to-number c.args.case, refusal-le c.args.case)
 
 pub returns-in-Graded : goal.returns-in-Graded
 returns-in-Graded c =
-    let counted = c in
-    let case = counted.args.case in
-    let same = ap (λ r. r.tries) counted.evaluate_counted-counted.ensures in
-    let e = sym (ap (λ r. r.answer) counted.evaluate_counted-counted.ensures) ∙ c.in-Graded.is in
+    let case = c.args.case in
+    let same = ap (λ r. r.tries) c.evaluate_counted-counted.ensures in
+    let e = sym (ap (λ r. r.answer) c.evaluate_counted-counted.ensures) ∙ c.in-Graded.is in
     positive-is _ (omega (arith, same, tries-le case)) ∙ ap pos same ∙ sym (ap (λ a. tries_result a (counted_answer case).tries) e)
 
 pub returns-in-Refused : goal.returns-in-Refused
 returns-in-Refused c =
-    let counted = c in
-    let case = counted.args.case in
-    let e = sym (ap (λ r. r.answer) counted.evaluate_counted-counted.ensures) ∙ c.in-Refused.is in
+    let case = c.args.case in
+    let e = sym (ap (λ r. r.answer) c.evaluate_counted-counted.ensures) ∙ c.in-Refused.is in
     handed-back c.refused.result c.in-Refused.number
     (omega (arith, ap refusal_number e, answer_to-number case, refusal-le case)) c.refused.ensures
     ∙ sym (ap (λ a. tries_result a (counted_answer case).tries) e)

@@ -16,6 +16,5 @@ curve_terms-requires c =
 
 pub returns : goal.returns
 returns c =
-    let s = c in
-    let own = (checked-accepted s.args.case s.args.curve s.requires).1 in
+    let own = (checked-accepted c.args.case c.args.curve c.requires).1 in
     simp (c.load_of.ensures, c.curve_terms.ensures ∙ ap curve_terms_of own)

@@ -15,18 +15,16 @@ use Rattle.method.proofs.checked.check_with.Goals as goal
 
 pub checked_curve-requires : goal.checked_curve-requires
 checked_curve-requires c =
-    let s = c in
-    let a = s.args in
-    let (section, _, weather) = with-parts a.case a.loads (sym s.field_refusal_with-number.ensures ∙ s.if-number-eq0.true) in
+    let a = c.args in
+    let (section, _, weather) = with-parts a.case a.loads (sym c.field_refusal_with-number.ensures ∙ c.if-number-eq0.true) in
     (section-road a.case section, weather-fits a.case weather)
 
 pub returns-then-number-eq0 : goal.returns-then-number-eq0
 returns-then-number-eq0 c =
-    let s = c in
-    let a = s.args in
+    let a = c.args in
     c.checked_curve.ensures
     ∙ ap (λ n. unless_refused n (Checked.Accepted (case_curve a.case)) Checked.Refused)
-    (sym (refusals_with-fields a.case a.loads (sym s.field_refusal_with-number.ensures ∙ s.if-number-eq0.true)))
+    (sym (refusals_with-fields a.case a.loads (sym c.field_refusal_with-number.ensures ∙ c.if-number-eq0.true)))
 
 pub returns : goal.returns
 returns c =

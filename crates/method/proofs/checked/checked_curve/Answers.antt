@@ -19,7 +19,6 @@ use Rattle.method.specs.Checked.{curve_of, checked_curve}
 use Rattle.method.proofs.checked.checked_curve.Goals as goal
 
 -- where F is not below its lower end, the test after its factor decides
-
 decided : (road : Road) (weather : Weather) (n : ℕ) (b : Bool) {speed lowest least : ℕ} {curve : Curve} → speed ≡ free_flow_speed_of road n
     → lowest ≡ lowest_speed road.kind → lowest ≤ speed → curve ≡ curve_under weather road.kind speed
     → least ≡ lowest_adjusted_speed road.kind → ltb curve.free_flow_speed least ≡ b
@@ -57,14 +56,10 @@ curve_under-curve-requires c = (
 
 pub returns-then-curve-lowest_adjusted_speed : goal.returns-then-curve-lowest_adjusted_speed
 returns-then-curve-lowest_adjusted_speed c =
-    let u = c in
-    let s = u in
-    decided _ _ _ true s.free_flow_speed-speed.ensures s.lowest_speed.ensures u.if-speed-lowest_speed.false u.curve_under-curve.ensures
+    decided _ _ _ true c.free_flow_speed-speed.ensures c.lowest_speed.ensures c.if-speed-lowest_speed.false c.curve_under-curve.ensures
     c.lowest_adjusted_speed.ensures (lt-ltb _ _ c.if-curve-lowest_adjusted_speed.true)
 
 pub returns : goal.returns
 returns c =
-    let u = c in
-    let s = u in
-    decided _ _ _ false s.free_flow_speed-speed.ensures s.lowest_speed.ensures u.if-speed-lowest_speed.false u.curve_under-curve.ensures
+    decided _ _ _ false c.free_flow_speed-speed.ensures c.lowest_speed.ensures c.if-speed-lowest_speed.false c.curve_under-curve.ensures
     c.lowest_adjusted_speed.ensures (le-ltb _ _ c.if-curve-lowest_adjusted_speed.false)

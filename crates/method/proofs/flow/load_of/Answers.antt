@@ -16,23 +16,21 @@ overflow_sub-result c =
 
 pub overflow_mul-result : goal.overflow_mul-result
 overflow_mul-result c =
-    let s = c in
     record {
-      fits = product-fits 1000 2 (load-ends (with_lanes s.args.case s.args.lanes) s.requires).share-high
-          (omega (arith, c.truck_equivalent.ensures, truck_equivalent-ends s.args.case.terrain)) tt;
+      fits = product-fits 1000 2 (load-ends (with_lanes c.args.case c.args.lanes) c.requires).share-high
+          (omega (arith, c.truck_equivalent.ensures, truck_equivalent-ends c.args.case.terrain)) tt;
     }
 
 pub overflow_add-result : goal.overflow_add-result
 overflow_add-result c =
-    let s = c in
-    let heavy : s.args.case.heavy_share * (c.truck_equivalent.result - 1) ≤ 2000 =
-    mul-le-mul {n₂ = 1000} {m₂ = 2} (load-ends (with_lanes s.args.case s.args.lanes) s.requires).share-high
-    (omega (arith, c.truck_equivalent.ensures, truck_equivalent-ends s.args.case.terrain)) in
+    let heavy : c.args.case.heavy_share * (c.truck_equivalent.result - 1) ≤ 2000 =
+    mul-le-mul {n₂ = 1000} {m₂ = 2} (load-ends (with_lanes c.args.case c.args.lanes) c.requires).share-high
+    (omega (arith, c.truck_equivalent.ensures, truck_equivalent-ends c.args.case.terrain)) in
     omega arith
 
 pub overflow_mul-result-2 : goal.overflow_mul-result-2
 overflow_mul-result-2 c =
-    let s = c in omega (arith, (load_of-fits s.args.case s.args.lanes s.requires).divisor-le)
+    omega (arith, (load_of-fits c.args.case c.args.lanes c.requires).divisor-le)
 
 pub returns : goal.returns
 unfolding heavy_factor_of

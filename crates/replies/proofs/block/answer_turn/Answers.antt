@@ -19,25 +19,23 @@ slice_bounds-answer_block-end-2 c =
 
 pub carry_over-carried-requires : goal.carry_over-carried-requires
 carry_over-carried-requires c =
-    let s = c in
     omega (
       arith,
       c.answer_block-progress.ensures.read_in_bounds.0,
-      length-take-le s.args.held s.args.buffer.now s.requires,
-      s.requires,
+      length-take-le c.args.held c.args.buffer.now c.requires,
+      c.requires,
     )
 
 pub returns : goal.returns
 returns c =
-    let s = c in
-    let held = s.args.held in
-    let old = s.args.buffer.now in
-    let room : ℕ = length s.args.out.now in
+    let held = c.args.held in
+    let old = c.args.buffer.now in
+    let room : ℕ = length c.args.out.now in
     let block = c.answer_block-progress in
     let read = c.answer_block-progress.result.read in
     let over = c.carry_over-carried in
-    let le : read ≤ held = omega (arith, block.ensures.read_in_bounds.0, length-take-le held old s.requires) in
-    let is : carried line_texts (length s.args.out.now) (take held old) ≡ cut_off 81 (take (held - read) (drop read old)) =
+    let le : read ≤ held = omega (arith, block.ensures.read_in_bounds.0, length-take-le held old c.requires) in
+    let is : carried line_texts (length c.args.out.now) (take held old) ≡ cut_off 81 (take (held - read) (drop read old)) =
     carried-is line_texts room held read old le block.ensures.read in record {
       carried = over.ensures.count ∙ ap length (sym is);
       buffer = over.ensures.buffer ∙ ap (λ (l : List ℕ). l ++ drop over.result old) (sym is);

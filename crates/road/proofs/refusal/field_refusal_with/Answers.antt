@@ -25,16 +25,13 @@ returns-then-number-gt0 c =
 
 pub returns-then-loads-gt0 : goal.returns-then-loads-gt0
 returns-then-loads-gt0 c =
-    let section = c in
-    let a = section.args in
-    sym (behind a.case _ a.loads section.section_refusal-number.ensures (omega (arith, c.if-number-gt0.false))
+    let a = c.args in
+    sym (behind a.case _ a.loads c.section_refusal-number.ensures (omega (arith, c.if-number-gt0.false))
     ∙ rw (lt-ltb 0 a.loads c.if-loads-gt0.true))
 
 pub returns : goal.returns
 returns c =
-    let past = c in
-    let section = past in
-    let a = section.args in
+    let a = c.args in
     rw (c.refused_if.ensures, c.weather_unfit.ensures)
-    (sym (behind a.case _ a.loads section.section_refusal-number.ensures (omega (arith, past.if-number-gt0.false))
-    ∙ rw (le-ltb 0 a.loads (omega (arith, past.if-loads-gt0.false)))))
+    (sym (behind a.case _ a.loads c.section_refusal-number.ensures (omega (arith, c.if-number-gt0.false))
+    ∙ rw (le-ltb 0 a.loads (omega (arith, c.if-loads-gt0.false)))))

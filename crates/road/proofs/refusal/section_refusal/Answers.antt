@@ -8,14 +8,13 @@ use Rattle.road.proofs.refusal.section_refusal.Goals as goal
 
 pub returns : goal.returns
 returns c =
-    let lanes = c in
-    let case = lanes.args.case in
+    let case = c.args.case in
     simp (
       c.refused_if-2.ensures,
       c.refused_if.ensures,
       c.road_refusal-number.ensures,
-      lanes.outside-lanes.ensures,
-      lanes.most_lanes.ensures,
-      lanes.fewest_lanes.ensures,
+      c.outside-lanes.ensures,
+      c.most_lanes.ensures,
+      c.fewest_lanes.ensures,
     )
     (first_refusal-found [] (road_refusals case.road) (lane_refusals case) (road-numbered case.road))

@@ -13,7 +13,6 @@ use borrow.Author.Rules.{rules}
 use Rattle.text.proofs.buffer.put_numbers.Goals as goal
 
 -- the bounds-out-p of the next number
-
 pub loop-i-init : goal.loop-i-init
 loop-i-init c =
     (search rules, refl, record { content = sym (none_written _ _); ends = sym (add-zero _) })

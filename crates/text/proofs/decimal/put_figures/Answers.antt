@@ -47,14 +47,13 @@ put_number-p-requires c =
 
 pub loop-i-preserved : goal.loop-i-preserved
 loop-i-preserved c =
-    let l = c in
     let a = c.args in
-    let w : Wrote (figures_text (take (l.loop-i.i + 1) a.figures.now)) a.at a.out.now
+    let w : Wrote (figures_text (take (c.loop-i.i + 1) a.figures.now)) a.at a.out.now
     c.put_number-p.new.out c.put_number-p.result =
-    next-number a.figures.now l.loop-i.i (omega arith)
-    c.requires l.loop-i.invariant.2
+    next-number a.figures.now c.loop-i.i (omega arith)
+    c.requires c.loop-i.invariant.2
     c.put_number-p.ensures in
-    (search rules, omega (arith, c.put_number-p.auto.out, length-set l.loop-i.out l.loop-i.p 9), w)
+    (search rules, omega (arith, c.put_number-p.auto.out, length-set c.loop-i.out c.loop-i.p 9), w)
 
 pub returns : goal.returns
 returns c =

@@ -13,20 +13,19 @@ loop-i-init c =
 
 pub returns-then-bytes-i : goal.returns-then-bytes-i
 returns-then-bytes-i c =
-    let l = c in record {
-      value = sym (l.loop-i.invariant.1 ∙ count_before-hit l.args.b l.args.bytes.now l.loop-i.i (omega arith)
+    record {
+      value = sym (c.loop-i.invariant.1 ∙ count_before-hit c.args.b c.args.bytes.now c.loop-i.i (omega arith)
           c.if-bytes-i.true);
       upper_bound = search rules;
     }
 
 pub loop-i-preserved : goal.loop-i-preserved
-loop-i-preserved c =
-    let l = c in (
-      search rules,
-      l.loop-i.invariant.1 ∙ count_before-miss l.args.b l.args.bytes.now l.loop-i.i
-          (omega arith) c.if-bytes-i.false,
-    )
+loop-i-preserved c = (
+  search rules,
+  c.loop-i.invariant.1 ∙ count_before-miss c.args.b c.args.bytes.now c.loop-i.i
+      (omega arith) c.if-bytes-i.false,
+)
 
 pub returns : goal.returns
 returns c =
-    let l = c in record { value = sym (l.loop-i.invariant.1 ∙ count_before-end l.args.b l.args.bytes.now l.loop-i.i (omega arith)); upper_bound = search rules }
+    record { value = sym (c.loop-i.invariant.1 ∙ count_before-end c.args.b c.args.bytes.now c.loop-i.i (omega arith)); upper_bound = search rules }
