@@ -14,7 +14,7 @@ ghost use Rattle.stream.specs.Turns.{answered, carried};
 ghost use Rattle.replies.specs.Output.{line_texts};
 
 use replies::block;
-use std::io::{Read, Write};
+use std::io::{ErrorKind, Read, Write};
 
 // After a step: the bytes held, whether there may be more, and whether reading and writing went well.
 #[derive(Clone, Copy)]
@@ -30,14 +30,19 @@ fn tell(rt: HostRuntime, message: &[u8]) {
     let _ = errors.write_all(message).is_ok();
 }
 
-// Writes answers to standard output, and says whether that went well; where it did not, a line on standard error tells.
+// Writes answers to standard output, and says whether that went well; where it did not, a line on standard error tells, but for a pipe that
+// nobody reads any more.
 fn write_out(rt: HostRuntime, answers: &[u8]) -> bool {
     let mut output = rt.stdout();
-    let sound = output.write_all(answers).is_ok();
-    if !sound {
-        tell(rt, b"los: standard output can't be written\n");
+    match output.write_all(answers) {
+        Ok(()) => true,
+        Err(error) => {
+            if error.kind() != ErrorKind::BrokenPipe {
+                tell(rt, b"los: standard output can't be written\n");
+            }
+            false
+        }
     }
-    sound
 }
 
 // Reads a piece behind the bytes held. There has to be room: nothing read is the end of the input, and nothing else is.
