@@ -1,6 +1,6 @@
 /* marehour.h: level of service of freeways and multilane highways, for programs in C.
 
-   Link with libmarehour.a (`rt staticlib marehour`).
+   Link with libmarehour.a (`make target/staticlib/libmarehour.a`).
 
      marehour_answer       a section's letter, speed, density and service volumes
      marehour_lanes        the least lane count with which a section meets a letter
