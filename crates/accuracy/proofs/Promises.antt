@@ -14,11 +14,11 @@ use lib.Dec.{T, leb, lit<, leb→le}
 use borrow.Author.Tests.{le-leb, lt-leb}
 use Rattle.numbers.specs.Division.{div_up}
 use Rattle.numbers.specs.Fraction.{over, AtMost}
-use Rattle.numbers.proofs.BoolLaws.{and_left}
+use Rattle.numbers.proofs.BoolLaws.{and-left}
 use Rattle.numbers.proofs.DivisionLaws.{le-div_up}
 use Rattle.numbers.proofs.FractionLaws.{AtMost-trans, rounded_down-eq}
 use Rattle.powers.specs.Power.{power}
-use Rattle.powers.proofs.PowerLaws.{power_le}
+use Rattle.powers.proofs.PowerLaws.{power-le}
 use Rattle.powers.proofs.Laws.{power-is-least}
 use Rattle.curve.specs.declared.kind.Kind.{Kind}
 use Rattle.curve.specs.declared.Curve.{Curve}
@@ -92,7 +92,7 @@ module _ (f v : ℕ) (slow : 45000 ≤ f) (fast : f ≤ 70000) (within : 100 * v
 
   -- T is at most 1,000,000, so that no subtraction stops at 0
   fall-le : fall * t ≤ 9 * f * 1000000
-  fall-le = mul-le-mul {n₂ = 9 * f} {m₂ = 1000000} (omega arith) (power_le i i-le)
+  fall-le = mul-le-mul {n₂ = 9 * f} {m₂ = 1000000} (omega arith) (power-le i i-le)
 
   s-low : s * 9000000 + fall * t ≤ 9 * f * 1000000
   s-low = rw s-eq (omega (arith, fall-le, div-mul-le_self (9 * f * 1000000 - fall * t) 9000000))
@@ -104,9 +104,9 @@ module _ (f v : ℕ) (slow : 45000 ≤ f) (fast : f ≤ 70000) (within : 100 * v
   share-le : AtMost (over (p ^ 131) (q ^ 131)) (over (t ^ 100) (1000000 ^ 100))
   share-le = power-under 100 131 1000 1000000 (10 ^ 207) refl p q i t (le-div_up (1000 * p) q q-pos) (power-is-least i i-le).0
 
-  at_most : AtMostManualCurve f v s
+  at-most : AtMostManualCurve f v s
   unfolding AtMostManualCurve
-  at_most = (
+  at-most = (
     omega (arith, s-low),
     rw (mul_comm (fall ^ 100) (p ^ 131))
         (AtMost-trans (over (p ^ 131) (q ^ 131)) (over (t ^ 100) (1000000 ^ 100)) (over ((9 * (f - s)) ^ 100) (fall ^ 100)) (lit< tt)
@@ -134,9 +134,9 @@ module _ (f v : ℕ) (slow : 45000 ≤ f) (fast : f ≤ 70000) (within : 100 * v
   unfolding capacity
   fall-top = omega arith
 
-  not_more : AtMostManualCurve f v (s + tolerance) → ⊥
+  not-more : AtMostManualCurve f v (s + tolerance) → ⊥
   unfolding AtMostManualCurve
-  not_more h =
+  not-more h =
       let far : u * fall ≤ d * 1000000 =
       products-down u fall d 1000000 100 (omega arith)
       (AtMost-trans (over (u ^ 100) (1000000 ^ 100)) (over (p ^ 131) (q ^ 131)) (over (d ^ 100) (fall ^ 100)) (one-le-pow 131 q q-pos)
@@ -144,7 +144,7 @@ module _ (f v : ℕ) (slow : 45000 ≤ f) (fast : f ≤ 70000) (within : 100 * v
       omega (arith, s-high, far, h.0, mul-le-mul_left fall (step-reaches i i-le).1, fall-top)
 
 pub shown-speed-just-below : ShownSpeedJustBelow
-shown-speed-just-below f v slow fast within = (at_most f v slow fast within, not_more f v slow fast within)
+shown-speed-just-below f v slow fast within = (at-most f v slow fast within, not-more f v slow fast within)
 
 -- ---- through the answer
 -- a multilane curve in clear weather
@@ -168,7 +168,7 @@ answer-just-below case accepted e within =
 
 pub a-to-e-up-to-capacity : AToEUpToCapacity
 unfolding graded measures performance meets_limit density_limit
-a-to-e-up-to-capacity case accepted = rw (answer_to-accepted case accepted) (λ h. iff.1 (up_to h), λ l. within (iff.0 l))
+a-to-e-up-to-capacity case accepted = rw (answer_to-accepted case accepted) (λ h. iff.1 (up-to h), λ l. within (iff.0 l))
   where
     curve : Curve
     curve = case_curve case
@@ -179,12 +179,12 @@ a-to-e-up-to-capacity case accepted = rw (answer_to-accepted case accepted) (λ 
     iff : (letter_number (letter_at curve v) ≤ 5) ↔ T (meets_limit curve v 450)
     iff = letter_at-le-iff curve v 5 (omega arith) (omega arith)
 
-    up_to : 100 * v ≤ curve.capacity → T (meets_limit curve v 450)
-    up_to h =
+    up-to : 100 * v ≤ curve.capacity → T (meets_limit curve v 450)
+    up-to h =
         rw (le-leb (100 * v) curve.capacity h, le-leb (density curve v) 450 (density-le curve v (case_curve-well_formed case accepted) h)) tt
 
     within : T (meets_limit curve v 450) → 100 * v ≤ curve.capacity
-    within t = leb→le (100 * v) curve.capacity (and_left (leb (100 * v) curve.capacity) (leb (density curve v) 450) t)
+    within t = leb→le (100 * v) curve.capacity (and-left (leb (100 * v) curve.capacity) (leb (density curve v) 450) t)
 
 pub a-to-e-just-below : AToEJustBelow
 a-to-e-just-below case accepted e letter = answer-just-below case accepted e ((a-to-e-up-to-capacity case accepted).1 letter)

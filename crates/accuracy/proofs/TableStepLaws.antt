@@ -15,7 +15,7 @@ use Rattle.numbers.specs.Table.{every_up_to}
 use Rattle.numbers.proofs.TableLaws.{every_up_to-at}
 use Rattle.powers.specs.Power.{power}
 use Rattle.powers.proofs.PowerTable.{power_table}
-use Rattle.powers.proofs.PowerLaws.{power_table-at, power_zero}
+use Rattle.powers.proofs.PowerLaws.{power_table-at, power-zero}
 use Rattle.powers.proofs.Laws.{power-is-least}
 
 -- the test of a step: the entry after place i is at most 1,310 above the one at i
@@ -48,7 +48,7 @@ short j h = go (dec_le ((power j - 1) ^ 100) (j ^ 131 * 10 ^ 207))
         rw none zero-le
 
 step-before : (i : ℕ) → i ≤ 1000 → power i ≤ power (i - 1) + 1310
-step-before zero h = omega (arith, power_zero)
+step-before zero h = omega (arith, power-zero)
 step-before (suc i) h = let e : suc i - 1 ≡ i = omega arith in rw e (step-le i h)
 
 pub step-reaches : (i : ℕ) → i ≤ 1000

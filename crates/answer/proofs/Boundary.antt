@@ -20,7 +20,7 @@ use lib.ListN.{drop}
 use Rattle.numbers.specs.Division.{div_up}
 use Rattle.numbers.specs.Search.{least_from, least, ends_at}
 use Rattle.numbers.proofs.SearchLaws.{greatest-last}
-use Rattle.numbers.proofs.BoolLaws.{and_left, and_right}
+use Rattle.numbers.proofs.BoolLaws.{and-left, and-right}
 use Rattle.checks.specs.Refusals.{refuses}
 use Rattle.checks.specs.Figures.{Shown}
 use Rattle.checks.proofs.FigureLaws.{Shown-append}
@@ -128,7 +128,7 @@ module _ (case : Case) (curve : Curve) (a : Accepted case) (own : case_curve cas
       ∙ greatest-last (demand_meets (case_curve case) (load_of case case.lanes) (density_limit l)) greatest_demand s
       (demand_meets-down (case_curve case) (load_of case case.lanes) (density_limit l) (case_curve-well_formed case a)
       (case_load-fits case (accepted-fields case a)).divisor-pos)
-      (leb→le s greatest_demand (and_left (leb s greatest_demand) _ t)) (rw own (and_right (leb s greatest_demand) _ t))
+      (leb→le s greatest_demand (and-left (leb s greatest_demand) _ t)) (rw own (and-right (leb s greatest_demand) _ t))
 
   five : (s₁ s₂ s₃ s₄ s₅ : ℕ) → T (ends 1 s₁) → T (ends 2 s₂) → T (ends 3 s₃) → T (ends 4 s₄) → T (ends 5 s₅)
       → VolumesOf case s₁ s₂ s₃ s₄ s₅

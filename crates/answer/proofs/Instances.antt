@@ -152,9 +152,9 @@ first-and-last-service-volume =
       (e.0 0 (omega arith), e.0 3858 (omega arith), e.1),
     )
 
-fields_fit : FieldsFit estimated
+fields-fit : FieldsFit estimated
 unfolding weather_unfit road_refusals load_refusals field_refusals
-fields_fit = refl
+fields-fit = refl
 
 -- 10 refuses 2 lanes and 3, and nothing refuses 4
 counts : (refusal (with_lanes estimated 2) ≡ 10) × (refusal (with_lanes estimated 3) ≡ 10) × (refusal (with_lanes estimated 4) ≡ 0)
@@ -183,7 +183,7 @@ four-lanes-for-every-letter = (refused, needed)
 
     needed : (n : ℕ) → 1 ≤ n → n ≤ 5 → values (lanes_answer estimated n) ≡ 4 ∷ []
     needed n h k =
-        ((least-accepted-count estimated n h k fields_fit).0 4).1 (
+        ((least-accepted-count estimated n h k fields-fit).0 4).1 (
           (omega arith, omega arith, counts.2),
           (Meets-iff (with_lanes estimated 4) n).1 (rw (four-meet n) (le→leb 1 n h)),
           fewer-refused n,

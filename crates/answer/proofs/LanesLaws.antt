@@ -32,7 +32,7 @@ use Rattle.answer.proofs.VolumeLaws.{meets-only-accepted}
 pub meets-of-kind : (case : Case) (l : ℕ) → T (meets case l)
     → (fewest_lanes case.road.kind ≤ case.lanes) × (case.lanes ≤ most_lanes case.road.kind)
 meets-of-kind case l t =
-    let ends = load-ends case (accepted-fields case (meets-only-accepted case l t)) in (ends.lanes_low, ends.lanes-high)
+    let ends = load-ends case (accepted-fields case (meets-only-accepted case l t)) in (ends.lanes-low, ends.lanes-high)
 
 module _ (case : Case) (l : ℕ) where
   -- ---- the search

@@ -15,7 +15,7 @@ use lib.ListN.{length, get_or}
 use Rattle.numbers.specs.Search.{greatest}
 use Rattle.numbers.proofs.DivisionLaws.{div_up-le-iff, le-div_up}
 use Rattle.numbers.proofs.SearchLaws.{greatest-passes, least-le}
-use Rattle.numbers.proofs.BoolLaws.{and_left}
+use Rattle.numbers.proofs.BoolLaws.{and-left}
 use Rattle.checks.specs.Refusals.{first_refusal}
 use Rattle.checks.proofs.RefusalLaws.{first_refusal-some, first_refusal-le, first_refusal-ge, inside, unless_refused-by, unless_refused-number}
 use Rattle.curve.specs.declared.Curve.{Curve}
@@ -52,7 +52,7 @@ unfolding demand_meets meets_limit flow_rate_of
 demand_meets-le curve load limit demand c fits t =
     let v : ℕ = flow_rate_of load demand in
     let within : 100 * flow_rate_of load demand ≤ curve.capacity =
-    leb→le (100 * v) curve.capacity (and_left (leb (100 * v) curve.capacity) (leb (density curve v) limit) t) in
+    leb→le (100 * v) curve.capacity (and-left (leb (100 * v) curve.capacity) (leb (density curve v) limit) t) in
     let cars : demand * load.heavy_factor ≤ flow_rate_of load demand * load.divisor =
     le-div_up (demand * load.heavy_factor) load.divisor fits.divisor-pos in
     let most : flow_rate_of load demand * load.divisor ≤ 2400 * 8000 = mul-le-mul {n₂ = 2400} {m₂ = 8000} (omega arith) fits.divisor-le in
@@ -76,7 +76,7 @@ flow_rate_of-le case a =
     let fits : LoadFits (load_of case case.lanes) = case_load-fits case (accepted-fields case a) in
     let ends = load-ends case (accepted-fields case a) in
     let least : 250 * 2 ≤ case.peak_hour_factor * case.lanes =
-    mul-le-mul {n₁ = 250} {m₁ = 2} ends.factor-low (omega (arith, ends.lanes_low, (kind-ends case.road.kind).lanes-ge)) in
+    mul-le-mul {n₁ = 250} {m₁ = 2} ends.factor-low (omega (arith, ends.lanes-low, (kind-ends case.road.kind).lanes-ge)) in
     let cars = mul-le-mul {n₂ = greatest_demand} {m₂ = 3000} ends.demand-high fits.heavy-le in
     (div_up-le-iff _ _ (6 * greatest_demand) fits.divisor-pos).1 (le_trans cars (omega (arith, mul-le-mul_left (6 * greatest_demand) least)))
 

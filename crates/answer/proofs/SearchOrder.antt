@@ -109,19 +109,19 @@ module _ (case : Case) (a : Accepted case) where
         by-volume 1 s₁ s₂ (omega arith) (omega arith) v.0 v.1,
       )
 
-  count_of : (tried : List ℕ) → demands_tried case ≡ tried → (counted_answer case).tries ≡ length tried
-  count_of tried e = tries-accepted case a ∙ ap length e
+  count-of : (tried : List ℕ) → demands_tried case ≡ tried → (counted_answer case).tries ≡ length tried
+  count-of tried e = tries-accepted case a ∙ ap length e
 
 pub example-tried : ExampleTried
 unfolding middle tried_between tried_up_to up_to all_up_to
 example-tried =
     let tried : demands_tried example ≡ example_tried = by-volumes example example-accepted 1117 1829 2642 3360 3858 volumes in
-    (tried, count_of example example-accepted example_tried tried)
+    (tried, count-of example example-accepted example_tried tried)
 
 pub eight-lanes-tried : EightLanesTried
 unfolding middle tried_between tried_up_to up_to all_up_to
 eight-lanes-tried =
-    count_of eight_lanes eight-lanes-accepted (all_up_to 6178 10054 13620 16449 18604)
+    count-of eight_lanes eight-lanes-accepted (all_up_to 6178 10054 13620 16449 18604)
     (by-volumes eight_lanes eight-lanes-accepted 6178 10054 13620 16449 18604 eight-lanes-volumes)
 
 pub refused-tried : RefusedTried

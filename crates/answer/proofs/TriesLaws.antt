@@ -2,7 +2,7 @@
 --   volume-next         no volume is above that of the next worse letter
 --   search_end-le        no search goes past the greatest demand
 --   tried_from-suc       how many demands are tried, letter by letter
---   Done, done-start, done_next, done-volumes   the searches so far: none, one more, all five
+--   Done, done-start, done-next, done-volumes   the searches so far: none, one more, all five
 --   done-end-le, done-tries-le   64 bits hold the end and the count
 --   found_volumes-terms   what is found are the service volumes of the case, and the demands tried are the case's
 --   tries-accepted, tries-refused   the count of an accepted case, and of a refused one
@@ -86,18 +86,18 @@ tried_from-le test (suc n) =
 pub record Done (terms : CaseTerms) (volumes : List ℕ) (end tries n : ℕ) : Type 0 where
   pub letter-le : n ≤ 5
   pub five : length volumes ≡ 5
-  pub end_is : end ≡ search_end (meets_by terms) n
+  pub end-is : end ≡ search_end (meets_by terms) n
   pub count : tries + length (tried_from (meets_by terms) n) ≡ length (tried_from (meets_by terms) 5)
   pub found-above : (k : ℕ) → n ≤ k → k < 5 → get_or volumes k 0 ≡ greatest (meets_by terms (suc k)) greatest_demand
 
 pub done-start : (terms : CaseTerms) → Done terms (0 ∷ 0 ∷ 0 ∷ 0 ∷ 0 ∷ []) greatest_demand 0 5
 unfolding search_end
 done-start terms =
-    record { letter-le = omega arith; five = refl; end_is = refl; count = omega arith; found-above = λ k h l. absurd (omega arith) }
+    record { letter-le = omega arith; five = refl; end-is = refl; count = omega arith; found-above = λ k h l. absurd (omega arith) }
 
 module _ (terms : CaseTerms) (volumes : List ℕ) (end tries n : ℕ) (d : Done terms volumes end tries n) where
   pub done-end-le : end ≤ greatest_demand
-  done-end-le = omega (arith, d.end_is, search_end-le (meets_by terms) n)
+  done-end-le = omega (arith, d.end-is, search_end-le (meets_by terms) n)
 
   pub done-volumes : n ≡ 0
       → record {
@@ -125,16 +125,16 @@ module _ (terms : CaseTerms) (volumes : List ℕ) (end tries n : ℕ) (d : Done 
 
   -- one search more, for letter number n
   module _ (left : 0 < n) (r : Found) (e : r ≡ found (meets_by terms n) end) where
-    one_less : n ≡ suc (n - 1)
-    one_less = omega arith
+    one-less : n ≡ suc (n - 1)
+    one-less = omega arith
 
     tries-is : r.tries ≡ length (tried_for (meets_by terms) n)
-    tries-is = ap (λ f. f.tries) e ∙ ap (λ x. length (tried_up_to (meets_by terms n) x)) d.end_is
+    tries-is = ap (λ f. f.tries) e ∙ ap (λ x. length (tried_up_to (meets_by terms n) x)) d.end-is
 
     rest : length (tried_from (meets_by terms) n) ≡ length (tried_for (meets_by terms) n) + length (tried_from (meets_by terms) (n - 1))
     rest =
-        ap (λ m. length (tried_from (meets_by terms) m)) one_less ∙ tried_from-suc (meets_by terms) (n - 1)
-        ∙ ap (λ m. length (tried_for (meets_by terms) m) + length (tried_from (meets_by terms) (n - 1))) (sym one_less)
+        ap (λ m. length (tried_from (meets_by terms) m)) one-less ∙ tried_from-suc (meets_by terms) (n - 1)
+        ∙ ap (λ m. length (tried_for (meets_by terms) m) + length (tried_from (meets_by terms) (n - 1))) (sym one-less)
 
     pub done-tries-le : tries + r.tries ≤ 5 * greatest_demand
     done-tries-le = omega (arith, tries-is, rest, d.count, tried_from-le (meets_by terms) 5)
@@ -142,7 +142,7 @@ module _ (terms : CaseTerms) (volumes : List ℕ) (end tries n : ℕ) (d : Done 
     module _ (ok : WellFormed terms.curve_terms.curve) (pos : 0 < terms.load.divisor) where
       -- a search up to the volume of the letter before finds what one up to the greatest demand would
       volume-is : r.demand ≡ greatest (meets_by terms n) greatest_demand
-      volume-is = ap (λ f. f.demand) e ∙ rw d.end_is (go (dec_le (suc n) 5))
+      volume-is = ap (λ f. f.demand) e ∙ rw d.end-is (go (dec_le (suc n) 5))
         where
           go : Dec (suc n ≤ 5) → greatest (meets_by terms n) (search_end (meets_by terms) n) ≡ greatest (meets_by terms n) greatest_demand
           go (no l) = rw (search_end-last (meets_by terms) n (omega (arith, d.letter-le)))
@@ -153,13 +153,13 @@ module _ (terms : CaseTerms) (volumes : List ℕ) (end tries n : ℕ) (d : Done 
               (greatest-le (meets_by terms (suc n)) greatest_demand)
               (volume-next terms.curve_terms.curve terms.load n left (omega arith)))
 
-      pub done_next : Done terms (set volumes (n - 1) r.demand) r.demand (tries + r.tries) (n - 1)
-      done_next =
+      pub done-next : Done terms (set volumes (n - 1) r.demand) r.demand (tries + r.tries) (n - 1)
+      done-next =
           record {
             letter-le = omega (arith, d.letter-le);
             five = length-set volumes (n - 1) r.demand ∙ d.five;
-            end_is =
-                volume-is ∙ ap (λ m. greatest (meets_by terms m) greatest_demand) one_less
+            end-is =
+                volume-is ∙ ap (λ m. greatest (meets_by terms m) greatest_demand) one-less
                 ∙ sym (search_end-next (meets_by terms) (n - 1) (omega (arith, d.letter-le)));
             count = omega (arith, tries-is, rest, d.count);
             found-above = λ k h l. go k h l (dec_le n k);
@@ -172,7 +172,7 @@ module _ (terms : CaseTerms) (volumes : List ℕ) (end tries n : ℕ) (d : Done 
               let same : k ≡ n - 1 = omega arith in
               rw same
               (get_or-set_same volumes (n - 1) r.demand 0 (omega (arith, d.five, d.letter-le)) ∙ volume-is
-              ∙ ap (λ m. greatest (meets_by terms m) greatest_demand) one_less)
+              ∙ ap (λ m. greatest (meets_by terms m) greatest_demand) one-less)
 
 -- ---- from the terms of a case to the case
 module _ (t u : ℕ → ℕ → Bool) (same : (n demand : ℕ) → 1 ≤ n → n ≤ 5 → demand ≤ greatest_demand → t n demand ≡ u n demand) where

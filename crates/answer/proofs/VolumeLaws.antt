@@ -18,8 +18,8 @@ use native.Mathlib.Nat.{le_refl}
 use lib.Dec.{T, leb, eqb, eqb→eq}
 use borrow.Author.Tests.{ne_eqb}
 use Rattle.numbers.specs.Search.{greatest, DownwardClosed}
-use Rattle.numbers.proofs.SearchLaws.{greatest_iff, greatest-cong}
-use Rattle.numbers.proofs.BoolLaws.{and_left, leb-test}
+use Rattle.numbers.proofs.SearchLaws.{greatest-iff, greatest-cong}
+use Rattle.numbers.proofs.BoolLaws.{and-left, leb-test}
 use Rattle.curve.specs.declared.Curve.{Curve}
 use Rattle.curve.specs.Curves.{WellFormed}
 use Rattle.curve.specs.Terms.{curve_terms_of, Ready}
@@ -69,7 +69,7 @@ meets-refused case l p = simp (ne_eqb (refusal case) 0 (λ e. omega arith))
 pub meets-only-accepted : (case : Case) (l : ℕ) → T (meets case l) → Accepted case
 unfolding meets
 meets-only-accepted case l t = eqb→eq (refusal case) 0
-    (and_left (eqb (refusal case) 0) (leb (letter_number (measures case).performance.letter) l) t)
+    (and-left (eqb (refusal case) 0) (leb (letter_number (measures case).performance.letter) l) t)
 
 -- ---- the service volume
 pub service_volumes-with_demand : (case : Case) (demand : ℕ) → service_volumes (with_demand case demand) ≡ service_volumes case
@@ -97,7 +97,7 @@ module _ (case : Case) (l : ℕ) (a : Accepted case) (h : 1 ≤ l) (k : l ≤ 5)
   service_volume-iff demand d =
       let ok = case_curve-well_formed case a in
       rw (meets-demand demand d, service_volume-eq)
-      (greatest_iff tried greatest_demand demand
+      (greatest-iff tried greatest_demand demand
       (demand_meets-zero (case_curve case) (load_of case case.lanes) (density_limit l) ok pos)
       (demand_meets-down (case_curve case) (load_of case case.lanes) (density_limit l) ok pos) d)
 

@@ -30,7 +30,7 @@ searched_volumes terms =
 
 pub record Trying (terms : CurveTerms) (table : List ℕ) (load : Load) (limit demand : ℕ) : Type 0 where
   pub ready : Ready terms table
-  pub load_fits : LoadFits load
+  pub load-fits : LoadFits load
   pub limit-le : limit ≤ 450
   pub demand-le : demand ≤ greatest_demand
 

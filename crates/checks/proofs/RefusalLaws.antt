@@ -2,7 +2,7 @@
 --   numbered rs            every refusal of the list has a number above 0
 --   first_refusal-none, first_refusal-some   of a joined list: the second part decides where the first refuses nothing, else the first
 --   first_refusal-join      a joined list that refuses nothing: neither part does
---   NoneMet, none-met, none_of   no refusal of the list is met
+--   NoneMet, none-met, none-of   no refusal of the list is met
 --   up_to, first_refusal-le  no number is above the greatest of the list
 --   at_least, first_refusal-ge   no number is below the least
 --   within, inside         a number that is not outside a range
@@ -11,7 +11,7 @@
 --   unless_refused-number   where a definition gives each answer's number: that of this one
 --   unless_refused-found    an answer with number 0 was not refused
 --   first_refusal-found     a number that was found stands for the list that it was found in
---   found_none             a number and a list that refuse nothing: neither does
+--   found-none             a number and a list that refuse nothing: neither does
 --   rises_with rs ss        two lists with the same numbers above 0, each greater than those before it
 --   lesser_refusal-same     the lesser of a number and itself
 --   first_refusal-by_turns   of two such lists that are asked by turns: the lesser number
@@ -27,7 +27,7 @@ use native.Mathlib.Nat.{eq-zero-or-pos}
 use native.Mathlib.Omega.{arith}
 use borrow.Author.Tests.{ltb-false, lt-ltb, le-ltb, ne_eqb}
 use lib.Dec.{T, leb, ltb, eqb, leb→le, ltb→lt, eqb→eq}
-use Rattle.numbers.proofs.BoolLaws.{and_left, and_right, or-false, cond-le}
+use Rattle.numbers.proofs.BoolLaws.{and-left, and-right, or-false, cond-le}
 use Rattle.checks.specs.Refusals.{Refusal, refuses, first_refusal, found, by_turns, lesser_refusal, unless_refused, outside}
 
 -- ---- the first of a list
@@ -41,11 +41,11 @@ head-none : (r : Refusal) (rs : List Refusal) (rest : ℕ) → T (numbered (r �
 head-none r rs rest t z = go r.met refl z
   where
     above : 0 < r.number
-    above = ltb→lt 0 r.number (and_left (ltb 0 r.number) (numbered rs) t)
+    above = ltb→lt 0 r.number (and-left (ltb 0 r.number) (numbered rs) t)
 
     go : (b : Bool) → r.met ≡ b → cond b r.number rest ≡ 0 → (r.met ≡ false) × (rest ≡ 0) × T (numbered rs)
     go true e n = absurd (omega (arith, above))
-    go false e n = (e, n, and_right (ltb 0 r.number) (numbered rs) t)
+    go false e n = (e, n, and-right (ltb 0 r.number) (numbered rs) t)
 
 pub first_refusal-none : (rs ss : List Refusal) → T (numbered rs) → first_refusal rs ≡ 0 → first_refusal (rs ++ ss) ≡ first_refusal ss
 first_refusal-none [] ss t z = refl
@@ -78,9 +78,9 @@ pub none-met : (rs : List Refusal) → T (numbered rs) → first_refusal rs ≡ 
 none-met [] t z = tt
 none-met (r ∷ rs) t z = let p = head-none r rs (first_refusal rs) t z in (p.0, none-met rs p.2 p.1)
 
-pub none_of : (rs : List Refusal) → NoneMet rs → first_refusal rs ≡ 0
-none_of [] n = refl
-none_of (r ∷ rs) n = rw n.0 (none_of rs n.1)
+pub none-of : (rs : List Refusal) → NoneMet rs → first_refusal rs ≡ 0
+none-of [] n = refl
+none-of (r ∷ rs) n = rw n.0 (none-of rs n.1)
 
 -- ---- the numbers of a list
 abbrev pub up_to : ℕ → List Refusal → Bool
@@ -90,8 +90,8 @@ up_to m (r ∷ rs) = leb r.number m && up_to m rs
 pub first_refusal-le : (m : ℕ) (rs : List Refusal) → T (up_to m rs) → first_refusal rs ≤ m
 first_refusal-le m [] t = omega arith
 first_refusal-le m (r ∷ rs) t =
-    cond-le r.met (leb→le r.number m (and_left (leb r.number m) (up_to m rs) t))
-    (first_refusal-le m rs (and_right (leb r.number m) (up_to m rs) t))
+    cond-le r.met (leb→le r.number m (and-left (leb r.number m) (up_to m rs) t))
+    (first_refusal-le m rs (and-right (leb r.number m) (up_to m rs) t))
 
 abbrev pub at_least : ℕ → List Refusal → Bool
 at_least m [] = true
@@ -99,11 +99,11 @@ at_least m (r ∷ rs) = leb m r.number && at_least m rs
 
 pub first_refusal-ge : (m : ℕ) (rs : List Refusal) → T (at_least m rs) → 0 < first_refusal rs → m ≤ first_refusal rs
 first_refusal-ge m [] t p = absurd (omega arith)
-first_refusal-ge m (r ∷ rs) t p = go r.met p (first_refusal-ge m rs (and_right (leb m r.number) (at_least m rs) t))
+first_refusal-ge m (r ∷ rs) t p = go r.met p (first_refusal-ge m rs (and-right (leb m r.number) (at_least m rs) t))
   where
     go : (b : Bool) → 0 < cond b r.number (first_refusal rs) → (0 < first_refusal rs → m ≤ first_refusal rs)
         → m ≤ cond b r.number (first_refusal rs)
-    go true q rest = leb→le m r.number (and_left (leb m r.number) (at_least m rs) t)
+    go true q rest = leb→le m r.number (and-left (leb m r.number) (at_least m rs) t)
     go false q rest = rest q
 
 -- ---- a number in the place of a list
@@ -114,8 +114,8 @@ first_refusal-found [] ls ss t =
     (λ p. rw (lt-ltb 0 (first_refusal ls) p) (sym (first_refusal-some ls ss p))) (eq-zero-or-pos (first_refusal ls))
 first_refusal-found (r ∷ rs) ls ss t = ap (cond r.met r.number) (first_refusal-found rs ls ss t)
 
-pub found_none : (n : ℕ) (ss : List Refusal) → first_refusal (found n ++ ss) ≡ 0 → (n ≡ 0) × (first_refusal ss ≡ 0)
-found_none n ss z =
+pub found-none : (n : ℕ) (ss : List Refusal) → first_refusal (found n ++ ss) ≡ 0 → (n ≡ 0) × (first_refusal ss ≡ 0)
+found-none n ss z =
     ⊎_elim (λ e. (e, rw e at z)) (λ p. absurd (let e : n ≡ 0 = rw (lt-ltb 0 n p) at z in omega arith)) (eq-zero-or-pos n)
 
 -- ---- two lists by turns
@@ -152,16 +152,16 @@ first_refusal-by_turns [] (s ∷ ss) t = absurd t
 first_refusal-by_turns (r ∷ rs) [] t = absurd t
 first_refusal-by_turns (r ∷ rs) (s ∷ ss) t =
     let n = r.number in
-    let shared = and_left (ltb 0 n && eqb n s.number) _ t in
-    let rest = and_right (ltb 0 n && eqb n s.number) _ t in
-    let later = and_left (at_least (suc n) rs && at_least (suc n) ss) (rises_with rs ss) rest in
+    let shared = and-left (ltb 0 n && eqb n s.number) _ t in
+    let rest = and-right (ltb 0 n && eqb n s.number) _ t in
+    let later = and-left (at_least (suc n) rs && at_least (suc n) ss) (rises_with rs ss) rest in
     rw (
-      sym (eqb→eq n s.number (and_right (ltb 0 n) _ shared)),
-      first_refusal-by_turns rs ss (and_right (at_least (suc n) rs && at_least (suc n) ss) (rises_with rs ss) rest),
+      sym (eqb→eq n s.number (and-right (ltb 0 n) _ shared)),
+      first_refusal-by_turns rs ss (and-right (at_least (suc n) rs && at_least (suc n) ss) (rises_with rs ss) rest),
     )
-    (lesser-head n (first_refusal rs) (first_refusal ss) r.met s.met (ltb→lt 0 n (and_left (ltb 0 n) _ shared))
-    (first_refusal-ge (suc n) rs (and_left (at_least (suc n) rs) _ later))
-    (first_refusal-ge (suc n) ss (and_right (at_least (suc n) rs) _ later)))
+    (lesser-head n (first_refusal rs) (first_refusal ss) r.met s.met (ltb→lt 0 n (and-left (ltb 0 n) _ shared))
+    (first_refusal-ge (suc n) rs (and-left (at_least (suc n) rs) _ later))
+    (first_refusal-ge (suc n) ss (and-right (at_least (suc n) rs) _ later)))
 
 -- ---- ranges
 pub within : (low high n : ℕ) → outside low high n ≡ false → (low ≤ n) × (n ≤ high)
@@ -202,13 +202,13 @@ first_refusal-met n [] ss t u a =
     unless_refused-by (first_refusal ss) n (λ k. min k n) (λ m. n ≡ m) (λ e. refl) (λ p. omega (arith, first_refusal-ge n ss a p))
 first_refusal-met n (r ∷ rs) ss t u a =
     go r.met _ _
-    (first_refusal-met n rs ss (and_right (ltb 0 r.number) (numbered rs) t) (and_right (leb r.number n) (up_to n rs) u) a)
+    (first_refusal-met n rs ss (and-right (ltb 0 r.number) (numbered rs) t) (and-right (leb r.number n) (up_to n rs) u) a)
   where
     above : 0 < r.number
-    above = ltb→lt 0 r.number (and_left (ltb 0 r.number) (numbered rs) t)
+    above = ltb→lt 0 r.number (and-left (ltb 0 r.number) (numbered rs) t)
 
     below : r.number ≤ n
-    below = leb→le r.number n (and_left (leb r.number n) (up_to n rs) u)
+    below = leb→le r.number n (and-left (leb r.number n) (up_to n rs) u)
 
     go : (b : Bool) (f g : ℕ) → f ≡ unless_refused g n (λ k. min k n)
         → cond b r.number f ≡ unless_refused (cond b r.number g) n (λ k. min k n)

@@ -57,9 +57,9 @@ lift f q c₁ c₂ p₁ p₂ m n h =
     sub-cross (9 * f * m) ((9 * f - 2 * c₁) * p₁) (9 * (f + q) * n) ((9 * (f + q) - 2 * c₂) * p₂) m n (omega arith)
 
 -- ---- the freeway's c and b
-b_at : (f : ℕ) → f ≤ 75000 → breakpoint Kind.Freeway f + 4 * f ≡ 400000
+b-at : (f : ℕ) → f ≤ 75000 → breakpoint Kind.Freeway f + 4 * f ≡ 400000
 unfolding breakpoint
-b_at f h = omega arith
+b-at f h = omega arith
 
 c-high : (f : ℕ) → 70000 ≤ f → capacity Kind.Freeway f ≡ 240000
 unfolding capacity
@@ -84,8 +84,8 @@ Faster u f g = numerator u f * (span g * span g) ≤ numerator u g * (span f * s
 
 high : (u f q : ℕ) → 70000 ≤ f → f + q ≤ 75000 → u ≤ 240000 → Faster u f (f + q)
 high u f q h k hu =
-    let b₁ : breakpoint Kind.Freeway f + 4 * f ≡ 400000 = b_at f (omega arith) in
-    let b₂ : breakpoint Kind.Freeway (f + q) + 4 * (f + q) ≡ 400000 = b_at (f + q) k in
+    let b₁ : breakpoint Kind.Freeway f + 4 * f ≡ 400000 = b-at f (omega arith) in
+    let b₂ : breakpoint Kind.Freeway (f + q) + 4 * (f + q) ≡ 400000 = b-at (f + q) k in
     let c₁ : capacity Kind.Freeway f ≡ 240000 = c-high f h in
     let c₂ : capacity Kind.Freeway (f + q) ≡ 240000 = c-high (f + q) (omega arith) in
     lift f q (capacity Kind.Freeway f) (capacity Kind.Freeway (f + q)) _ _ _ _
@@ -94,8 +94,8 @@ high u f q h k hu =
 
 low : (u f q : ℕ) → 55000 ≤ f → f + q ≤ 70000 → u ≤ capacity Kind.Freeway f → Faster u f (f + q)
 low u f q h k hu =
-    let b₁ : breakpoint Kind.Freeway f + 4 * f ≡ 400000 = b_at f (omega arith) in
-    let b₂ : breakpoint Kind.Freeway (f + q) + 4 * (f + q) ≡ 400000 = b_at (f + q) (omega arith) in
+    let b₁ : breakpoint Kind.Freeway f + 4 * f ≡ 400000 = b-at f (omega arith) in
+    let b₂ : breakpoint Kind.Freeway (f + q) + 4 * (f + q) ≡ 400000 = b-at (f + q) (omega arith) in
     let c₁ : capacity Kind.Freeway f ≡ 170000 + f = c-low f (omega arith) in
     let c₂ : capacity Kind.Freeway (f + q) ≡ 170000 + (f + q) = c-low (f + q) k in
     lift f q (capacity Kind.Freeway f) (capacity Kind.Freeway (f + q)) _ _ _ _

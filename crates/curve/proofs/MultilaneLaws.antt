@@ -8,7 +8,7 @@ use native.Mathlib.Nat.{mul-le-mul_left, mul-le-mul_right, add-sub_of_le}
 use Rattle.numbers.specs.Fraction.{AtMost}
 use Rattle.numbers.proofs.DivisionLaws.{div_up-mono}
 use Rattle.powers.specs.Power.{power}
-use Rattle.powers.proofs.PowerLaws.{power_le, power-mono}
+use Rattle.powers.proofs.PowerLaws.{power-le, power-mono}
 use Rattle.curve.specs.declared.kind.Kind.TheVariants as Kind
 use Rattle.curve.specs.Curves.{capacity, breakpoint, curve_at}
 use Rattle.curve.specs.Speed.{beyond_breakpoint, span_to_capacity, fall_share_by, speed}
@@ -56,4 +56,4 @@ multilane_speed-mono f g v h k e hv =
     (mul-le-mul_right 9000000
     (rw (add-sub_of_le k) at
     (rise f (g - f) (power (place (curve_at Kind.Multilane f) v)) (power (place (curve_at Kind.Multilane g) v)) powers
-    (power_le (place (curve_at Kind.Multilane f) v) first))))
+    (power-le (place (curve_at Kind.Multilane f) v) first))))

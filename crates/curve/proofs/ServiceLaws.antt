@@ -32,7 +32,7 @@ use Rattle.numbers.specs.Division.{div_up}
 use Rattle.numbers.specs.Fraction.{over, whole, times, divided_by, rounded_down, AtMost}
 use Rattle.numbers.proofs.DivisionLaws.{div_up-le-iff, div_up-zero}
 use Rattle.numbers.proofs.FractionLaws.{AtMost-trans, rounded_down-mono, rounded_up-mono, rounded_up-eq, divided_by-mono, quotient-le-iff}
-use Rattle.numbers.proofs.BoolLaws.{and_left, and_right, leb-iff, cond-le, le-cond, cond-leb-mono}
+use Rattle.numbers.proofs.BoolLaws.{and-left, and-right, leb-iff, cond-le, le-cond, cond-leb-mono}
 use Rattle.curve.specs.declared.kind.Kind.{Kind}
 use Rattle.curve.specs.declared.Curve.{Curve}
 use Rattle.curve.specs.declared.service.Letter.{Letter}
@@ -214,9 +214,9 @@ pub meets_limit-down : (curve : Curve) (v w limit : ℕ) → WellFormed curve �
 unfolding meets_limit
 meets_limit-down curve v w limit ok l t =
     let cw : 100 * w ≤ curve.capacity = leb→le (100 * w) curve.capacity
-    (and_left (leb (100 * w) curve.capacity) (leb (density curve w) limit) t) in
+    (and-left (leb (100 * w) curve.capacity) (leb (density curve w) limit) t) in
     let dw : density curve w ≤ limit = leb→le (density curve w) limit
-    (and_right (leb (100 * w) curve.capacity) (leb (density curve w) limit) t) in
+    (and-right (leb (100 * w) curve.capacity) (leb (density curve w) limit) t) in
     let dv : density curve v ≤ density curve w = density-mono curve curve v w ok ok (omega arith) cw l (speed-antitone curve v w ok l cw) in
     simp (le-leb (100 * v) curve.capacity (omega arith)) (le→leb (density curve v) limit (omega arith))
 

@@ -23,7 +23,7 @@ use Rattle.numbers.specs.Division.{div_up}
 use Rattle.numbers.specs.Fraction.{over, whole, AtMost, SameValue}
 use Rattle.numbers.proofs.DivisionLaws.{div_up-le-iff, div_up-mono, div_up-zero}
 use Rattle.numbers.proofs.FractionLaws.{AtMost-trans, SameValue-pos}
-use Rattle.powers.proofs.PowerLaws.{power_zero, power_le, power-mono}
+use Rattle.powers.proofs.PowerLaws.{power-zero, power-le, power-mono}
 use Rattle.curve.specs.declared.kind.Kind.{Kind}
 use Rattle.curve.specs.declared.Curve.{Curve}
 use Rattle.curve.specs.Curves.{WellFormed, Sized}
@@ -34,17 +34,17 @@ use Rattle.curve.specs.Speed.{beyond_breakpoint, span_to_capacity, fall_share_by
 abbrev pub place : Curve → ℕ → ℕ
 place curve v = div_up (1000 * beyond_breakpoint curve v) (span_to_capacity curve)
 
-span_pos : (curve : Curve) → WellFormed curve → 0 < span_to_capacity curve
-span_pos curve ok = omega (arith, ok.breakpoint-below)
+span-pos : (curve : Curve) → WellFormed curve → 0 < span_to_capacity curve
+span-pos curve ok = omega (arith, ok.breakpoint-below)
 
 pub place-le : (curve : Curve) (v : ℕ) → WellFormed curve → 100 * v ≤ curve.capacity → place curve v ≤ 1000
 place-le curve v ok h =
-    (div_up-le-iff (1000 * beyond_breakpoint curve v) (span_to_capacity curve) 1000 (span_pos curve ok)).1 (omega arith)
+    (div_up-le-iff (1000 * beyond_breakpoint curve v) (span_to_capacity curve) 1000 (span-pos curve ok)).1 (omega arith)
 
 module _ (curve : Curve) (ok : WellFormed curve) where
   share-pos-by : (kind : Kind) (v : ℕ) → 0 < (fall_share_by kind curve v).denominator
   unfolding fall_share_by
-  share-pos-by Kind.Freeway v = mul-pos (span_pos curve ok) (span_pos curve ok)
+  share-pos-by Kind.Freeway v = mul-pos (span-pos curve ok) (span-pos curve ok)
   share-pos-by Kind.Multilane v = omega arith
 
   share-le-by : (kind : Kind) (v : ℕ) → 100 * v ≤ curve.capacity
@@ -52,7 +52,7 @@ module _ (curve : Curve) (ok : WellFormed curve) where
   unfolding fall_share_by
   share-le-by Kind.Freeway v h =
       let part : beyond_breakpoint curve v ≤ span_to_capacity curve = omega arith in mul-le-mul part part
-  share-le-by Kind.Multilane v h = power_le (place curve v) (place-le curve v ok h)
+  share-le-by Kind.Multilane v h = power-le (place curve v) (place-le curve v ok h)
 
   share-mono-by : (kind : Kind) (v w : ℕ) → v ≤ w → 100 * w ≤ curve.capacity
       → (fall_share_by kind curve v).numerator ≤ (fall_share_by kind curve w).numerator
@@ -62,7 +62,7 @@ module _ (curve : Curve) (ok : WellFormed curve) where
   share-mono-by Kind.Multilane v w l h =
       power-mono (place curve v) (place curve w)
       (div_up-mono (1000 * beyond_breakpoint curve v) (span_to_capacity curve) (1000 * beyond_breakpoint curve w) (span_to_capacity curve)
-      (span_pos curve ok) (omega arith) (le_refl (span_to_capacity curve)))
+      (span-pos curve ok) (omega arith) (le_refl (span_to_capacity curve)))
       (place-le curve w ok h)
 
   share-zero-by : (kind : Kind) (v : ℕ) → 100 * v ≤ curve.breakpoint → (fall_share_by kind curve v).numerator ≡ 0
@@ -70,7 +70,7 @@ module _ (curve : Curve) (ok : WellFormed curve) where
   share-zero-by Kind.Freeway v h = let part : beyond_breakpoint curve v ≡ 0 = omega arith in rw part
   share-zero-by Kind.Multilane v h =
       let part : 1000 * beyond_breakpoint curve v ≡ 0 = omega arith in
-      rw (part, div_up-zero (span_to_capacity curve) (span_pos curve ok)) power_zero
+      rw (part, div_up-zero (span_to_capacity curve) (span-pos curve ok)) power-zero
 
 pub share-pos : (curve : Curve) (v : ℕ) → WellFormed curve → 0 < (fall_share curve v).denominator
 share-pos curve v ok = share-pos-by curve ok curve.kind v

@@ -1,7 +1,7 @@
 -- The terms of a curve (specs/Terms).
 --   share-denominator-eq   the denominator of w, at every v
 --   curve_terms_of-prepared    the terms of a curve that is well formed and within the sizes are prepared
---   table_none, table-lent, table-powers   the table that a kind reads: none on kind F, the powers on kind M
+--   table-none, table-lent, table-powers   the table that a kind reads: none on kind F, the powers on kind M
 --   TermsFacts, terms-facts    what each term is
 --   flow-within, flow-beyond   a flow rate by the greatest that keeps to capacity
 --   TermsEnds, terms-ends      what 64 bits want of them
@@ -36,8 +36,8 @@ unfolding curve_terms_of
 curve_terms_of-prepared curve ok sized = record { made = refl; well-formed = ok; sized = sized }
 
 -- ---- the table
-pub table_none : (kind : Kind) (table : List ℕ) → kind ≡ Kind.Freeway → TableFor kind table
-table_none kind table e = subst (λ k. TableFor k table) (sym e) tt
+pub table-none : (kind : Kind) (table : List ℕ) → kind ≡ Kind.Freeway → TableFor kind table
+table-none kind table e = subst (λ k. TableFor k table) (sym e) tt
 
 pub table-powers : (kind : Kind) (table : List ℕ) → kind ≡ Kind.Multilane → TableFor kind table → PowerTable table
 table-powers kind table e t = subst (λ k. TableFor k table) e t

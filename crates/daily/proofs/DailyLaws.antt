@@ -1,8 +1,8 @@
 -- The answer by its refusals (specs/Daily), and the daily service volumes by those in the engine's answer.
---   in_order           the refusals as one list
+--   in-order           the refusals as one list
 --   number-le          no refusal has a number above 21
 --   accepted-parts, accepted-of   what is accepted: neither 20 nor 21 nor the engine refuses it
---   answer-fits, number_fits, letter-fits   where 20 and 21 do not refuse: the engine's answer decides, its number and its letter too
+--   answer-fits, number-fits, letter-fits   where 20 and 21 do not refuse: the engine's answer decides, its number and its letter too
 --   answer-accepted    what is accepted gets the engine's grade and the daily service volumes
 --   meets-iff          a demand of any size meets a letter exactly when it is at most the service volume in the engine's answer
 --   volumes-fit        no service volume of a grade is above the greatest demand
@@ -54,9 +54,9 @@ use Rattle.daily.specs.Within.{traffic_within, VolumesFit, volumes_within}
 use Rattle.daily.specs.Promises.{AcceptedTraffic, letter_in}
 
 -- ---- refusals
-number_of : (a : Answer) (volumes : Volumes) → refusal_number (with_volumes a volumes) ≡ answers.refusal_number a
-number_of (Answer.Graded grade) volumes = refl
-number_of (Answer.Refused number) volumes = refl
+number-of : (a : Answer) (volumes : Volumes) → refusal_number (with_volumes a volumes) ≡ answers.refusal_number a
+number-of (Answer.Graded grade) volumes = refl
+number-of (Answer.Refused number) volumes = refl
 
 letter-of : (a : Answer) (volumes : Volumes) → letter_in (with_volumes a volumes) ≡ engine.letter_in a
 letter-of (Answer.Graded grade) volumes = refl
@@ -69,28 +69,28 @@ module _ (case : Case) (shares : Shares) (daily : ℕ) where
   pub answer-fits : TrafficFits shares daily → daily_answer case shares daily ≡ with_volumes (answer_to hourly) (daily_volumes case shares)
   answer-fits z = unless_refused-none _ (with_volumes (answer_to hourly) (daily_volumes case shares)) DailyAnswer.Refused z
 
-  pub number_fits : TrafficFits shares daily → refusal_number (daily_answer case shares daily) ≡ answers.refusal_number (answer_to hourly)
-  number_fits z = ap refusal_number (answer-fits z) ∙ number_of (answer_to hourly) (daily_volumes case shares)
+  pub number-fits : TrafficFits shares daily → refusal_number (daily_answer case shares daily) ≡ answers.refusal_number (answer_to hourly)
+  number-fits z = ap refusal_number (answer-fits z) ∙ number-of (answer_to hourly) (daily_volumes case shares)
 
   pub letter-fits : TrafficFits shares daily → letter_in (daily_answer case shares daily) ≡ engine.letter_in (answer_to hourly)
   letter-fits z = ap letter_in (answer-fits z) ∙ letter-of (answer_to hourly) (daily_volumes case shares)
 
-  pub in_order : refusal_number (daily_answer case shares daily) ≡ first_refusal (traffic_refusals shares daily ++ refusals hourly)
+  pub in-order : refusal_number (daily_answer case shares daily) ≡ first_refusal (traffic_refusals shares daily ++ refusals hourly)
   unfolding traffic_refusals
-  in_order =
+  in-order =
       let first = traffic_refusals shares daily in
       unless_refused-by (first_refusal first) (with_volumes (answer_to hourly) (daily_volumes case shares)) DailyAnswer.Refused
       (λ a. refusal_number a ≡ first_refusal (first ++ refusals hourly))
-      (λ z. number_of (answer_to hourly) (daily_volumes case shares) ∙ answer_to-number hourly
+      (λ z. number-of (answer_to hourly) (daily_volumes case shares) ∙ answer_to-number hourly
       ∙ sym (first_refusal-none first (refusals hourly) tt z))
       (λ p. sym (first_refusal-some first (refusals hourly) p))
 
   pub accepted-parts : AcceptedTraffic case shares daily → TrafficFits shares daily × Accepted hourly
   unfolding traffic_refusals
-  accepted-parts z = first_refusal-join (traffic_refusals shares daily) (refusals hourly) tt (sym in_order ∙ z)
+  accepted-parts z = first_refusal-join (traffic_refusals shares daily) (refusals hourly) tt (sym in-order ∙ z)
 
   pub accepted-of : TrafficFits shares daily → Accepted hourly → AcceptedTraffic case shares daily
-  accepted-of fits a = number_fits fits ∙ answer_to-number hourly ∙ a
+  accepted-of fits a = number-fits fits ∙ answer_to-number hourly ∙ a
 
   pub answer-accepted : AcceptedTraffic case shares daily
       → daily_answer case shares daily ≡ DailyAnswer.Graded (graded hourly) (daily_volumes case shares)
@@ -109,7 +109,7 @@ number-le case shares daily =
     let hourly = hourly_case case shares daily in
     unless_refused-by (first_refusal (traffic_refusals shares daily)) (with_volumes (answer_to hourly) (daily_volumes case shares))
     DailyAnswer.Refused (λ a. refusal_number a ≤ 21)
-    (λ z. omega (arith, number_of (answer_to hourly) (daily_volumes case shares), answer_to-number hourly, refusal-le hourly))
+    (λ z. omega (arith, number-of (answer_to hourly) (daily_volumes case shares), answer_to-number hourly, refusal-le hourly))
     (λ p. first_refusal-le 21 (traffic_refusals shares daily) tt)
 
 -- ---- letters and volumes by number

@@ -14,7 +14,7 @@ use lib.Dec.{T, T_not, leb, eqb, leb→le, le→leb, eqb→eq, lit≤, lit<}
 use lib.ListN.{drop}
 use Rattle.numbers.specs.Division.{div_up}
 use Rattle.numbers.specs.Search.{ends_at}
-use Rattle.numbers.proofs.BoolLaws.{and_left, and_right}
+use Rattle.numbers.proofs.BoolLaws.{and-left, and-right}
 use Rattle.checks.specs.Figures.{Shown}
 use Rattle.curve.specs.Curves.{capacity, breakpoint}
 use Rattle.curve.specs.Weather.{adjusted_speed, adjusted_capacity, adjusted_breakpoint, curve_under}
@@ -73,20 +73,20 @@ accepted = (
 pub printed-accepted : AcceptedTraffic example urban 40404
 printed-accepted = accepted.0
 
-all_told : (told (daily_answer example urban 40404) ≡ 0 ∷ printed_figures)
+all-told : (told (daily_answer example urban 40404) ≡ 0 ∷ printed_figures)
     × (told (daily_answer example rural 33057) ≡ 0 ∷ rural_figures) × (told (daily_answer (example_in_snow 0) urban 40404) ≡ 0 ∷ snow_figures)
 unfolding div_up hourly_demand
-all_told = (
+all-told = (
   told-by example urban 40404 _ printed-accepted example-figures,
   told-by example rural 33057 _ accepted.1 example-figures,
   told-by (example_in_snow 0) urban 40404 _ accepted.2 (ap (drop 1) example-in-snow),
 )
 
 pub printed-figures : values (daily_answer example urban 40404) ≡ printed_figures
-printed-figures = ap (drop 1) all_told.0
+printed-figures = ap (drop 1) all-told.0
 
 rural-figures : values (daily_answer example rural 33057) ≡ rural_figures
-rural-figures = ap (drop 1) all_told.1
+rural-figures = ap (drop 1) all-told.1
 
 letters : (letters_at example urban (53373 ∷ 53374 ∷ []) ≡ 3 ∷ 4 ∷ []) × (letters_at example rural (53373 ∷ []) ≡ 4 ∷ [])
 letters =
@@ -111,8 +111,8 @@ met-iff : (a : DailyAnswer) (n : ℕ) → T (met a n) ↔ ((refusal_number a ≡
 unfolding met
 met-iff a n = (
   λ t. (
-    eqb→eq (refusal_number a) 0 (and_left (eqb (refusal_number a) 0) (leb (letter_in a) n) t),
-    leb→le (letter_in a) n (and_right (eqb (refusal_number a) 0) (leb (letter_in a) n) t),
+    eqb→eq (refusal_number a) 0 (and-left (eqb (refusal_number a) 0) (leb (letter_in a) n) t),
+    leb→le (letter_in a) n (and-right (eqb (refusal_number a) 0) (leb (letter_in a) n) t),
   ),
   λ m. rw m.0 (le→leb (letter_in a) n m.1),
 )
@@ -128,8 +128,8 @@ volume-is shares n daily z h k ends =
     let here = daily_answer eight_lanes shares daily in
     let next = daily_answer eight_lanes shares (suc daily) in
     let below = lt_of_not-le
-    (λ l. T_not (met next n) (and_right (met here n) (not (met next n)) ends) ((met-iff next n).1 ((up_to (suc daily)).1 l))) in
-    omega (arith, below, (up_to daily).0 ((met-iff here n).0 (and_left (met here n) (not (met next n)) ends)))
+    (λ l. T_not (met next n) (and-right (met here n) (not (met next n)) ends) ((met-iff next n).1 ((up_to (suc daily)).1 l))) in
+    omega (arith, below, (up_to daily).0 ((met-iff here n).0 (and-left (met here n) (not (met next n)) ends)))
 
 module _ (shares : Shares) (z : AcceptedTraffic eight_lanes shares 0) where
   ends : ℕ → ℕ → Bool
@@ -167,7 +167,7 @@ worked-out = (
 pub instances-shown : Shown daily_instances
 unfolding daily_instances
 instances-shown =
-    let t = all_told in
+    let t = all-told in
     let l = letters in
     let w = worked-out in
     (t.0, (t.1, (t.2, (l.0, (l.1, (w.0, (w.1, (w.2, (w.3, (w.4, tt))))))))))

@@ -13,7 +13,7 @@ use native.Mathlib.Nat.{le_refl}
 use borrow.Author.Tests.{ltb-false}
 use lib.Dec.{ltb, ltb→lt}
 use lib.ListN.{drop, get_or}
-use Rattle.numbers.proofs.BoolLaws.{T_true}
+use Rattle.numbers.proofs.BoolLaws.{T-true}
 use Rattle.road.specs.declared.Case.{Case}
 use Rattle.method.specs.Refusals.{refusal}
 use Rattle.method.proofs.RefusalLaws.{refusal-le}
@@ -32,14 +32,14 @@ use Rattle.daily.specs.Promises.{NoBetterWithMoreTraffic, by_the_day, FiguresOfT
 use Rattle.daily.specs.Promises.{RefusedInOrder, RefusedExactly}
 use Rattle.daily.proofs.WithinLaws.{in-range, not-unfit, shares-fit, traffic-fits, fits-of, product-pos, hourly-le-iff}
 use Rattle.daily.proofs.WithinLaws.{hourly-mono, within-iff, traffic_within-eq}
-use Rattle.daily.proofs.DailyLaws.{number_fits, letter-fits, in_order, accepted-parts, meets-iff}
+use Rattle.daily.proofs.DailyLaws.{number-fits, letter-fits, in-order, accepted-parts, meets-iff}
 use Rattle.daily.proofs.DailyLaws.{answer-graded, by-letter}
 
 pub rounded-up-once : RoundedUpOnce
 rounded-up-once = hourly-le-iff
 
 pub refused-in-order : RefusedInOrder
-refused-in-order = in_order
+refused-in-order = in-order
 
 pub own-demand-is-not-read : OwnDemandIsNotRead
 unfolding daily_volume
@@ -80,7 +80,7 @@ module _ (case : Case) (shares : Shares) (asked : ℕ) (z : AcceptedTraffic case
   met-iff n h k daily fits =
       let here = meets-iff (hourly_case case shares asked) (accepted-parts case shares asked z).1 n h k (hourly_demand shares daily) in
       let divides = within-iff shares (volume n) (product-pos shares fit-shares) daily in
-      let number = number_fits case shares daily fits in
+      let number = number-fits case shares daily fits in
       let letter = letter-fits case shares daily fits in
       let most = traffic-fits shares daily fits in (
         λ m. let l = divides.0 (here.0 (sym number ∙ m.0, rw letter at m.1)) in rw (divided n h k) (omega arith),
@@ -115,7 +115,7 @@ module _ (case : Case) (shares : Shares) (daily : ℕ) where
   -- the two tests and then the engine's number
   listed : number ≡ cond (shares_unfit shares) 20 (cond (ltb greatest_daily_traffic daily) 21 engine-number)
   unfolding traffic_refusals
-  listed = in_order case shares daily
+  listed = in-order case shares daily
 
   exactly : (unfit large : Bool) → shares_unfit shares ≡ unfit → ltb greatest_daily_traffic daily ≡ large
       → ((number ≡ 20) ↔ (SharesInRange shares → ⊥)) × ((number ≡ 21) ↔ (SharesInRange shares × (greatest_daily_traffic < daily)))
@@ -127,7 +127,7 @@ module _ (case : Case) (shares : Shares) (daily : ℕ) where
   exactly false true e f =
       let is : number ≡ 21 = rw (e, f) at listed in
       let r : SharesInRange shares = in-range shares e in
-      let above : greatest_daily_traffic < daily = ltb→lt greatest_daily_traffic daily (T_true _ f) in
+      let above : greatest_daily_traffic < daily = ltb→lt greatest_daily_traffic daily (T-true _ f) in
       ((λ n. absurd (omega arith), λ out. absurd (out r)), (λ _. (r, above), λ _. is), λ _ h. absurd (omega arith))
   exactly false false e f =
       let is : number ≡ engine-number = rw (e, f) at listed in

@@ -3,7 +3,7 @@
 --   shares-fit, traffic-fits, fits-of   what 20 and 21 let pass: shares in range, and traffic up to its end; the converse
 --   passed             the same by the number that the code asks
 --   scaled-le          daily traffic × K is at most 4,000,000,000 × 1,000
---   product-pos, product_le   K × D is from 1 to 1,000,000
+--   product-pos, product-le   K × D is from 1 to 1,000,000
 --   hourly-le-iff      the hourly demand is at most a volume exactly when daily traffic × K × D is at most as many millions
 --   within-iff         the same by the division of the volume's millions by K × D
 --   hourly-mono        it never falls with the traffic or a share
@@ -64,8 +64,8 @@ scaled-le shares daily z = mul-le-mul {n₂ = 4000000000} {m₂ = 1000} (traffic
 pub product-pos : (shares : Shares) → SharesInRange shares → 0 < shares.peak * shares.direction
 product-pos shares (peak-low, _, direction-low, _) = mul-pos peak-low direction-low
 
-pub product_le : (shares : Shares) → SharesInRange shares → shares.peak * shares.direction ≤ 1000000
-product_le shares (_, peak-high, _, direction-high) = mul-le-mul {n₂ = 1000} {m₂ = 1000} peak-high direction-high
+pub product-le : (shares : Shares) → SharesInRange shares → shares.peak * shares.direction ≤ 1000000
+product-le shares (_, peak-high, _, direction-high) = mul-le-mul {n₂ = 1000} {m₂ = 1000} peak-high direction-high
 
 pub hourly-le-iff : RoundedUpOnce
 unfolding hourly_demand

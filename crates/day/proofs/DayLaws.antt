@@ -19,7 +19,7 @@ use lib.Dec.{ltb}
 use lib.ListN.{length, take, drop, get_or}
 use lib.Seq.{length-take-le}
 use Rattle.numbers.proofs.BoolLaws.{or-false}
-use Rattle.numbers.proofs.RowsLaws.{rows_next, rows-length, rows_at}
+use Rattle.numbers.proofs.RowsLaws.{rows-next, rows-length, rows-at}
 use Rattle.checks.specs.Refusals.{first_refusal, outside}
 use Rattle.checks.proofs.RefusalLaws.{none-met, first_refusal-le, first_refusal-ge, unless_refused-none, unless_refused-some}
 use Rattle.text.specs.Buffer.{Wrote}
@@ -91,13 +91,13 @@ module _ (case : Case) (demands : List ℕ) where
       → take figure_count (drop (figure_count * i) (day_figures case demands ++ rest))
       ≡ answer_figures (answer_to (with_demand case (get_or demands i 0)))
   unfolding day_figures
-  day_figures-at rest i h = rows_at _ figure_count (λ d. answer_figures-length (answer_to (with_demand case d))) demands rest i 0 h
+  day_figures-at rest i h = rows-at _ figure_count (λ d. answer_figures-length (answer_to (with_demand case d))) demands rest i 0 h
 
   pub day_figures-next : (i : ℕ) → i < length demands
       → day_figures case (take (i + 1) demands)
       ≡ day_figures case (take i demands) ++ answer_figures (answer_to (with_demand case (get_or demands i 0)))
   unfolding day_figures
-  day_figures-next i h = rows_next _ demands i 0 h
+  day_figures-next i h = rows-next _ demands i 0 h
 
   module _ {old out : List ℕ} {at : ℕ} (i : ℕ) (h : i < length demands) (fits : LentFits (length demands) (length old))
       (w : Wrote (day_figures case (take i demands)) 0 old out at) where

@@ -16,7 +16,7 @@ use lib.ListN.{length, drop, get_or, length-append, length-drop}
 use lib.Seq.{drop_at}
 use Rattle.numbers.proofs.BoolLaws.{or-false}
 use Rattle.checks.specs.Refusals.{first_refusal, unless_refused, outside}
-use Rattle.checks.proofs.RefusalLaws.{none-met, none_of, within, inside, unless_refused-some}
+use Rattle.checks.proofs.RefusalLaws.{none-met, none-of, within, inside, unless_refused-some}
 use Rattle.text.specs.Buffer.{written}
 use Rattle.curve.specs.declared.service.Letter.{Letter}
 use Rattle.curve.specs.Service.{letter_number}
@@ -98,9 +98,9 @@ module _ (case : Case) (demands old : List ℕ) (z : LentFits (length demands) (
   number-at =
       ap (λ ns. get_or ns 0 0) (position-holds-the-answer case demands old z i h) ∙ number-first (answer_to asked) ∙ answer_to-number asked
 
-  letter_at : letter_number_at i (day_content case demands old) ≡ letter_in (answer_to asked)
+  letter-at : letter_number_at i (day_content case demands old) ≡ letter_in (answer_to asked)
   unfolding asked
-  letter_at = ap (λ ns. get_or ns 1 0) (position-holds-the-answer case demands old z i h) ∙ letter-second (answer_to asked)
+  letter-at = ap (λ ns. get_or ns 1 0) (position-holds-the-answer case demands old z i h) ∙ letter-second (answer_to asked)
 
 -- by the refusal of the case with the demand
 numbers : (case : Case) (demand : ℕ)
@@ -136,7 +136,7 @@ position-numbers case demands old z i h =
 pub no-better-with-more-demand : NoBetterWithMoreDemand
 unfolding asked
 no-better-with-more-demand case demands old z a i j h k less fits =
-    rw (letter_at case demands old z i h, letter_at case demands old z j k)
+    rw (letter-at case demands old z i h, letter-at case demands old z j k)
     (no-better-under-more-load (with_demand case (get_or demands i 0)) (with_demand case (get_or demands j 0))
     (accepted-with_demand (with_demand case 0) (get_or demands i 0) a (omega arith))
     (accepted-with_demand (with_demand case 0) (get_or demands j 0) a fits) refl refl (inr (inr refl)) less (omega arith) (omega arith)
@@ -168,5 +168,5 @@ lent-fits-exactly n room = (
   λ z. let ends = within 1 most_demands n (or-false (outside 1 most_demands n) (ltb (room / figure_count) n)
       (none-met (lent_refusals n room) tt z).0).0 in
       (ends.0, ends.1, lent-room n room z),
-  λ e. none_of (lent_refusals n room) (simp (inside 1 most_demands n e.0 e.1, le-ltb (room / figure_count) n (omega (arith, e.2))), tt),
+  λ e. none-of (lent_refusals n room) (simp (inside 1 most_demands n e.0 e.1, le-ltb (room / figure_count) n (omega (arith, e.2))), tt),
 )

@@ -14,7 +14,7 @@ use Prim.Native.Nat.{ℕ, ◌≤◌}
 use borrow.Author.Tests.{ltb-false, le-ltb}
 use lib.Dec.{T, ltb}
 use Rattle.checks.specs.Refusals.{Refusal, refuses, first_refusal, lesser_refusal, outside}
-use Rattle.checks.proofs.RefusalLaws.{numbered, rises_with, first_refusal-by_turns, none-met, none_of, within, inside}
+use Rattle.checks.proofs.RefusalLaws.{numbered, rises_with, first_refusal-by_turns, none-met, none-of, within, inside}
 use Rattle.road.specs.declared.Case.{Case}
 use Rattle.road.specs.Refusals.{greatest_demand, load_refusals}
 use Rattle.forecast.specs.declared.Range.{Range}
@@ -31,15 +31,15 @@ neither : (a b : Bool) {P Q : Type 0} → (a ≡ false) ↔ P → (b ≡ false) 
 neither true b p q = (λ e. absurd (true≢false e), λ (x, _). absurd (true≢false (p.1 x)))
 neither false b p q = (λ e. (p.0 refl, q.0 e), λ (_, y). q.1 y)
 
-at_most : (most n : ℕ) → (ltb most n ≡ false) ↔ (n ≤ most)
-at_most most n = (ltb-false most n, le-ltb most n)
+at-most : (most n : ℕ) → (ltb most n ≡ false) ↔ (n ≤ most)
+at-most most n = (ltb-false most n, le-ltb most n)
 
 -- ---- the four tests
 abbrev either-above : ℕ → Range → Bool
 either-above most range = ltb most range.low || ltb most range.high
 
-none_above : (most : ℕ) (range : Range) → (either-above most range ≡ false) ↔ BothAtMost most range
-none_above most range = neither _ _ (at_most most range.low) (at_most most range.high)
+none-above : (most : ℕ) (range : Range) → (either-above most range ≡ false) ↔ BothAtMost most range
+none-above most range = neither _ _ (at-most most range.low) (at-most most range.high)
 
 module _ (forecast : Forecast) where
   abbrev pub some-reversed : Bool
@@ -56,14 +56,14 @@ module _ (forecast : Forecast) where
 
   pub none-reversed : (some-reversed ≡ false) ↔ Ordered forecast
   none-reversed =
-      let r = neither (reversed forecast.demand) _ (at_most forecast.demand.high forecast.demand.low)
+      let r = neither (reversed forecast.demand) _ (at-most forecast.demand.high forecast.demand.low)
       (neither (reversed forecast.heavy_share) (reversed forecast.peak_hour_factor)
-      (at_most forecast.heavy_share.high forecast.heavy_share.low)
-      (at_most forecast.peak_hour_factor.high forecast.peak_hour_factor.low)) in
+      (at-most forecast.heavy_share.high forecast.heavy_share.low)
+      (at-most forecast.peak_hour_factor.high forecast.peak_hour_factor.low)) in
       (λ e. let (v, sh) = r.0 e in (v, sh.0, sh.1), λ (v, s, h). r.1 (v, (s, h)))
 
   pub demand-passes : (over-demand ≡ false) ↔ DemandPasses forecast
-  demand-passes = none_above greatest_demand forecast.demand
+  demand-passes = none-above greatest_demand forecast.demand
 
   pub factor-passes : (unfit-factor ≡ false) ↔ FactorPasses forecast
   factor-passes =
@@ -75,7 +75,7 @@ module _ (forecast : Forecast) where
       )
 
   pub share-passes : (over-share ≡ false) ↔ SharePasses forecast
-  share-passes = none_above 1000 forecast.heavy_share
+  share-passes = none-above 1000 forecast.heavy_share
 
   abbrev tests : List Refusal
   tests = refuses 22 some-reversed ∷ refuses 7 over-demand ∷ refuses 8 unfit-factor ∷ refuses 9 over-share ∷ []
@@ -121,7 +121,7 @@ module _ (case : Case) (forecast : Forecast) where
             ),
         λ (ordered, demand, factor, share).
             same
-            ∙ none_of (tests forecast) (
+            ∙ none-of (tests forecast) (
               (none-reversed forecast).1 ordered,
               ((demand-passes forecast).1 demand, ((factor-passes forecast).1 factor, ((share-passes forecast).1 share, tt))),
             ),

@@ -78,11 +78,11 @@ module _ (case : Case) (forecast : Forecast) where
       (eq-zero-or-pos (first_refusal (section_refusals case)))
 
   -- ---- 22
-  by_tests : SectionFits case
+  by-tests : SectionFits case
       → number
       ≡ cond (some-reversed forecast) 22
       (cond (over-demand forecast) 7 (cond (unfit-factor forecast) 8 (cond (over-share forecast) 9 (first_refusal rest))))
-  by_tests section = behind section ∙ range-tests case forecast rest
+  by-tests section = behind section ∙ range-tests case forecast rest
 
   -- 7 to 9, 19 and 10
   loads-le : (v h s : Bool) → cond v 7 (cond h 8 (cond s 9 (first_refusal rest))) ≤ 19
@@ -152,9 +152,9 @@ refused-exactly case forecast = (
   first case forecast,
   exactly-22 case forecast (some-reversed forecast) _
       (loads-le case forecast (over-demand forecast) (unfit-factor forecast) (over-share forecast))
-      (by_tests case forecast) (none-reversed forecast),
+      (by-tests case forecast) (none-reversed forecast),
   λ section ordered.
       exactly-loads case forecast section (over-demand forecast) (unfit-factor forecast) (over-share forecast)
-      (by_tests case forecast section ∙ rw ((none-reversed forecast).1 ordered)) (demand-passes forecast) (factor-passes forecast)
+      (by-tests case forecast section ∙ rw ((none-reversed forecast).1 ordered)) (demand-passes forecast) (factor-passes forecast)
       (share-passes forecast),
 )

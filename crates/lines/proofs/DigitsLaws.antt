@@ -1,7 +1,7 @@
 -- A number by its digits (specs/Fields).
 --   more, small   a number of i digits, one digit more, and that 64 bits hold it
 --   number-none, number-long, number-zero, number-bad   no digit, too many, a leading zero, a byte that is none: malformed
---   number-one, number_more   one digit; more with no leading zero
+--   number-one, number-more   one digit; more with no leading zero
 -- Assumes nothing.
 use mathlib.Core.Path.{◌≡◌, refl}
 use mathlib.Core.Bool.{Bool, true, false, cond, ◌||◌}
@@ -47,6 +47,6 @@ module _ (k : ℕ) (bs : List ℕ) where
   unfolding number
   number-one h l = simp (h, le-ltb k 1 l)
 
-  pub number_more : 1 < length bs → length bs ≤ k → (get_or bs 0 0 ≡ 48 → ⊥) → number k bs ≡ spelled 0 bs
+  pub number-more : 1 < length bs → length bs ≤ k → (get_or bs 0 0 ≡ 48 → ⊥) → number k bs ≡ spelled 0 bs
   unfolding number
-  number_more h l n = simp (le-ltb (length bs) 1 (omega arith), le-ltb k (length bs) l, lt-ltb 1 (length bs) h, ne_eqb (get_or bs 0 0) 48 n)
+  number-more h l n = simp (le-ltb (length bs) 1 (omega arith), le-ltb k (length bs) l, lt-ltb 1 (length bs) h, ne_eqb (get_or bs 0 0) 48 n)

@@ -4,8 +4,8 @@
 --   number-at       every place but 0, 1, 6 and 12 has a number
 --   completed_from, completed_from-zero   the parts of a line from place j on, with the last two fields where the line has 13; from 0 on
 --   after, after-nil   the values before, and those of the rest
---   more_of, last_of   a field read, with a tab behind it and at the line's end
---   field-bad, too_many   a malformed field, and a field too many
+--   more-of, last-of   a field read, with a tab behind it and at the line's end
+--   field-bad, too-many   a malformed field, and a field too many
 -- Assumes nothing.
 use mathlib.Core.Path.{◌≡◌, refl, sym, ap, ◌∙◌}
 use mathlib.Core.Bool.{Bool, true, false, cond, ◌||◌}
@@ -23,7 +23,7 @@ use lib.Seq.{drop-cons, drop-drop, set_split, take-suc-set, take_all}
 use borrow.Author.Tests.{eq-eqb, ne_eqb}
 use Rattle.text.specs.Bytes.{tab}
 use Rattle.text.specs.Parts.{parts, count_before}
-use Rattle.text.proofs.PartsLaws.{count_before-le, parts-one, parts_more}
+use Rattle.text.proofs.PartsLaws.{count_before-le, parts-one, parts-more}
 use Rattle.lines.specs.declared.field.FieldValue.{FieldValue}
 use Rattle.lines.specs.declared.field.FieldValue.TheVariants.{Value, Malformed}
 use Rattle.lines.specs.Fields.{Field, digits, layout, field_at, clear_factors, completed, one_of, letter, field_as, values_of, joined}
@@ -113,9 +113,9 @@ completed_from-past : (j : ℕ) (ps : List (List ℕ)) → 13 < j → completed_
 unfolding completed_from
 completed_from-past j ps h = rw (ne_eqb (j + length ps) 13 (λ e. omega arith))
 
-no_more : (bs : List ℕ) → values_of [] (parts tab bs) ≡ none
+no-more : (bs : List ℕ) → values_of [] (parts tab bs) ≡ none
 unfolding values_of
-no_more bs = ⊎_elim (λ e. rw (parts-one tab bs e)) (λ l. rw (parts_more tab bs l)) (eq-or-lt_of_le (count_before-le 9 bs))
+no-more bs = ⊎_elim (λ e. rw (parts-one tab bs e)) (λ l. rw (parts-more tab bs l)) (eq-or-lt_of_le (count_before-le 9 bs))
 
 -- a field of the line from at
 module _ (ls : List Field) (d : Field) (line vs : List ℕ) (j at : ℕ) (hj : j < length ls) (ha : at ≤ length line) where
@@ -131,18 +131,18 @@ module _ (ls : List Field) (d : Field) (line vs : List ℕ) (j at : ℕ) (hj : j
       let u : at + suc (count_before tab (drop at line)) ≡ field_end line at + 1 = omega arith in
       rw (
         drop-cons ls j d hj,
-        parts_more tab (drop at line) (omega (arith, length-drop at line)),
+        parts-more tab (drop at line) (omega (arith, length-drop at line)),
         completed_from-cons,
         drop-drop,
         u,
         add-one j,
       )
 
-  pub more_of : (e : ℕ) → e ≡ field_end line at → e < length line → (v : ℕ) → j < length vs
+  pub more-of : (e : ℕ) → e ≡ field_end line at → e < length line → (v : ℕ) → j < length vs
       → field_as (get_or ls j d) (field_from line at) ≡ Value v
       → after (take j vs) rest
       ≡ after (take (j + 1) (set vs j v)) (values_of (drop (j + 1) ls) (completed_from (j + 1) (parts tab (drop (e + 1) line))))
-  more_of e n h v hv r = rw (n, more-is (omega arith), r, after-joined, add-one j, take-suc-set vs j v hv)
+  more-of e n h v hv r = rw (n, more-is (omega arith), r, after-joined, add-one j, take-suc-set vs j v hv)
 
   -- no tab follows
   last-is : field_end line at ≡ length line
@@ -158,12 +158,12 @@ module _ (ls : List Field) (d : Field) (line vs : List ℕ) (j at : ℕ) (hj : j
       )
 
   -- it is the thirteenth, and the last values are those of clear weather; it is the fifteenth; or fields are missing
-  pub last_of : field_end line at ≡ length line → length vs ≡ length ls → length ls ≡ 15 → (v : ℕ)
+  pub last-of : field_end line at ≡ length line → length vs ≡ length ls → length ls ≡ 15 → (v : ℕ)
       → (j ≤ 12 → values_of (drop 13 ls) clear_factors ≡ some (drop 13 vs))
       → field_as (get_or ls j d) (field_from line at) ≡ Value v
       → after (take j vs) rest ≡ cond (eqb j 12 || eqb j 14) (some (set vs j v)) none
   unfolding values_of completed_from
-  last_of h l n v clear r = go (ℕ_discrete j 12) (ℕ_discrete j 14)
+  last-of h l n v clear r = go (ℕ_discrete j 12) (ℕ_discrete j 14)
     where
       go : Dec (j ≡ 12) → Dec (j ≡ 14) → after (take j vs) rest ≡ cond (eqb j 12 || eqb j 14) (some (set vs j v)) none
       go (yes e) k =
@@ -189,8 +189,8 @@ module _ (ls : List Field) (d : Field) (line vs : List ℕ) (j at : ℕ) (hj : j
   field-bad r = ⊎_elim (λ h. rw (last-is h, r)) (λ h. rw (more-is h, r)) (eq-or-lt_of_le (field_end-le line at ha))
 
 -- a field too many
-pub too_many : (ls : List Field) (line vs : List ℕ) (j at : ℕ) → j ≡ length ls → 13 < j
+pub too-many : (ls : List Field) (line vs : List ℕ) (j at : ℕ) → j ≡ length ls → 13 < j
     → after (take j vs) (values_of (drop j ls) (completed_from j (parts tab (drop at line)))) ≡ none
-too_many ls line vs j at h k =
+too-many ls line vs j at h k =
     let z : drop j ls ≡ [] = drop_of_length-le ls {i = j} (omega arith) in
-    rw (z, completed_from-past j (parts tab (drop at line)) k, no_more (drop at line))
+    rw (z, completed_from-past j (parts tab (drop at line)) k, no-more (drop at line))

@@ -16,7 +16,7 @@ use lib.Dec.{T, eqb, leb, ltb, leb→le, ltb→lt}
 use lib.ListN.{length, drop, get_or, length-append, drop_of_length-le}
 use lib.Seq.{drop-cons}
 use borrow.Author.Tests.{eq-eqb, ne_eqb, eqb-true}
-use Rattle.numbers.proofs.BoolLaws.{and_right, T_true, cond-all}
+use Rattle.numbers.proofs.BoolLaws.{and-right, T-true, cond-all}
 use Rattle.text.specs.Bytes.{bytes_of, tab}
 use Rattle.text.specs.Parts.{parts, on_first}
 use Rattle.text.proofs.PartsLaws.{parts-append, spread, parts-spread}
@@ -50,12 +50,12 @@ spelled-lt (b ∷ bs) n i v h e = go (digit b) refl e
         → v < 10 ^ (i + suc (length bs))
     go true d k r =
         let z : i + suc (length bs) ≡ i + 1 + length bs = omega arith in
-        rw z (r (omega (arith, leb→le b (code "9") (and_right (leb (code "0") b) (leb b (code "9")) (T_true (digit b) d)))) k)
+        rw z (r (omega (arith, leb→le b (code "9") (and-right (leb (code "0") b) (leb b (code "9")) (T-true (digit b) d)))) k)
     go false d k r = not-malformed v k
 
-number_lt : (k : ℕ) (bs : List ℕ) (v : ℕ) → number k bs ≡ Value v → v < 10 ^ k
+number-lt : (k : ℕ) (bs : List ℕ) (v : ℕ) → number k bs ≡ Value v → v < 10 ^ k
 unfolding number
-number_lt k bs v e = go (outside 1 k (length bs)) (leading_zero bs) refl e
+number-lt k bs v e = go (outside 1 k (length bs)) (leading_zero bs) refl e
   where
     go : (t u : Bool) → outside 1 k (length bs) ≡ t → cond (t || u) Malformed (spelled 0 bs) ≡ Value v → v < 10 ^ k
     go true u o h = not-malformed v h
@@ -69,21 +69,21 @@ unfolding letter
 letter-one ls bs v e = go (eqb (length bs) 1) (one_of (get_or bs 0 0) ls) refl e
   where
     go : (t u : Bool) → one_of (get_or bs 0 0) ls ≡ u → cond (t && u) (Value (get_or bs 0 0)) Malformed ≡ Value v → T (one_of v ls)
-    go true true o h = let w : get_or bs 0 0 ≡ v = cc h in subst (λ x. T (one_of x ls)) w (T_true (one_of (get_or bs 0 0) ls) o)
+    go true true o h = let w : get_or bs 0 0 ≡ v = cc h in subst (λ x. T (one_of x ls)) w (T-true (one_of (get_or bs 0 0) ls) o)
     go true false o h = not-malformed v h
     go false u o h = not-malformed v h
 
 field_as-fits : (f : Field) (bs : List ℕ) (v : ℕ) → field_as f bs ≡ Value v → FieldFits f v
 unfolding field_as
 field_as-fits (letters ls) bs v e = letter-one ls bs v e
-field_as-fits (digits k) bs v e = number_lt k bs v e
+field_as-fits (digits k) bs v e = number-lt k bs v e
 
 -- ---- the values of all fields
 abbrev pub Fits : List Field → List ℕ → Type 0
 Fits fs vs = (length vs ≡ length fs) × ((i : ℕ) → i < length fs → FieldFits (get_or fs i (digits 5)) (get_or vs i 0))
 
-not_none : {A : Type 0} (vs : List ℕ) → none ≡ some vs → A
-not_none vs e = absurd (let o : ◌≡◌ {A = ℕ} 0 1 = cc e in omega arith)
+not-none : {A : Type 0} (vs : List ℕ) → none ≡ some vs → A
+not-none vs e = absurd (let o : ◌≡◌ {A = ℕ} 0 1 = cc e in omega arith)
 
 fits-cons : (f : Field) (fs : List Field) (v : ℕ) (vs : List ℕ) → FieldFits f v → Fits fs vs → Fits (f ∷ fs) (v ∷ vs)
 fits-cons f fs v vs h r = (ap suc r.0, at)
@@ -99,15 +99,15 @@ by-fields : (P : List Field → List (List ℕ) → List ℕ → Type 0) → P [
     → (fs : List Field) (ps : List (List ℕ)) (vs : List ℕ) → values_of fs ps ≡ some vs → P fs ps vs
 unfolding values_of
 by-fields P base step [] [] vs e = let w : [] ≡ vs = cc e in subst (P [] []) w base
-by-fields P base step [] (p ∷ ps) vs e = not_none vs e
-by-fields P base step (f ∷ fs) [] vs e = not_none vs e
+by-fields P base step [] (p ∷ ps) vs e = not-none vs e
+by-fields P base step (f ∷ fs) [] vs e = not-none vs e
 by-fields P base step (f ∷ fs) (p ∷ ps) vs e =
     go (field_as f p) (values_of fs ps) refl refl e (λ ws k. by-fields P base step fs ps ws k)
   where
     go : (v : FieldValue) (o : Option (List ℕ)) → field_as f p ≡ v → values_of fs ps ≡ o → joined v o ≡ some vs
         → ((ws : List ℕ) → values_of fs ps ≡ some ws → P fs ps ws) → P (f ∷ fs) (p ∷ ps) vs
-    go Malformed o h k j r = not_none vs j
-    go (Value v) none h k j r = not_none vs j
+    go Malformed o h k j r = not-none vs j
+    go (Value v) none h k j r = not-none vs j
     go (Value v) (some ws) h k j r = let w : v ∷ ws ≡ vs = cc j in subst (P (f ∷ fs) (p ∷ ps)) w (step f p v fs ps ws h (r ws k))
 
 pub values_of-fits : (fs : List Field) (ps : List (List ℕ)) (vs : List ℕ) → values_of fs ps ≡ some vs → Fits fs vs
@@ -209,7 +209,7 @@ length-never-decides-alone bs = go (ltb longest_line (length bs)) (values_of lay
     go : (b : Bool) (o : Option (List ℕ)) → ltb longest_line (length bs) ≡ b → values_of layout (completed (parts tab bs)) ≡ o
         → cond b (LineRead.Refused 15) (read_values o) ≡ read_values o
     go true none l e = refl
-    go true (some vs) l e = absurd (omega (arith, ltb→lt longest_line (length bs) (T_true _ l), well-formed-length bs vs e))
+    go true (some vs) l e = absurd (omega (arith, ltb→lt longest_line (length bs) (T-true _ l), well-formed-length bs vs e))
     go false o l e = refl
 
 pub well-formed-lines-are-short : WellFormedLinesAreShort

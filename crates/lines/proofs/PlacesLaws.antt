@@ -1,14 +1,14 @@
 -- Where a field of a line lies (specs/Places), a byte at a time.
---   digit_low, digit-high, digit-ends, digit-within   a digit is a byte from 48 to 57, and stands within the line
+--   digit-low, digit-high, digit-ends, digit-within   a digit is a byte from 48 to 57, and stands within the line
 --   not-malformed      a value is not malformed
---   field-more, field_next, field-done   a byte of the field follows, with the rest behind it; none follows
---   ends_by            the byte tells whether the field ends
+--   field-more, field-next, field-done   a byte of the field follows, with the rest behind it; none follows
+--   ends-by            the byte tells whether the field ends
 --   field_end-le        a field ends within the line
 --   field_from-length   the bytes of a field are as many as its end says
 --   field_from-first    the first byte of a field that has one
 --   spelled-next, spelled-stop, spelled-done   digits read on: a digit, another byte, the field's end
 --   digits-next        a digit more is read
---   number-unended, ended-none, ended-one, ended-zero, ended-more, number-end, number_past   the number of a field by its
+--   number-unended, ended-none, ended-one, ended-zero, ended-more, number-end, number-past   the number of a field by its
 --                      digits and what follows
 --   read-malformed   what is handed on of a malformed field
 -- Assumes nothing.
@@ -24,25 +24,25 @@ use lib.Dec.{eqb, leb, leb→le}
 use lib.ListN.{length, drop, get_or, length-drop, get_or-eq_default}
 use lib.Seq.{drop-cons, length-take-le}
 use borrow.Author.Tests.{le-leb, lt-leb, eq-eqb, ne_eqb, eqb-true, eqb-false}
-use Rattle.numbers.proofs.BoolLaws.{and_left, and_right, T_true}
+use Rattle.numbers.proofs.BoolLaws.{and-left, and-right, T-true}
 use Rattle.text.specs.Bytes.{tab}
 use Rattle.text.specs.Parts.{count_before}
 use Rattle.text.proofs.PartsLaws.{count_before-le, count_before-hit, count_before-miss, count_before-end}
 use Rattle.lines.specs.declared.field.FieldValue.TheVariants.{Value, Malformed}
 use Rattle.lines.specs.Fields.{Field, digit, spelled, number, field_as}
 use Rattle.lines.specs.Places.{field_end, field_from, DigitsRead, ReadAs}
-use Rattle.lines.proofs.DigitsLaws.{number-none, number-long, number-zero, number-one, number_more, number-bad}
+use Rattle.lines.proofs.DigitsLaws.{number-none, number-long, number-zero, number-one, number-more, number-bad}
 
-pub digit_low : (b : ℕ) → b < 48 → false ≡ digit b
-digit_low b l = rw (lt-leb 48 b l)
+pub digit-low : (b : ℕ) → b < 48 → false ≡ digit b
+digit-low b l = rw (lt-leb 48 b l)
 
 pub digit-high : (b : ℕ) → 48 ≤ b → leb b 57 ≡ digit b
 digit-high b l = rw (le-leb 48 b l)
 
 pub digit-ends : (b : ℕ) → digit b ≡ true → (48 ≤ b) × (b ≤ 57)
 digit-ends b e =
-    let t = T_true (digit b) e in
-    (leb→le 48 b (and_left (leb 48 b) (leb b 57) t), leb→le b 57 (and_right (leb 48 b) (leb b 57) t))
+    let t = T-true (digit b) e in
+    (leb→le 48 b (and-left (leb 48 b) (leb b 57) t), leb→le b 57 (and-right (leb 48 b) (leb b 57) t))
 
 pub not-malformed : {A : Type 0} (v : ℕ) → Malformed ≡ Value v → A
 not-malformed v e = absurd (let o : ◌≡◌ {A = ℕ} 0 1 = cc e in omega arith)
@@ -60,21 +60,21 @@ module _ (line : List ℕ) (i : ℕ) where
       let more : i < length line = ⊎_elim (λ e. absurd (n (count_before-end tab line i e))) (λ l. l) (eq-or-lt_of_le h) in
       (more, λ e. n (count_before-hit tab line i more e))
 
-  pub field_next : i < length line → (get_or line i 0 ≡ tab → ⊥)
+  pub field-next : i < length line → (get_or line i 0 ≡ tab → ⊥)
       → (field_end line i ≡ field_end line (i + 1)) × (field_from line i ≡ get_or line i 0 ∷ field_from line (i + 1))
   unfolding count_before
-  field_next h n =
+  field-next h n =
       (count_before-miss tab line i h n, rw (drop-cons line i 0 h, ne_eqb (get_or line i 0) tab n, add-one i))
 
   pub field-done : field_end line i ≡ i → field_from line i ≡ []
   field-done e = let z : count_before tab (drop i line) ≡ 0 = omega arith in rw z
 
-  pub ends_by : i < length line → eqb (get_or line i 0) tab ≡ eqb (field_end line i) i
-  ends_by h = go (eqb (get_or line i 0) tab) refl
+  pub ends-by : i < length line → eqb (get_or line i 0) tab ≡ eqb (field_end line i) i
+  ends-by h = go (eqb (get_or line i 0) tab) refl
     where
       go : (v : Bool) → eqb (get_or line i 0) tab ≡ v → v ≡ eqb (field_end line i) i
       go true e = sym (eq-eqb (field_end line i) i (count_before-hit tab line i h (eqb-true (get_or line i 0) tab e)))
-      go false e = sym (ne_eqb (field_end line i) i (λ k. omega (arith, (field_next h (eqb-false (get_or line i 0) tab e)).0)))
+      go false e = sym (ne_eqb (field_end line i) i (λ k. omega (arith, (field-next h (eqb-false (get_or line i 0) tab e)).0)))
 
   pub field_end-le : i ≤ length line → field_end line i ≤ length line
   field_end-le h = omega (arith, count_before-le tab (drop i line), length-drop i line)
@@ -83,7 +83,7 @@ module _ (line : List ℕ) (i : ℕ) where
   field_from-length h = rw (length-take-le (count_before tab (drop i line)) (drop i line) (count_before-le tab (drop i line)))
 
   pub field_from-first : i ≤ length line → (field_end line i ≡ i → ⊥) → get_or (field_from line i) 0 0 ≡ get_or line i 0
-  field_from-first h n = let m = field-more h n in rw (field_next m.0 m.1).1
+  field_from-first h n = let m = field-more h n in rw (field-next m.0 m.1).1
 
   module _ (n : ℕ) where
     pub spelled-next : i < length line → digit (get_or line i 0) ≡ true
@@ -91,12 +91,12 @@ module _ (line : List ℕ) (i : ℕ) where
     unfolding spelled
     spelled-next h d =
         let other : get_or line i 0 ≡ tab → ⊥ = λ e. omega (arith, (digit-ends (get_or line i 0) d).0) in
-        (other, rw ((field_next h other).1, d))
+        (other, rw ((field-next h other).1, d))
 
     pub spelled-stop : i ≤ length line → (field_end line i ≡ i → ⊥) → digit (get_or line i 0) ≡ false
         → spelled n (field_from line i) ≡ Malformed
     unfolding spelled
-    spelled-stop h m d = let b = field-more h m in rw ((field_next b.0 b.1).1, d)
+    spelled-stop h m d = let b = field-more h m in rw ((field-next b.0 b.1).1, d)
 
     pub spelled-done : field_end line i ≡ i → spelled n (field_from line i) ≡ Value n
     unfolding spelled
@@ -111,7 +111,7 @@ digits-next line at end n r d =
     record {
       begun = omega (arith, r.begun);
       within = omega arith;
-      same-field = sym (field_next line end l next.0).0 ∙ r.same-field;
+      same-field = sym (field-next line end l next.0).0 ∙ r.same-field;
       spells = r.spells ∙ next.1;
     }
 
@@ -142,7 +142,7 @@ module _ (line : List ℕ) (at end n : ℕ) (r : DigitsRead line at end n) (most
     ended-zero h z = number-zero most (field_from line at) (omega (arith, size)) (omega (arith, size)) (first (omega arith) ∙ z)
 
     pub ended-more : at + 1 < end → (get_or line at 0 ≡ 48 → ⊥) → number most (field_from line at) ≡ Value n
-    ended-more h z = number_more most (field_from line at) (omega (arith, size)) (omega (arith, size))
+    ended-more h z = number-more most (field_from line at) (omega (arith, size)) (omega (arith, size))
         (λ k. z (sym (first (omega arith)) ∙ k)) ∙ value
 
   -- so a well-formed number ends where its digits do
@@ -154,9 +154,9 @@ module _ (line : List ℕ) (at end n : ℕ) (r : DigitsRead line at end n) (most
       go false k = not-malformed v (sym (number-unended (eqb-false (field_end line end) end k) d) ∙ e)
 
   -- a digit too many follows
-  pub number_past : end ≡ at + most → digit (get_or line end 0) ≡ true → end < length line → number most (field_from line at) ≡ Malformed
-  number_past h d l =
-      let next = (field_next line end l (spelled-next line end n l d).0).0 in
+  pub number-past : end ≡ at + most → digit (get_or line end 0) ≡ true → end < length line → number most (field_from line at) ≡ Malformed
+  number-past h d l =
+      let next = (field-next line end l (spelled-next line end n l d).0).0 in
       number-long most (field_from line at)
       (omega (arith, next, r.same-field, field_from-length line at (omega (arith, r.begun, r.within))))
 

@@ -1,6 +1,6 @@
 -- The bytes held after a step of `los`.
 --   begins      what is held begins with what was carried over
---   ends_held   with nothing read behind it, it is what was carried over
+--   ends-held   with nothing read behind it, it is what was carried over
 -- Assumes nothing.
 use mathlib.Core.Path.{◌≡◌, sym, ap, ◌∙◌}
 use mathlib.Core.List.{List, ◌++◌}
@@ -18,7 +18,7 @@ module _ (cs rest buffer exit : List ℕ) (n h : ℕ) (len : n ≡ length cs) (m
   begins l = take-take (length cs) h exit (omega arith) ∙ ap (λ (x : ℕ). take x exit) (sym len) ∙ kept ∙ ap (take n) moved
       ∙ take_at cs rest n (sym len)
 
-  pub ends_held : h ≡ n → count_before newline cs ≡ length cs → count_before newline (take h exit) ≡ h
-  ends_held e c =
+  pub ends-held : h ≡ n → count_before newline cs ≡ length cs → count_before newline (take h exit) ≡ h
+  ends-held e c =
       let same : take h exit ≡ cs = ap (λ (x : ℕ). take x exit) e ∙ kept ∙ ap (take n) moved ∙ take_at cs rest n (sym len) in
       ap (count_before newline) same ∙ c ∙ sym len ∙ sym e

@@ -1,5 +1,5 @@
 -- The boundary sections (specs/Boundary), shown, with those of the layers below.
---   line_read        the printed line is the printed case
+--   line-read        the printed line is the printed case
 --   boundary-shown   each figure of the list is what is to be shown
 -- Assumes nothing.
 use mathlib.Core.Path.{◌≡◌, refl, ap, ◌∙◌}
@@ -39,13 +39,13 @@ use Rattle.marehour.specs.Calls.{day_call, daily_call, forecast_call, content}
 use Rattle.marehour.proofs.Laws.{day-call-is-the-day, daily-hands-back, forecast-hands-back}
 use Rattle.marehour.specs.Boundary.{printed_line, printed_answer, snow_answer, longest, added_figures, boundary_figures}
 
-pub line_read : read_line (bytes_of printed_line) ≡ LineRead.Case example
+pub line-read : read_line (bytes_of printed_line) ≡ LineRead.Case example
 unfolding on_first parts layout completed spelled number one_of letter field_as values_of case_of read_values read_line
-line_read = refl
+line-read = refl
 
 line-shown : line_text (bytes_of printed_line) ≡ bytes_of printed_answer
 unfolding flat_map decimal_up_to decimal figures_text row_text text_of
-line-shown = line_text-case (bytes_of printed_line) example line_read
+line-shown = line_text-case (bytes_of printed_line) example line-read
     ∙ ap (text_of (answers.refusal_number (answer_to example))) answer-proofs.example-figures
 
 -- the printed line in snow, and with a factor that 19 refuses
@@ -79,17 +79,17 @@ output-shown =
     ∙ ap (λ x. refusal_text 15 ++ (bytes_of printed_answer ++ (x ++ []))) short-shown.1
 
 day-shown : content (day_call (bytes_of printed_line) example_demands 38) (replicate 38 9) ≡ example_day
-day-shown = (day-call-is-the-day (bytes_of printed_line) example line_read example_demands (replicate 38 9)).1 ∙ example-day
+day-shown = (day-call-is-the-day (bytes_of printed_line) example line-read example_demands (replicate 38 9)).1 ∙ example-day
 
 daily-shown : content (daily_call (bytes_of printed_line) urban 40404 17) (replicate 17 9) ≡ printed_figures ++ (9 ∷ [])
 daily-shown =
-    (((daily-hands-back urban 40404 (bytes_of printed_line) (replicate 17 9)).2 (lit≤ tt) example line_read).1 printed-accepted).1
+    (((daily-hands-back urban 40404 (bytes_of printed_line) (replicate 17 9)).2 (lit≤ tt) example line-read).1 printed-accepted).1
     ∙ ap (λ figures. figures ++ (9 ∷ [])) printed-figures
 
 forecast-shown : content (forecast_call (bytes_of printed_line) wide 9) (replicate 9 9)
     ≡ 1 ∷ 1000 ∷ 0 ∷ 950 ∷ 6 ∷ 4000 ∷ 100 ∷ 850 ∷ 9 ∷ []
 forecast-shown =
-    (((forecast-hands-back wide (bytes_of printed_line) (replicate 9 9)).2 (lit≤ tt) example line_read).1 (ap (λ ns. get_or ns 0 0) wide-told)).1
+    (((forecast-hands-back wide (bytes_of printed_line) (replicate 9 9)).2 (lit≤ tt) example line-read).1 (ap (λ ns. get_or ns 0 0) wide-told)).1
     ∙ ap (λ figures. drop 1 figures ++ (9 ∷ [])) wide-told
 
 added-shown : Shown added_figures
@@ -108,7 +108,7 @@ added-shown = (
           (
             forecast-shown,
             (
-              ap (λ r. refusal_number r ∷ values r) line_read,
+              ap (λ r. refusal_number r ∷ values r) line-read,
               (refl, (refl, (refl, (refl, (refl, (snow-shown, (refl, (refl, (refl, (factor-shown, (longest-shown, tt))))))))))),
             ),
           ),

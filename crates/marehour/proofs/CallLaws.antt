@@ -1,5 +1,5 @@
 -- The calls of a host in C (specs/Calls): what a number is in 32 bits, and the reply by what was found.
---   minus-fits, minus_is     minus a refusal's number
+--   minus-fits, minus-is     minus a refusal's number
 --   handed-back              a number that another function handed back
 --   positive-is, positive-fits   a count or a speed
 --   Replied                  a call's result and its lent memory afterwards are those of a reply
@@ -27,7 +27,7 @@ use Rattle.checks.proofs.RefusalLaws.{unless_refused-none, unless_refused-some}
 use Rattle.text.specs.Bytes.{newline}
 use Rattle.text.specs.Buffer.{written, Wrote}
 use Rattle.text.proofs.DigitLaws.{decimal-small}
-use Rattle.text.proofs.BufferLaws.{first_byte, then-byte}
+use Rattle.text.proofs.BufferLaws.{first-byte, then-byte}
 use Rattle.road.specs.declared.Case.{Case}
 use Rattle.lines.specs.declared.read.LineRead.{LineRead}
 use Rattle.lines.specs.Reading.{read_line}
@@ -39,18 +39,18 @@ use Rattle.marehour.specs.Calls.{handed_back, content}
 small : (n : ℕ) → n ≤ 90000 → n < 2147483648
 small n h = lt_of_le_of_lt h (lit< tt)
 
-negative_fits : (n : ℕ) → n ≤ 99 → SFits w32 (neg_ℤ (pos n))
-negative_fits zero h = record { sfits = lit< tt }
-negative_fits (suc n) h = record { sfits = small n (omega arith) }
+negative-fits : (n : ℕ) → n ≤ 99 → SFits w32 (neg_ℤ (pos n))
+negative-fits zero h = record { sfits = lit< tt }
+negative-fits (suc n) h = record { sfits = small n (omega arith) }
 
-pub minus_is : (n : ℕ) → n ≤ 99 → pos 0 -ℤ to_z w32 n ≡ neg_ℤ (pos n)
-minus_is n h = ap (λ z. pos 0 -ℤ z) (to_z_pos w32 n (small n (omega arith))) ∙ +ℤ_idl (neg_ℤ (pos n))
+pub minus-is : (n : ℕ) → n ≤ 99 → pos 0 -ℤ to_z w32 n ≡ neg_ℤ (pos n)
+minus-is n h = ap (λ z. pos 0 -ℤ z) (to_z_pos w32 n (small n (omega arith))) ∙ +ℤ_idl (neg_ℤ (pos n))
 
 pub minus-fits : (n : ℕ) → n ≤ 99 → SFits w32 (pos 0 -ℤ to_z w32 n)
-minus-fits n h = rw (minus_is n h) (negative_fits n h)
+minus-fits n h = rw (minus-is n h) (negative-fits n h)
 
 pub handed-back : (z : ℤ) (n : ℕ) → n ≤ 99 → z ≡ neg_ℤ (pos n) → to_z w32 (of_z w32 z) ≡ neg_ℤ (pos n)
-handed-back z n h e = ap (λ x. to_z w32 (of_z w32 x)) e ∙ to_z-of_z w32 (neg_ℤ (pos n)) (negative_fits n h)
+handed-back z n h e = ap (λ x. to_z w32 (of_z w32 x)) e ∙ to_z-of_z w32 (neg_ℤ (pos n)) (negative-fits n h)
 
 pub positive-is : (n : ℕ) → n ≤ 90000 → to_z w32 n ≡ pos n
 positive-is n h = to_z_pos w32 n (small n h)
@@ -154,4 +154,4 @@ pub count-written : (count : ℕ) (old : List ℕ) → count ≤ 9 → 64 ≤ le
     → Wrote (count_text (count ∷ [])) 0 old (set (set old 0 (48 + count)) 1 newline) 2
 unfolding count_text
 count-written count old h room =
-    rw (decimal-small count (omega arith)) (then-byte newline (first_byte old 0 (48 + count) (omega arith)) (omega arith))
+    rw (decimal-small count (omega arith)) (then-byte newline (first-byte old 0 (48 + count) (omega arith)) (omega arith))

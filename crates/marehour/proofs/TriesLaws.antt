@@ -15,7 +15,7 @@ use Rattle.lines.specs.Fields.{layout, completed, spelled, number, one_of, lette
 use Rattle.lines.specs.Reading.{read_values, read_line}
 use Rattle.lines.proofs.ReadingLaws.{read_line-refused}
 use Rattle.marehour.specs.Tries.{tries_result, line_tries, TriesHandBack, TriesOfLines}
-use Rattle.marehour.proofs.Boundary.{line_read}
+use Rattle.marehour.proofs.Boundary.{line-read}
 
 pub tries-hand-back : TriesHandBack
 tries-hand-back line = (
@@ -29,6 +29,6 @@ tries-hand-back line = (
 pub tries-of-lines : TriesOfLines
 unfolding on_first parts layout completed spelled number one_of letter field_as values_of read_values read_line
 tries-of-lines = (
-  ap line_tries line_read ∙ rw (answer_to-accepted example example-accepted, example-tried.1),
+  ap line_tries line-read ∙ rw (answer_to-accepted example example-accepted, example-tried.1),
   (tries-hand-back (bytes_of "F")).0 15 refl,
 )

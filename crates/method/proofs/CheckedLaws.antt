@@ -5,7 +5,7 @@
 --   found-curve, found-refusal   what a check by any number found: a curve, its own, where the number is 0; else that refusal
 --   checked-accepted     a case that is checked and found with a curve is accepted, and the curve is its own
 --   checked-curve        which is well formed and within the sizes
---   checked_refused      a case that is checked and refused is not
+--   checked-refused      a case that is checked and refused is not
 --   checked-number       its number is the case's refusal
 --   by-accepted, by-refused   an answer to a case, of any type, by what the check found
 --   checked_curve-accepted, checked_curve-refused   the same where 10 alone is checked
@@ -74,8 +74,8 @@ pub checked-curve : (case : Case) (curve : Curve) → checked case ≡ Checked.A
 checked-curve case curve e =
     let found = checked-accepted case curve e in rw found.1 (case_curve-well_formed case found.0, case_curve-sized case found.0)
 
-pub checked_refused : (case : Case) (n : ℕ) → checked case ≡ Checked.Refused n → 0 < refusal case
-checked_refused case n e = (found-refusal (refusal case) (case_curve case) n e).0
+pub checked-refused : (case : Case) (n : ℕ) → checked case ≡ Checked.Refused n → 0 < refusal case
+checked-refused case n e = (found-refusal (refusal case) (case_curve case) n e).0
 
 pub checked-number : (case : Case) (n : ℕ) → checked case ≡ Checked.Refused n → refusal case ≡ n
 checked-number case n e = (found-refusal (refusal case) (case_curve case) n e).1
@@ -86,7 +86,7 @@ module _ {A : Type 0} (case : Case) (answer : A) (refused : ℕ → A) where
 
   pub by-refused : (n : ℕ) → checked case ≡ Checked.Refused n → refused n ≡ unless_refused (refusal case) answer refused
   by-refused n e =
-      sym (unless_refused-some (refusal case) answer refused (checked_refused case n e) ∙ ap refused (checked-number case n e))
+      sym (unless_refused-some (refusal case) answer refused (checked-refused case n e) ∙ ap refused (checked-number case n e))
 
 -- the same where 10 alone is checked, of a case that 1 to 9 and 19 do not refuse
 pub checked_curve-accepted : (case : Case) (curve : Curve) → FieldsFit case
@@ -97,4 +97,4 @@ checked_curve-accepted case curve z e = checked-accepted case curve (sym (checke
 pub checked_curve-refused : (case : Case) (n : ℕ) → FieldsFit case
     → checked_curve case.road case.weather case.lanes ≡ Checked.Refused n
     → 0 < refusal case
-checked_curve-refused case n z e = checked_refused case n (sym (checked_curve-eq case z) ∙ e)
+checked_curve-refused case n z e = checked-refused case n (sym (checked_curve-eq case z) ∙ e)

@@ -40,7 +40,7 @@ load_of-fits case n z =
     record {
       heavy-ge = omega arith;
       heavy-le = heavy_factor_of-le case ends.share-high;
-      divisor-pos = mul-pos (omega (arith, ends.factor-low)) (omega (arith, ends.lanes_low, kind.lanes-ge));
+      divisor-pos = mul-pos (omega (arith, ends.factor-low)) (omega (arith, ends.lanes-low, kind.lanes-ge));
       divisor-le = mul-le-mul {n₂ = 1000} {m₂ = 8} ends.factor-high (omega (arith, ends.lanes-high, kind.lanes-le));
     }
 

@@ -1,6 +1,6 @@
 -- Tests, and choices by a test.
---   T_true, T_false     a test that is true passes; one that is false does not
---   and_both, and_left, and_right   two tests that both pass
+--   T-true, T-false     a test that is true passes; one that is false does not
+--   and-both, and-left, and-right   two tests that both pass
 --   or-false            two tests of which none is met
 --   leb-iff             tests of facts that hold together are equal
 --   leb-test            a test of a fact is equal to a test that passes exactly when it holds
@@ -20,23 +20,23 @@ use native.Mathlib.Decide.{dec_le}
 use borrow.Author.Tests.{le-leb, lt-leb}
 use lib.Dec.{T, leb}
 
-pub T_true : (b : Bool) → b ≡ true → T b
-T_true b e = subst T (sym e) tt
+pub T-true : (b : Bool) → b ≡ true → T b
+T-true b e = subst T (sym e) tt
 
-pub T_false : (b : Bool) → b ≡ false → T b → ⊥
-T_false b e t = subst T e t
+pub T-false : (b : Bool) → b ≡ false → T b → ⊥
+T-false b e t = subst T e t
 
-pub and_both : (a b : Bool) → T a → T b → T (a && b)
-and_both true b s t = t
-and_both false b s t = s
+pub and-both : (a b : Bool) → T a → T b → T (a && b)
+and-both true b s t = t
+and-both false b s t = s
 
-pub and_left : (a b : Bool) → T (a && b) → T a
-and_left true b t = tt
-and_left false b t = t
+pub and-left : (a b : Bool) → T (a && b) → T a
+and-left true b t = tt
+and-left false b t = t
 
-pub and_right : (a b : Bool) → T (a && b) → T b
-and_right true b t = t
-and_right false b t = absurd t
+pub and-right : (a b : Bool) → T (a && b) → T b
+and-right true b t = t
+and-right false b t = absurd t
 
 pub or-false : (a b : Bool) → (a || b) ≡ false → (a ≡ false) × (b ≡ false)
 or-false true b e = absurd (true≢false e)

@@ -18,7 +18,7 @@ use native.Mathlib.Nat.{le_refl}
 use native.Mathlib.Numerals.{unary_clauses}
 use native.Mathlib.Decide.{dec_le}
 use borrow.Author.Tests.{lt-ltb, le-ltb}
-use Rattle.numbers.proofs.BoolLaws.{T_true, T_false, cond-all}
+use Rattle.numbers.proofs.BoolLaws.{T-true, T-false, cond-all}
 use Rattle.numbers.proofs.SearchLaws.{greatest-between}
 use Rattle.numbers.specs.Search.{greatest, DownwardClosed}
 use Rattle.numbers.specs.Halving.{middle, tried_between, tried_up_to}
@@ -113,10 +113,10 @@ module _ (p : ℕ → Bool) (end : ℕ) where
 
   module _ (low high tries : ℕ) (c : Halved p end low high tries) where
     -- of a step to nearer numbers, what is left to try is the rest
-    left_after : (low' high' : ℕ) → 1 < high - low
+    left-after : (low' high' : ℕ) → 1 < high - low
         → ((steps : ℕ) → tried_between p (suc steps) low high ≡ middle low high ∷ tried_between p steps low' high')
         → tries + 1 + length (tried_between p (end - (tries + 1)) low' high') ≡ length (tried_up_to p end)
-    left_after low' high' far rest =
+    left-after low' high' far rest =
         let left : end - tries ≡ suc (end - (tries + 1)) = omega (arith, c.near) in
         omega (arith, rw left at c.count, ap length (rest (end - (tries + 1))))
 
@@ -126,10 +126,10 @@ module _ (p : ℕ → Bool) (end : ℕ) where
         record {
           apart = omega arith;
           inside = c.inside;
-          passes = T_true _ e;
+          passes = T-true _ e;
           fails = c.fails;
           near = omega (arith, c.near);
-          count = left_after (middle low high) high far (λ steps. next p steps low high far ∙ simp e);
+          count = left-after (middle low high) high far (λ steps. next p steps low high far ∙ simp e);
         }
 
     pub halved-fails : 1 < high - low → p (middle low high) ≡ false → Halved p end low (middle low high) (tries + 1)
@@ -139,9 +139,9 @@ module _ (p : ℕ → Bool) (end : ℕ) where
           apart = omega arith;
           inside = omega (arith, c.inside);
           passes = c.passes;
-          fails = λ h. T_false _ e;
+          fails = λ h. T-false _ e;
           near = omega (arith, c.near);
-          count = left_after low (middle low high) far (λ steps. next p steps low high far ∙ simp e);
+          count = left-after low (middle low high) far (λ steps. next p steps low high far ∙ simp e);
         }
 
     pub halved-done : DownwardClosed p → high - low ≤ 1 → (greatest p end ≡ low) × (length (tried_up_to p end) ≡ tries)

@@ -1,6 +1,6 @@
 -- Lists made of one row of numbers for each thing of a list, whatever the rows are.
---   rows_append, rows_next   the rows of two lists; of one thing more
---   rows-length, rows_at     rows that are all as long: how many numbers they are; those of one thing
+--   rows-append, rows-next   the rows of two lists; of one thing more
+--   rows-length, rows-at     rows that are all as long: how many numbers they are; those of one thing
 -- Assumes nothing.
 use mathlib.Core.Path.{◌≡◌, refl, sym, ap, ◌∙◌}
 use mathlib.Core.List.{List, [], ◌∷◌, ◌++◌, flat_map, append_assoc, append-nil}
@@ -11,15 +11,15 @@ use lib.ListN.{length, take, drop, get_or, length-append}
 use lib.Seq.{take-suc, length-take-le, split_at, drop_at, take_at}
 
 module _ {A : Type 0} (row : A → List ℕ) where
-  pub rows_append : (xs ys : List A) → flat_map row (xs ++ ys) ≡ flat_map row xs ++ flat_map row ys
+  pub rows-append : (xs ys : List A) → flat_map row (xs ++ ys) ≡ flat_map row xs ++ flat_map row ys
   unfolding flat_map
-  rows_append [] ys = refl
-  rows_append (x ∷ xs) ys = ap (λ l. row x ++ l) (rows_append xs ys) ∙ sym (append_assoc (row x) (flat_map row xs) (flat_map row ys))
+  rows-append [] ys = refl
+  rows-append (x ∷ xs) ys = ap (λ l. row x ++ l) (rows-append xs ys) ∙ sym (append_assoc (row x) (flat_map row xs) (flat_map row ys))
 
-  pub rows_next : (xs : List A) (i : ℕ) (d : A) → i < length xs
+  pub rows-next : (xs : List A) (i : ℕ) (d : A) → i < length xs
       → flat_map row (take (i + 1) xs) ≡ flat_map row (take i xs) ++ row (get_or xs i d)
   unfolding flat_map
-  rows_next xs i d h = rw (add-one i, take-suc xs i d h, rows_append (take i xs) (get_or xs i d ∷ []), append-nil)
+  rows-next xs i d h = rw (add-one i, take-suc xs i d h, rows-append (take i xs) (get_or xs i d ∷ []), append-nil)
 
   module _ (width : ℕ) (long : (x : A) → length (row x) ≡ width) where
     pub rows-length : (xs : List A) → length (flat_map row xs) ≡ width * length xs
@@ -27,16 +27,16 @@ module _ {A : Type 0} (row : A → List ℕ) where
     rows-length [] = omega arith
     rows-length (x ∷ xs) = omega (arith, length-append (row x) (flat_map row xs), long x, rows-length xs)
 
-    pub rows_at : (xs : List A) (rest : List ℕ) (i : ℕ) (d : A) → i < length xs
+    pub rows-at : (xs : List A) (rest : List ℕ) (i : ℕ) (d : A) → i < length xs
         → take width (drop (width * i) (flat_map row xs ++ rest)) ≡ row (get_or xs i d)
     unfolding flat_map
-    rows_at xs rest i d h =
+    rows-at xs rest i d h =
         let front : List ℕ = flat_map row (take i xs) in
         let own : List ℕ = row (get_or xs i d) in
         let behind : List ℕ = flat_map row (drop (suc i) xs) in
         let parts : flat_map row xs ++ rest ≡ front ++ (own ++ (behind ++ rest)) =
         ap (λ l. flat_map row l ++ rest) (split_at xs i d h)
-        ∙ ap (λ l. l ++ rest) (rows_append (take i xs) (get_or xs i d ∷ drop (suc i) xs))
+        ∙ ap (λ l. l ++ rest) (rows-append (take i xs) (get_or xs i d ∷ drop (suc i) xs))
         ∙ append_assoc front (own ++ behind) rest
         ∙ ap (λ l. front ++ l) (append_assoc own behind rest) in
         ap (λ l. take width (drop (width * i) l)) parts

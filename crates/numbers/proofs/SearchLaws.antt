@@ -3,7 +3,7 @@
 --   greatest-passes   it passes, where 0 passes
 --   le-greatest       what passes is at most it
 --   greatest-eq       it is s where s passes and nothing above s does
---   greatest_iff      of a test that is downward closed: a number passes exactly when it is at most the greatest
+--   greatest-iff      of a test that is downward closed: a number passes exactly when it is at most the greatest
 --   ends_at-passes     a test that ends at s passes there
 --   ends_at-most       of a test that is downward closed: where it ends at s, what passes is at most s
 --   greatest-last     of a test that is downward closed: it is s where the test ends at s
@@ -16,7 +16,7 @@
 --   least-le-of       it is at most what passes
 --   least-eq          it is s where s passes and nothing below s does
 --   least-none        it is the bound where nothing below it passes
---   least_first       of a test that is upward closed: it is s where the test starts at s
+--   least-first       of a test that is upward closed: it is s where the test starts at s
 -- Assumes nothing.
 use mathlib.Core.Path.{◌≡◌, refl, sym, ap, subst, ◌∙◌}
 use mathlib.Core.Bool.{Bool, true, false, cond, not}
@@ -26,7 +26,7 @@ use Prim.Native.Nat.{ℕ, zero, suc, ◌+◌, ◌≤◌, ◌<◌, zero-le}
 use native.Mathlib.Omega.{arith}
 use native.Mathlib.Nat.{le_refl, le_trans, le_antisymm}
 use native.Mathlib.Decide.{dec_le}
-use Rattle.numbers.proofs.BoolLaws.{and_left, and_right}
+use Rattle.numbers.proofs.BoolLaws.{and-left, and-right}
 use Rattle.numbers.specs.Search.{greatest, least_from, least, DownwardClosed, UpwardClosed, ends_at, starts_at}
 
 -- one step of a search downwards: it takes suc n where that passes, and what is found up to n where it does not
@@ -39,9 +39,9 @@ module _ (p : ℕ → Bool) (n g : ℕ) where
   step-passes true e t = subst T (sym e) tt
   step-passes false e t = t
 
-  le_step : (x : ℕ) (b : Bool) → p (suc n) ≡ b → x ≤ suc n → T (p x) → (x ≤ n → x ≤ g) → x ≤ cond b (suc n) g
-  le_step x true e h t below = h
-  le_step x false e h t below = go (dec_le x n)
+  le-step : (x : ℕ) (b : Bool) → p (suc n) ≡ b → x ≤ suc n → T (p x) → (x ≤ n → x ≤ g) → x ≤ cond b (suc n) g
+  le-step x true e h t below = h
+  le-step x false e h t below = go (dec_le x n)
     where
       go : Dec (x ≤ n) → x ≤ g
       go (yes l) = below l
@@ -60,7 +60,7 @@ greatest-passes p (suc n) t = step-passes p n (greatest p n) (p (suc n)) refl (g
 pub le-greatest : (p : ℕ → Bool) (n x : ℕ) → x ≤ n → T (p x) → x ≤ greatest p n
 unfolding greatest
 le-greatest p zero x h t = h
-le-greatest p (suc n) x h t = le_step p n (greatest p n) x (p (suc n)) refl h t (λ l. le-greatest p n x l t)
+le-greatest p (suc n) x h t = le-step p n (greatest p n) x (p (suc n)) refl h t (λ l. le-greatest p n x l t)
 
 -- it is 0 or passes
 greatest-cases : (p : ℕ → Bool) (n : ℕ) → (greatest p n ≡ 0) ⊎ T (p (greatest p n))
@@ -89,12 +89,12 @@ greatest-eq p n s h t above = ⊎_elim zero-case passes-case (greatest-cases p n
         go (yes l) = omega (arith, low)
         go (no l) = absurd (above (greatest p n) (omega arith) (greatest-le p n) g)
 
-pub greatest_iff : (p : ℕ → Bool) (n x : ℕ) → T (p 0) → DownwardClosed p → x ≤ n → T (p x) ↔ (x ≤ greatest p n)
-greatest_iff p n x z falls h = (le-greatest p n x h, λ l. falls x (greatest p n) l (greatest-passes p n z))
+pub greatest-iff : (p : ℕ → Bool) (n x : ℕ) → T (p 0) → DownwardClosed p → x ≤ n → T (p x) ↔ (x ≤ greatest p n)
+greatest-iff p n x z falls h = (le-greatest p n x h, λ l. falls x (greatest p n) l (greatest-passes p n z))
 
 pub ends_at-passes : (p : ℕ → Bool) (s : ℕ) → T (ends_at p s) → T (p s)
 unfolding ends_at
-ends_at-passes p s t = and_left (p s) (not (p (suc s))) t
+ends_at-passes p s t = and-left (p s) (not (p (suc s))) t
 
 pub ends_at-most : (p : ℕ → Bool) (s x : ℕ) → DownwardClosed p → T (ends_at p s) → T (p x) → x ≤ s
 unfolding ends_at
@@ -102,7 +102,7 @@ ends_at-most p s x falls t e = go (dec_le x s)
   where
     go : Dec (x ≤ s) → x ≤ s
     go (yes l) = l
-    go (no l) = absurd (T_not (p (suc s)) (and_right (p s) (not (p (suc s))) t) (falls (suc s) x (omega arith) e))
+    go (no l) = absurd (T_not (p (suc s)) (and-right (p s) (not (p (suc s))) t) (falls (suc s) x (omega arith) e))
 
 pub greatest-last : (p : ℕ → Bool) (n s : ℕ) → DownwardClosed p → s ≤ n → T (ends_at p s) → greatest p n ≡ s
 greatest-last p n s falls h t =
@@ -134,15 +134,15 @@ record First (p : ℕ → Bool) (a n r : ℕ) : Type 0 where
   passes : r < a + n → T (p r)
   first : (x : ℕ) → a ≤ x → x < a + n → T (p x) → r ≤ x
 
-first_step : (p : ℕ → Bool) (a n r : ℕ) (b : Bool) → p a ≡ b → First p (suc a) n r → First p a (suc n) (cond b a r)
-first_step p a n r true e f =
+first-step : (p : ℕ → Bool) (a n r : ℕ) (b : Bool) → p a ≡ b → First p (suc a) n r → First p a (suc n) (cond b a r)
+first-step p a n r true e f =
     record {
       starts = le_refl a;
       ends = omega arith;
       passes = λ l. subst T (sym e) tt;
       first = λ x l u t. l;
     }
-first_step p a n r false e f =
+first-step p a n r false e f =
     record {
       starts = omega (arith, f.starts);
       ends = omega (arith, f.ends);
@@ -163,7 +163,7 @@ least_from-first p a zero =
       passes = λ l. absurd (omega arith);
       first = λ x l u t. l;
     }
-least_from-first p a (suc n) = first_step p a n (least_from p (suc a) n) (p a) refl (least_from-first p (suc a) n)
+least_from-first p a (suc n) = first-step p a n (least_from p (suc a) n) (p a) refl (least_from-first p (suc a) n)
 
 least-found : (p : ℕ → Bool) (n : ℕ) → First p 0 n (least p n)
 unfolding least
@@ -195,9 +195,9 @@ least-none p n none = go (dec_le n (least p n))
     go (yes l) = le_antisymm (least-le p n) l
     go (no l) = absurd (none (least p n) (omega arith) (least-passes p n (omega arith)))
 
-pub least_first : (p : ℕ → Bool) (n s : ℕ) → UpwardClosed p → s < n → T (starts_at p s) → least p n ≡ s
+pub least-first : (p : ℕ → Bool) (n s : ℕ) → UpwardClosed p → s < n → T (starts_at p s) → least p n ≡ s
 unfolding starts_at
-least_first p n zero rises h t = least-eq p n 0 h t (λ k l. absurd (omega arith))
-least_first p n (suc s) rises h t =
-    least-eq p n (suc s) h (and_left (p (suc s)) (not (p s)) t)
-    (λ k l e. T_not (p s) (and_right (p (suc s)) (not (p s)) t) (rises k s (omega arith) e))
+least-first p n zero rises h t = least-eq p n 0 h t (λ k l. absurd (omega arith))
+least-first p n (suc s) rises h t =
+    least-eq p n (suc s) h (and-left (p (suc s)) (not (p s)) t)
+    (λ k l e. T_not (p s) (and-right (p (suc s)) (not (p s)) t) (rises k s (omega arith) e))

@@ -1,9 +1,9 @@
 -- T (specs/Power): the table's rule and its rise, by one test that is computed over all 1,001 entries.
 --   power_table-at    the entry at i is T(i)
 --   power-eq         T(i) is t where t reaches the power and the number before does not
---   power_zero       T(0) is 0
+--   power-zero       T(0) is 0
 --   power-mono       T rises
---   power_le         no T is above 1,000,000
+--   power-le         no T is above 1,000,000
 -- Assumes nothing.
 use mathlib.Core.Path.{◌≡◌, refl}
 use mathlib.Core.Bool.{Bool, ◌&&◌}
@@ -16,8 +16,8 @@ use lib.Dec.{T, leb, leb→le, le→leb}
 use lib.ListN.{get_or, length}
 use Rattle.numbers.specs.Search.{UpwardClosed, starts_at}
 use Rattle.numbers.specs.Table.{every_entry}
-use Rattle.numbers.proofs.SearchLaws.{least_first}
-use Rattle.numbers.proofs.BoolLaws.{and_left, and_right}
+use Rattle.numbers.proofs.SearchLaws.{least-first}
+use Rattle.numbers.proofs.BoolLaws.{and-left, and-right}
 use Rattle.numbers.proofs.TableLaws.{every_entry-at}
 use Rattle.powers.specs.Power.{reaches_power, power}
 use Rattle.powers.proofs.PowerTable.{power_table}
@@ -26,9 +26,9 @@ use Rattle.powers.proofs.PowerTable.{power_table}
 fits : ℕ → ℕ → ℕ → Bool
 fits i before t = leb before t && (leb t 1000000 && starts_at (reaches_power i) t)
 
-table_fits : T (every_entry fits power_table)
+table-fits : T (every_entry fits power_table)
 unfolding power_table fits starts_at reaches_power
-table_fits = tt
+table-fits = tt
 
 table-length : length power_table ≡ 1001
 unfolding power_table
@@ -41,36 +41,36 @@ reaches_power-rises i s t h e =
 
 pub power-eq : (i t : ℕ) → t ≤ 1000000 → T (starts_at (reaches_power i) t) → power i ≡ t
 unfolding power
-power-eq i t h e = least_first (reaches_power i) 1000001 t (reaches_power-rises i) (omega arith) e
+power-eq i t h e = least-first (reaches_power i) 1000001 t (reaches_power-rises i) (omega arith) e
 
 entry-fits : (i : ℕ) → i ≤ 1000 → T (fits i (get_or (0 ∷ power_table) i 0) (get_or power_table i 0))
-entry-fits i h = every_entry-at fits power_table table_fits i (omega (arith, table-length))
+entry-fits i h = every_entry-at fits power_table table-fits i (omega (arith, table-length))
 
 module _ (i before t : ℕ) (e : T (fits i before t)) where
   rest : T (leb t 1000000 && starts_at (reaches_power i) t)
   unfolding fits
-  rest = and_right (leb before t) (leb t 1000000 && starts_at (reaches_power i) t) e
+  rest = and-right (leb before t) (leb t 1000000 && starts_at (reaches_power i) t) e
 
   entry-rises : before ≤ t
   unfolding fits
-  entry-rises = leb→le before t (and_left (leb before t) (leb t 1000000 && starts_at (reaches_power i) t) e)
+  entry-rises = leb→le before t (and-left (leb before t) (leb t 1000000 && starts_at (reaches_power i) t) e)
 
   entry-le : t ≤ 1000000
-  entry-le = leb→le t 1000000 (and_left (leb t 1000000) (starts_at (reaches_power i) t) rest)
+  entry-le = leb→le t 1000000 (and-left (leb t 1000000) (starts_at (reaches_power i) t) rest)
 
   entry-power : power i ≡ t
-  entry-power = power-eq i t entry-le (and_right (leb t 1000000) (starts_at (reaches_power i) t) rest)
+  entry-power = power-eq i t entry-le (and-right (leb t 1000000) (starts_at (reaches_power i) t) rest)
 
 pub power_table-at : (i : ℕ) → i ≤ 1000 → power i ≡ get_or power_table i 0
 power_table-at i h = entry-power i (get_or (0 ∷ power_table) i 0) (get_or power_table i 0) (entry-fits i h)
 
-pub power_le : (i : ℕ) → i ≤ 1000 → power i ≤ 1000000
-power_le i h =
+pub power-le : (i : ℕ) → i ≤ 1000 → power i ≤ 1000000
+power-le i h =
     rw (power_table-at i h) (entry-le i (get_or (0 ∷ power_table) i 0) (get_or power_table i 0) (entry-fits i h))
 
-pub power_zero : power 0 ≡ 0
+pub power-zero : power 0 ≡ 0
 unfolding starts_at reaches_power
-power_zero = power-eq 0 0 (omega arith) tt
+power-zero = power-eq 0 0 (omega arith) tt
 
 -- T(i) is at most the T after it: the table's rise at the next place
 power-next : (i : ℕ) → suc i ≤ 1000 → power i ≤ power (suc i)

@@ -90,22 +90,22 @@ unfolding total_clearance
 total_clearance-le m r l = omega (arith, counted_left_clearance-le m l)
 
 -- a test that passes at each tenth to 120 in each of the two rows passes there with any lanes
-at_row : (p : List ℕ → ℕ → Bool) → T (every_up_to (p two_lane_row) 120) → T (every_up_to (p three_lane_row) 120)
+at-row : (p : List ℕ → ℕ → Bool) → T (every_up_to (p two_lane_row) 120) → T (every_up_to (p three_lane_row) 120)
     → (n x : ℕ) → x ≤ 120 → T (p (total_clearance_row n) x)
 unfolding total_clearance_row
-at_row p two three n x h =
+at-row p two three n x h =
     every_up_to-at (p (total_clearance_row n)) 120 (cond-all (λ row. T (every_up_to (p row) 120)) (leb n 2) two three) x h
 
 pub total_clearance_adjustment-whole : (n s : ℕ) → 20 * total_clearance_adjustment n s ≡ weighted_sum (total_clearance_row n) 20 (120 - s)
 unfolding div_up two_lane_row three_lane_row entry_before entry_after weighted_sum interpolated total_clearance_adjustment
 total_clearance_adjustment-whole n s =
     eqb→eq (20 * total_clearance_adjustment n s) (weighted_sum (total_clearance_row n) 20 (120 - s))
-    (at_row (λ row x. eqb (20 * interpolated row 20 x) (weighted_sum row 20 x)) tt tt n (120 - s) (omega arith))
+    (at-row (λ row x. eqb (20 * interpolated row 20 x) (weighted_sum row 20 x)) tt tt n (120 - s) (omega arith))
 
 pub total_clearance_row-line-le : (n x : ℕ) → x ≤ 120 → interpolated (total_clearance_row n) 20 x ≤ 5400
 unfolding div_up two_lane_row three_lane_row entry_before entry_after weighted_sum interpolated
 total_clearance_row-line-le n x h =
-    leb→le (interpolated (total_clearance_row n) 20 x) 5400 (at_row (λ row y. leb (interpolated row 20 y) 5400) tt tt n x h)
+    leb→le (interpolated (total_clearance_row n) 20 x) 5400 (at-row (λ row y. leb (interpolated row 20 y) 5400) tt tt n x h)
 
 pub total_clearance_adjustment-le : (n s : ℕ) → total_clearance_adjustment n s ≤ 5400
 unfolding total_clearance_adjustment
@@ -116,7 +116,7 @@ three_lanes-le : (n s : ℕ) → interpolated three_lane_row 20 (120 - s) ≤ to
 unfolding div_up two_lane_row three_lane_row entry_before entry_after weighted_sum interpolated total_clearance_adjustment
 three_lanes-le n s =
     leb→le (interpolated three_lane_row 20 (120 - s)) (total_clearance_adjustment n s)
-    (at_row (λ row x. leb (interpolated three_lane_row 20 x) (interpolated row 20 x)) tt tt n (120 - s) (omega arith))
+    (at-row (λ row x. leb (interpolated three_lane_row 20 x) (interpolated row 20 x)) tt tt n (120 - s) (omega arith))
 
 pub total_clearance_adjustment-antitone : (m n s : ℕ) → m ≤ n → total_clearance_adjustment n s ≤ total_clearance_adjustment m s
 unfolding total_clearance_row total_clearance_adjustment
@@ -131,12 +131,12 @@ pub total_clearance_row-rises : (n x : ℕ) → x ≤ 120 → entry_before (tota
 unfolding div_up two_lane_row three_lane_row entry_before entry_after
 total_clearance_row-rises n x h =
     leb→le (entry_before (total_clearance_row n) 20 x) (entry_after (total_clearance_row n) 20 x)
-    (at_row (λ row y. leb (entry_before row 20 y) (entry_after row 20 y)) tt tt n x h)
+    (at-row (λ row y. leb (entry_before row 20 y) (entry_after row 20 y)) tt tt n x h)
 
 pub total_clearance_row-after-le : (n x : ℕ) → x ≤ 120 → entry_after (total_clearance_row n) 20 x ≤ 5400
 unfolding div_up two_lane_row three_lane_row entry_after
 total_clearance_row-after-le n x h =
-    leb→le (entry_after (total_clearance_row n) 20 x) 5400 (at_row (λ row y. leb (entry_after row 20 y) 5400) tt tt n x h)
+    leb→le (entry_after (total_clearance_row n) 20 x) 5400 (at-row (λ row y. leb (entry_after row 20 y) 5400) tt tt n x h)
 
 pub median_adjustment-le : (m : Median) → median_adjustment m ≤ 1600
 median_adjustment-le Median.Undivided = omega arith

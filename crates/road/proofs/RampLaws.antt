@@ -15,7 +15,7 @@ use lib.ListN.{get_or, length}
 use Rattle.numbers.specs.Search.{DownwardClosed, ends_at}
 use Rattle.numbers.specs.Table.{every_entry}
 use Rattle.numbers.proofs.SearchLaws.{greatest-le, greatest-last, ends_at-passes, ends_at-most}
-use Rattle.numbers.proofs.BoolLaws.{and_left, and_right}
+use Rattle.numbers.proofs.BoolLaws.{and-left, and-right}
 use Rattle.numbers.proofs.TableLaws.{every_entry-at}
 use Rattle.road.specs.RampTerm.{ramp_at_most, ramp_term}
 use Rattle.road.proofs.RampTable.{ramp_table}
@@ -38,9 +38,9 @@ ramp_term-le k = greatest-le (ramp_at_most k) 19000
 fits : ℕ → ℕ → ℕ → Bool
 fits k before t = leb t 19000 && ends_at (ramp_at_most k) t
 
-table_fits : T (every_entry fits ramp_table)
+table-fits : T (every_entry fits ramp_table)
 unfolding ramp_table fits ends_at ramp_at_most
-table_fits = tt
+table-fits = tt
 
 table-length : length ramp_table ≡ 49
 unfolding ramp_table
@@ -52,15 +52,15 @@ module _ (k : ℕ) (h : k ≤ 48) where
 
   entry-fits : T (fits k (get_or (0 ∷ ramp_table) k 0) entry)
   unfolding entry
-  entry-fits = every_entry-at fits ramp_table table_fits k (omega (arith, table-length))
+  entry-fits = every_entry-at fits ramp_table table-fits k (omega (arith, table-length))
 
   entry-ends : T (ends_at (ramp_at_most k) entry)
   unfolding fits
-  entry-ends = and_right (leb entry 19000) (ends_at (ramp_at_most k) entry) entry-fits
+  entry-ends = and-right (leb entry 19000) (ends_at (ramp_at_most k) entry) entry-fits
 
   pub ramp_table-at : ramp_term k ≡ get_or ramp_table k 0
   unfolding entry fits
-  ramp_table-at = ramp_term-eq k entry (leb→le entry 19000 (and_left (leb entry 19000) (ends_at (ramp_at_most k) entry) entry-fits)) entry-ends
+  ramp_table-at = ramp_term-eq k entry (leb→le entry 19000 (and-left (leb entry 19000) (ends_at (ramp_at_most k) entry) entry-fits)) entry-ends
 
   pub ramp_term-rule : (ramp_term k ^ 25 * 6 ^ 21 ≤ 3220 ^ 25 * k ^ 21) × ((t : ℕ) → t ^ 25 * 6 ^ 21 ≤ 3220 ^ 25 * k ^ 21 → t ≤ ramp_term k)
   unfolding ramp_at_most entry

@@ -18,7 +18,7 @@ use borrow.Author.Tests.{ltb-false, le-ltb}
 use lib.Dec.{T}
 use Rattle.numbers.proofs.BoolLaws.{or-false}
 use Rattle.checks.specs.Refusals.{first_refusal, found, outside}
-use Rattle.checks.proofs.RefusalLaws.{numbered, first_refusal-none, first_refusal-join, first_refusal-found, found_none, none-met, none_of}
+use Rattle.checks.proofs.RefusalLaws.{numbered, first_refusal-none, first_refusal-join, first_refusal-found, found-none, none-met, none-of}
 use Rattle.checks.proofs.RefusalLaws.{within, inside}
 use Rattle.curve.specs.declared.kind.Kind.{Kind}
 use Rattle.curve.specs.declared.Weather.{Weather}
@@ -56,7 +56,7 @@ pub with-parts : (case : Case) (loads : ℕ) → first_refusal (field_refusals_w
     → SectionFits case × (loads ≡ 0) × (first_refusal (weather_refusals case) ≡ 0)
 with-parts case loads z =
     let p = first_refusal-join (section_refusals case) (found loads ++ weather_refusals case) (section-numbered case) z in
-    let q = found_none loads (weather_refusals case) p.1 in
+    let q = found-none loads (weather_refusals case) p.1 in
     (p.0, q.0, q.1)
 
 -- a case that none of them refuses: neither 1 to 6 nor 7 to 9 nor 19 do; and the converse
@@ -109,14 +109,14 @@ loads-exactly case = (
       let factor = within 250 1000 case.peak_hour_factor none.1.0 in
       (ltb-false greatest_demand case.demand none.0, factor.0, factor.1, ltb-false 1000 case.heavy_share none.1.1.0),
   λ (demand, low, high, share).
-      none_of (load_refusals case) (
+      none-of (load_refusals case) (
         le-ltb greatest_demand case.demand demand,
         (inside 250 1000 case.peak_hour_factor low high, (le-ltb 1000 case.heavy_share share, tt)),
       ),
 )
 
 pub record LoadEnds (case : Case) : Type 0 where
-  pub lanes_low : fewest_lanes case.road.kind ≤ case.lanes
+  pub lanes-low : fewest_lanes case.road.kind ≤ case.lanes
   pub lanes-high : case.lanes ≤ most_lanes case.road.kind
   pub demand-high : case.demand ≤ greatest_demand
   pub factor-low : 250 ≤ case.peak_hour_factor
@@ -129,7 +129,7 @@ load-ends case z =
     let lanes = within (fewest_lanes case.road.kind) (most_lanes case.road.kind) case.lanes (section-parts case section).1 in
     let (demand, factor-low, factor-high, share) = (loads-exactly case).0 loads in
     record {
-      lanes_low = lanes.0;
+      lanes-low = lanes.0;
       lanes-high = lanes.1;
       demand-high = demand;
       factor-low = factor-low;
@@ -173,5 +173,5 @@ fields-with_lanes case n z h k =
     fields-of (with_lanes case n)
     (first_refusal-none (road_refusals case.road) (lane_refusals (with_lanes case n)) (road-numbered case.road)
     (section-road case section)
-    ∙ none_of (lane_refusals (with_lanes case n)) (inside (fewest_lanes case.road.kind) (most_lanes case.road.kind) n h k, tt))
+    ∙ none-of (lane_refusals (with_lanes case n)) (inside (fewest_lanes case.road.kind) (most_lanes case.road.kind) n h k, tt))
     loads weather

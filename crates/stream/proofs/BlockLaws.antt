@@ -1,7 +1,7 @@
 -- Lines of a block answered one after the other, and the last line (specs/Turns, specs/Stream).
 --   Answering            some lines of a block are answered, and what is left to do
 --   begun, answered-one, stopped   at the start; one line more; at the end
---   last_none, last_one  what is left is empty, or one line
+--   last-none, last-one  what is left is empty, or one line
 -- Assumes nothing.
 use mathlib.Core.Path.{◌≡◌, refl, sym, ap, ◌∙◌}
 use mathlib.Core.List.{List, [], ◌∷◌, ◌++◌, flat_map, append_assoc, append-nil}
@@ -13,7 +13,7 @@ use borrow.Author.Tests.{ne_eqb}
 use Rattle.text.specs.Bytes.{newline}
 use Rattle.text.specs.Parts.{count_before}
 use Rattle.text.specs.Buffer.{Wrote}
-use Rattle.text.proofs.BufferLaws.{then, none_written}
+use Rattle.text.proofs.BufferLaws.{then, none-written}
 use Rattle.stream.specs.Stream.{LineTexts, texts, last_line, lines_of}
 use Rattle.stream.specs.Turns.{answered, size}
 use Rattle.stream.proofs.StreamLaws.{texts-append, size-append, lines_of-last, next-line}
@@ -32,7 +32,7 @@ unfolding flat_map texts size
 begun t block old = record {
   done = [];
   all = ap (λ (r : ℕ). answered t r block) (omega arith);
-  wrote = record { content = sym (none_written 0 old); ends = refl };
+  wrote = record { content = sym (none-written 0 old); ends = refl };
   reads = refl;
   within = omega arith;
   room = omega arith;
@@ -77,10 +77,10 @@ module _ (t : LineTexts) (block old mid : List ℕ) (p w e : ℕ) (a : Answering
 
 -- ---- the last line
 module _ (t : LineTexts) (held : List ℕ) (h : count_before newline held ≡ length held) where
-  pub last_none : (old : List ℕ) → length held ≡ 0 → Wrote (texts t (lines_of held)) 0 old old 0
+  pub last-none : (old : List ℕ) → length held ≡ 0 → Wrote (texts t (lines_of held)) 0 old old 0
   unfolding flat_map texts last_line
-  last_none old z = rw (lines_of-last held h, z) (record { content = sym (none_written 0 old); ends = refl })
+  last-none old z = rw (lines_of-last held h, z) (record { content = sym (none-written 0 old); ends = refl })
 
-  pub last_one : (length held ≡ 0 → ⊥) → texts t (lines_of held) ≡ t.text held
+  pub last-one : (length held ≡ 0 → ⊥) → texts t (lines_of held) ≡ t.text held
   unfolding last_line
-  last_one n = rw (lines_of-last held h, ne_eqb (length held) 0 n) (one-text t held)
+  last-one n = rw (lines_of-last held h, ne_eqb (length held) 0 n) (one-text t held)

@@ -1,7 +1,7 @@
 -- Bytes carried over to the start of a buffer (specs/Turns).
 --   moved                one byte moved
---   cut_short, cut_line, cut-long, cut-le   how many bytes are kept
---   cut-within, cut_moved   of the first n bytes from a place on
+--   cut-short, cut-line, cut-long, cut-le   how many bytes are kept
+--   cut-within, cut-moved   of the first n bytes from a place on
 --   carried-is           what a turn carries over of the first n bytes
 --   carried-short        where no whole line is left, one more than the longest line at most is carried over
 -- Assumes nothing.
@@ -21,7 +21,7 @@ use Rattle.text.specs.Bytes.{newline}
 use Rattle.text.specs.Parts.{count_before}
 use Rattle.stream.specs.Stream.{LineTexts}
 use Rattle.stream.specs.Turns.{answered, size, cut_off, carried}
-use Rattle.stream.proofs.StreamLaws.{none_left}
+use Rattle.stream.proofs.StreamLaws.{none-left}
 
 -- ---- bytes moved
 step : (s d : List ℕ) (i : ℕ) → i < length s → length s ≤ length d
@@ -44,8 +44,8 @@ moved d mid from i h e =
     ∙ get_or-drop i d from 0 ∙ ap (λ (k : ℕ). get_or d k 0) (add_comm i from) ∙ sym (get_or-drop from d i 0) in
     rw (b, e) (step (drop from d) d i (omega (arith, length-drop from d)) (omega (arith, length-drop from d)))
 
-take_min : (k : ℕ) (r : List ℕ) → take (min k (length r)) r ≡ take k r
-take_min k r = go (dec_le (length r) k)
+take-min : (k : ℕ) (r : List ℕ) → take (min k (length r)) r ≡ take k r
+take-min k r = go (dec_le (length r) k)
   where
     go : Dec (length r ≤ k) → take (min k (length r)) r ≡ take k r
     go (yes h) = let e : min k (length r) ≡ length r = omega arith in rw e (take-length r ∙ sym (take_all k r h))
@@ -60,18 +60,18 @@ drop-take (suc f) (suc n) (x ∷ l) h = let e : suc n - suc f ≡ n - f = omega 
 -- ---- how many bytes are kept
 module _ (kept : ℕ) where
   -- few enough
-  pub cut_short : (r : List ℕ) → length r ≤ kept → length r ≡ length (cut_off kept r)
+  pub cut-short : (r : List ℕ) → length r ≤ kept → length r ≡ length (cut_off kept r)
   unfolding cut_off
-  cut_short r h = go (ltb (count_before newline r) (length r))
+  cut-short r h = go (ltb (count_before newline r) (length r))
     where
       go : (v : Bool) → length r ≡ length (cond v r (take kept r))
       go true = refl
       go false = ap length (sym (take_all kept r h))
 
   -- with a whole line
-  pub cut_line : (r : List ℕ) → count_before newline r < length r → length r ≡ length (cut_off kept r)
+  pub cut-line : (r : List ℕ) → count_before newline r < length r → length r ≡ length (cut_off kept r)
   unfolding cut_off
-  cut_line r h = rw (lt-ltb (count_before newline r) (length r) h)
+  cut-line r h = rw (lt-ltb (count_before newline r) (length r) h)
 
   -- of a line that is too long
   pub cut-long : (r : List ℕ) → kept < length r → length r ≤ count_before newline r → kept ≡ length (cut_off kept r)
@@ -85,7 +85,7 @@ module _ (kept : ℕ) where
     where
       go : (v : Bool) → take (length (cond v r (take kept r))) r ≡ cond v r (take kept r)
       go true = take-length r
-      go false = rw (length-take kept r) (take_min kept r)
+      go false = rw (length-take kept r) (take-min kept r)
 
   pub cut-le : (r : List ℕ) → length (cut_off kept r) ≤ length r
   cut-le r = omega (arith, ap length (cut-is r), length-take (length (cut_off kept r)) r)
@@ -95,9 +95,9 @@ module _ (kept : ℕ) where
     pub cut-within : length (cut_off kept (take (n - from) (drop from old))) ≤ n - from
     cut-within = omega (arith, cut-le (take (n - from) (drop from old)), length-take (n - from) (drop from old))
 
-    pub cut_moved : take (length (cut_off kept (take (n - from) (drop from old)))) (drop from old)
+    pub cut-moved : take (length (cut_off kept (take (n - from) (drop from old)))) (drop from old)
         ≡ cut_off kept (take (n - from) (drop from old))
-    cut_moved =
+    cut-moved =
         sym (take-take (length (cut_off kept (take (n - from) (drop from old)))) (n - from) (drop from old) cut-within)
         ∙ cut-is (take (n - from) (drop from old))
 
@@ -113,5 +113,5 @@ module _ (t : LineTexts) where
       → length (carried t room held) ≤ suc t.longest_line
   unfolding size cut_off carried
   carried-short room held h =
-      rw (none_left t room held h, le-ltb (count_before newline held) (length held) (omega arith))
+      rw (none-left t room held h, le-ltb (count_before newline held) (length held) (omega arith))
       (omega (arith, length-take (suc t.longest_line) held))

@@ -1,10 +1,10 @@
 -- An input answered line by line, a turn at a time (specs/Stream, specs/Turns).
 --   first_line, after_first        the bytes before the first newline, and those after it
---   none_left, full, next-line   what a turn answers: no whole line is left, no room is left, a line and the rest
+--   none-left, full, next-line   what a turn answers: no whole line is left, no room is left, a line and the rest
 --   texts-append, size-append    the texts and the size of lines in two stretches
 --   turn-law     a turn prints the texts of some lines, and what it carries over stands for the rest
 --   lines_of-last where no newline is held, the lines are the last one
---   nothing_left, carried-newline   where there is room and nothing is printed, no whole line is left, and none is carried over
+--   nothing-left, carried-newline   where there is room and nothing is printed, no whole line is left, and none is carried over
 -- Assumes nothing.
 use mathlib.Core.Path.{◌≡◌, refl, sym, ap, ◌∙◌}
 use mathlib.Core.Bool.{Bool, true, false, cond}
@@ -18,10 +18,10 @@ use lib.Dec.{eqb}
 use lib.ListN.{length, take, drop, length-append, length-drop}
 use lib.Seq.{drop-drop, length-take-le, take-append-le, drop-append-le, take_all}
 use borrow.Author.Tests.{lt-ltb, le-ltb, ne_eqb}
-use Rattle.numbers.proofs.RowsLaws.{rows_append}
+use Rattle.numbers.proofs.RowsLaws.{rows-append}
 use Rattle.text.specs.Bytes.{newline}
 use Rattle.text.specs.Parts.{parts, count_before, on_first}
-use Rattle.text.proofs.PartsLaws.{count_before-le, parts-one, parts_more}
+use Rattle.text.proofs.PartsLaws.{count_before-le, parts-one, parts-more}
 use Rattle.stream.specs.Stream.{LineTexts, texts, last_line, without_empty_last, lines_of, output_of}
 use Rattle.stream.specs.Turns.{ended_parts, fitting, answered, size, cut_off, carried}
 use Rattle.stream.specs.Runs.{TooLongAlike}
@@ -36,13 +36,13 @@ after_first bs = drop (suc (count_before newline bs)) bs
 -- a line put before parted bytes: it is ended, since at least one part follows
 ended_parts-cons : (l bs : List ℕ) → ended_parts (l ∷ parts newline bs) ≡ l ∷ ended_parts (parts newline bs)
 unfolding ended_parts
-ended_parts-cons l bs = ⊎_elim (λ e. rw (parts-one newline bs e)) (λ h. rw (parts_more newline bs h))
+ended_parts-cons l bs = ⊎_elim (λ e. rw (parts-one newline bs e)) (λ h. rw (parts-more newline bs h))
     (eq-or-lt_of_le (count_before-le newline bs))
 
 -- and it is not the last part, so it is kept even where it is empty
 without_empty_last-cons : (l bs : List ℕ) → without_empty_last (l ∷ parts newline bs) ≡ l ∷ without_empty_last (parts newline bs)
 unfolding without_empty_last
-without_empty_last-cons l bs = ⊎_elim (λ e. rw (parts-one newline bs e)) (λ h. rw (parts_more newline bs h))
+without_empty_last-cons l bs = ⊎_elim (λ e. rw (parts-one newline bs e)) (λ h. rw (parts-more newline bs h))
     (eq-or-lt_of_le (count_before-le newline bs))
 
 -- sizes add up
@@ -97,41 +97,41 @@ lines_of-last held h = ap without_empty_last (parts-one newline held h)
 
 module _ (t : LineTexts) where
   -- one part: no line is ended
-  pub none_left : (room : ℕ) (bs : List ℕ) → count_before newline bs ≡ length bs → answered t room bs ≡ []
+  pub none-left : (room : ℕ) (bs : List ℕ) → count_before newline bs ≡ length bs → answered t room bs ≡ []
   unfolding answered ended_parts fitting
-  none_left room bs e = rw (parts-one newline bs e)
+  none-left room bs e = rw (parts-one newline bs e)
 
   -- no room for the longest text: not even the first line is answered
   pub full : (room : ℕ) (bs : List ℕ) → room < t.longest_text → answered t room bs ≡ []
   unfolding answered fitting
-  full room bs h = by_lines (ended_parts (parts newline bs))
+  full room bs h = by-lines (ended_parts (parts newline bs))
     where
-      by_lines : (ls : List (List ℕ)) → fitting t room ls ≡ []
-      by_lines [] = refl
-      by_lines (l ∷ ls) = rw (lt-ltb room t.longest_text h)
+      by-lines : (ls : List (List ℕ)) → fitting t room ls ≡ []
+      by-lines [] = refl
+      by-lines (l ∷ ls) = rw (lt-ltb room t.longest_text h)
 
   -- room and a newline: the first line is answered, and the rest as a turn with less room would
   pub next-line : (room : ℕ) (bs : List ℕ) → t.longest_text ≤ room → count_before newline bs < length bs
       → answered t room bs ≡ first_line bs ∷ answered t (room - length (t.text (first_line bs))) (after_first bs)
   unfolding answered fitting
-  next-line room bs h l = rw (parts_more newline bs l, ended_parts-cons (first_line bs) (after_first bs), le-ltb room t.longest_text h)
+  next-line room bs h l = rw (parts-more newline bs l, ended_parts-cons (first_line bs) (after_first bs), le-ltb room t.longest_text h)
 
   -- texts of two stretches of lines
   pub texts-append : (a b : List (List ℕ)) → texts t (a ++ b) ≡ texts t a ++ texts t b
   unfolding texts
-  texts-append a b = rows_append t.text a b
+  texts-append a b = rows-append t.text a b
 
   -- the first line's text, and the rest's
   first-line : (bs : List ℕ) → count_before newline bs < length bs → output_of t bs ≡ t.text (first_line bs) ++ output_of t (after_first bs)
   unfolding flat_map texts lines_of output_of
   first-line bs h =
-      ap (λ (ps : List (List ℕ)). texts t (without_empty_last ps)) (parts_more newline bs h)
+      ap (λ (ps : List (List ℕ)). texts t (without_empty_last ps)) (parts-more newline bs h)
       ∙ ap (texts t) (without_empty_last-cons (first_line bs) (after_first bs))
 
   -- the same where more follows: the first newline is that of the first stretch
-  first_of : (a f : List ℕ) → count_before newline a < length a
+  first-of : (a f : List ℕ) → count_before newline a < length a
       → output_of t (a ++ f) ≡ t.text (first_line a) ++ output_of t (after_first a ++ f)
-  first_of a f h =
+  first-of a f h =
       let e : count_before newline (a ++ f) ≡ count_before newline a = count_before-append a f h in
       rw (e, take-append-le (count_before newline a) a f (omega arith), drop-append-le (suc (count_before newline a)) a f h) at
       (first-line (a ++ f) (omega (arith, length-append a f)))
@@ -140,9 +140,9 @@ module _ (t : LineTexts) where
   lines-law : (k room : ℕ) (a f : List ℕ) → length a ≤ k
       → output_of t (a ++ f) ≡ texts t (answered t room a) ++ output_of t (drop (size (answered t room a)) a ++ f)
   unfolding flat_map texts size
-  lines-law zero room a f h = rw (none_left room a (omega (arith, count_before-le newline a)))
+  lines-law zero room a f h = rw (none-left room a (omega (arith, count_before-le newline a)))
   lines-law (suc k) room a f h =
-      ⊎_elim (λ e. rw (none_left room a e))
+      ⊎_elim (λ e. rw (none-left room a e))
       (λ l. go l (dec_le t.longest_text room)
       (λ r. lines-law k r (after_first a) f (omega (arith, length-drop (suc (count_before newline a)) a))))
       (eq-or-lt_of_le (count_before-le newline a))
@@ -159,7 +159,7 @@ module _ (t : LineTexts) where
           ≡ suc (count_before newline a) + size (answered t (room - length (t.text (first_line a))) (after_first a)) =
           omega (arith, length-take-le (count_before newline a) a (count_before-le newline a)) in
           rw (next-line room a y l, n, sym (drop-drop (size ls) (suc (count_before newline a)) a))
-          (first_of a f l ∙ ap (λ (x : List ℕ). t.text (first_line a) ++ x) (rec r)
+          (first-of a f l ∙ ap (λ (x : List ℕ). t.text (first_line a) ++ x) (rec r)
           ∙ sym (append_assoc (t.text (first_line a)) (texts t ls) (output_of t (drop (size ls) (after_first a) ++ f))))
 
   -- ---- a line that is too long
@@ -173,10 +173,10 @@ module _ (t : LineTexts) where
     same-texts a b (q ∷ ps) h k = ap (λ (x : List ℕ). x ++ texts t (without_empty_last (q ∷ ps))) (alike a b h k)
 
     -- so bytes without a newline that are too long may be cut to one more than the longest line
-    too_long : (r f : List ℕ) → count_before newline r ≡ length r → suc t.longest_line < length r
+    too-long : (r f : List ℕ) → count_before newline r ≡ length r → suc t.longest_line < length r
         → output_of t (r ++ f) ≡ output_of t (take (suc t.longest_line) r ++ f)
     unfolding lines_of output_of
-    too_long r f h l = ⊎_elim (λ e. by (parts-one newline f e)) (λ m. by (parts_more newline f m))
+    too-long r f h l = ⊎_elim (λ e. by (parts-one newline f e)) (λ m. by (parts-more newline f m))
         (eq-or-lt_of_le (count_before-le newline f))
       where
         by : {p : List ℕ} {ps : List (List ℕ)} → parts newline f ≡ p ∷ ps
@@ -200,7 +200,7 @@ module _ (t : LineTexts) where
         by : count_before newline r ≡ length r → Dec (length r ≤ suc t.longest_line)
             → output_of t (r ++ f) ≡ output_of t (take (suc t.longest_line) r ++ f)
         by e (yes h) = rw (take_all (suc t.longest_line) r h)
-        by e (no h) = too_long r f e (omega arith)
+        by e (no h) = too-long r f e (omega arith)
 
     -- the two together: the lines answered, then the cut
     pub turn-law : (room : ℕ) (held f : List ℕ) → output_of t (held ++ f)
@@ -211,10 +211,10 @@ module _ (t : LineTexts) where
         ∙ ap (λ (x : List ℕ). texts t (answered t room held) ++ x) (cut-law (drop (size (answered t room held)) held) f)
 
   -- a whole line would have printed its text, which has a byte at least
-  pub nothing_left : (room : ℕ) (held : List ℕ) → ((l : List ℕ) → 0 < length (t.text l)) → t.longest_text ≤ room
+  pub nothing-left : (room : ℕ) (held : List ℕ) → ((l : List ℕ) → 0 < length (t.text l)) → t.longest_text ≤ room
       → length (texts t (answered t room held)) ≡ 0 → count_before newline held ≡ length held
   unfolding flat_map texts
-  nothing_left room held some h e =
+  nothing-left room held some h e =
       ⊎_elim (λ s. s) (λ l. absurd (by l (ap (λ (ls : List (List ℕ)). length (texts t ls)) (next-line room held h l))))
       (eq-or-lt_of_le (count_before-le newline held))
     where
@@ -230,4 +230,4 @@ module _ (t : LineTexts) where
       → count_before newline (carried t room held) ≡ length (carried t room held)
   unfolding size cut_off carried
   carried-newline room held h =
-      rw (none_left room held h, le-ltb (count_before newline held) (length held) (omega arith)) (no-newline (suc t.longest_line) held h)
+      rw (none-left room held h, le-ltb (count_before newline held) (length held) (omega arith)) (no-newline (suc t.longest_line) held h)

@@ -202,11 +202,11 @@ module _ (unit : Fraction) where
     -- the sign is the highest bit, so a negative float has a high pattern too
     pub bits-high : (b : ℕ) → 135 < b / 8388608 → speed_answer (rounded_in unit (of_bits binary32 b)) ≡ SurveyAnswer.Refused 13
     unfolding of_bits
-    bits-high b h = by_sign (leb 2147483648 b) refl
+    bits-high b h = by-sign (leb 2147483648 b) refl
       where
-        by_sign : (v : Bool) → leb 2147483648 b ≡ v → speed_answer (rounded_in unit (of_bits binary32 b)) ≡ SurveyAnswer.Refused 13
-        by_sign true e = rw e (signed (b % 2147483648 / 8388608) (b % 8388608))
-        by_sign false e =
+        by-sign : (v : Bool) → leb 2147483648 b ≡ v → speed_answer (rounded_in unit (of_bits binary32 b)) ≡ SurveyAnswer.Refused 13
+        by-sign true e = rw e (signed (b % 2147483648 / 8388608) (b % 8388608))
+        by-sign false e =
             let below : b < 2147483648 = leb-false 2147483648 b e in
             rw (of_bits-fields b below) (fields-high (b / 8388608) (b % 8388608) h (omega arith))
 

@@ -1,8 +1,8 @@
 -- Text, or numbers as they are, in a lent buffer, piece by piece (specs/Buffer). A byte of a law may be any number.
---   length-written, none_written   a buffer keeps its length; no text leaves it as it was
+--   length-written, none-written   a buffer keeps its length; no text leaves it as it was
 --   twice-written    one piece after another
---   set-written, set_before   a byte at a place; a byte before text that was written behind its place
---   first_byte, then, then-byte    pieces written one after the other
+--   set-written, set-before   a byte at a place; a byte before text that was written behind its place
+--   first-byte, then, then-byte    pieces written one after the other
 -- Assumes nothing.
 use mathlib.Core.Path.{◌≡◌, refl, sym, ap, ◌∙◌}
 use mathlib.Core.List.{List, [], ◌∷◌, ◌++◌, append_assoc}
@@ -18,9 +18,9 @@ pub length-written : (t : List ℕ) (at : ℕ) (old : List ℕ) → at + length 
 unfolding written
 length-written t at old h = simp (length-append, length-take, length-drop) (omega arith)
 
-pub none_written : (at : ℕ) (old : List ℕ) → written [] at old ≡ old
+pub none-written : (at : ℕ) (old : List ℕ) → written [] at old ≡ old
 unfolding written
-none_written at old = rw (add-zero at) (take-append-drop at old)
+none-written at old = rw (add-zero at) (take-append-drop at old)
 
 -- one piece after another
 pub twice-written : (s t : List ℕ) (at : ℕ) (old : List ℕ) → at + length s + length t ≤ length old
@@ -51,10 +51,10 @@ set-written old at b h =
     ∙ set_at (take at old) (get_or old at 0) (drop (suc at) old) b at (length-take-le at old (omega arith)))
 
 -- a byte before text that was written behind its place
-pub set_before : (b : ℕ) (s : List ℕ) (at : ℕ) (old : List ℕ) → at + 1 + length s ≤ length old
+pub set-before : (b : ℕ) (s : List ℕ) (at : ℕ) (old : List ℕ) → at + 1 + length s ≤ length old
     → set (written s (at + 1) old) at b ≡ written (b ∷ s) at old
 unfolding written
-set_before b s at old h =
+set-before b s at old h =
     let rest : List ℕ = s ++ drop (at + 1 + length s) old in
     let e : at + suc (length s) ≡ at + 1 + length s = omega arith in
     let t : take (at + 1) old ≡ take at old ++ (get_or old at 0 ∷ []) = ap (λ (x : ℕ). take x old) (add-one at)
@@ -62,8 +62,8 @@ set_before b s at old h =
     rw (e, t) (ap (λ (l : List ℕ). set l at b) (append_assoc (take at old) (get_or old at 0 ∷ []) rest)
     ∙ set_at (take at old) (get_or old at 0) rest b at (length-take-le at old (omega arith)))
 
-pub first_byte : (old : List ℕ) (at b : ℕ) → at < length old → Wrote (b ∷ []) at old (set old at b) (at + 1)
-first_byte old at b h = record { content = set-written old at b h; ends = refl }
+pub first-byte : (old : List ℕ) (at b : ℕ) → at < length old → Wrote (b ∷ []) at old (set old at b) (at + 1)
+first-byte old at b h = record { content = set-written old at b h; ends = refl }
 
 -- a piece after what was written
 pub then : {s t old mid new : List ℕ} {at m e : ℕ} → Wrote s at old mid m → Wrote t m mid new e
@@ -77,4 +77,4 @@ then {s} {t} {old} {mid} {new} {at} {m} {e} w v h = record {
 pub then-byte : {s old mid : List ℕ} {at m : ℕ} (b : ℕ) → Wrote s at old mid m → at + length s + 1 ≤ length old
     → Wrote (s ++ (b ∷ [])) at old (set mid m b) (m + 1)
 then-byte {s} {old} {mid} {at} {m} b w h =
-    then w (first_byte mid m b (omega (arith, w.ends, ap length w.content, length-written s at old (omega arith)))) h
+    then w (first-byte mid m b (omega (arith, w.ends, ap length w.content, length-written s at old (omega arith)))) h

@@ -1,6 +1,6 @@
 -- The digits of a number (specs/Decimal).
 --   decimal-small, decimal-more   a number of one digit; of more: the digits of its tenth, and the last
---   length-small, length_more     how many they are
+--   length-small, length-more     how many they are
 --   length-decimal   a number from 10 ^ k up to before 10 ^ (k + 1) has k + 1 digits
 --   decimal-room     no number has more than 20
 --   decimal-mono     a smaller number has no more
@@ -48,8 +48,8 @@ decimal-more n h k = more-in 19 n h ∙ ap (λ (l : List ℕ). l ++ ((48 + n % 1
 pub length-small : (n : ℕ) → n < 10 → length (decimal n) ≡ 1
 length-small n h = rw (decimal-small n h)
 
-pub length_more : (n : ℕ) → 10 ≤ n → n < 2 ^ 64 → length (decimal n) ≡ length (decimal (n / 10)) + 1
-length_more n h k = rw (decimal-more n h k) (length-append (decimal (n / 10)) ((48 + n % 10) ∷ []))
+pub length-more : (n : ℕ) → 10 ≤ n → n < 2 ^ 64 → length (decimal n) ≡ length (decimal (n / 10)) + 1
+length-more n h k = rw (decimal-more n h k) (length-append (decimal (n / 10)) ((48 + n % 10) ∷ []))
 
 -- a number from 10 ^ k up to before 10 ^ (k + 1) has k + 1 digits
 pub length-decimal : (k n : ℕ) → 10 ^ k ≤ n → n < 10 ^ suc k → n < 2 ^ 64 → length (decimal n) ≡ suc k
@@ -57,7 +57,7 @@ length-decimal zero n l h f = length-small n (omega (arith, pow-suc 10 0))
 length-decimal (suc k) n l h f =
     let p : 10 ^ suc k ≡ 10 ^ k * 10 = pow-suc 10 k in
     let q : 10 ^ suc (suc k) ≡ 10 ^ suc k * 10 = pow-suc 10 (suc k) in
-    length_more n (omega (arith, pow-pos-ten k)) f
+    length-more n (omega (arith, pow-pos-ten k)) f
     ∙ ap (λ (x : ℕ). x + 1)
     (length-decimal k (n / 10) ((le-div_iff_mul-le (omega arith)).1 (omega arith))
     ((div-lt_iff_lt-mul (omega arith)).1 (omega arith)) (omega arith))

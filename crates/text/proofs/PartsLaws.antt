@@ -1,6 +1,6 @@
 -- The parts of a list, by where its first part ends (specs/Parts).
 --   count_before-le            at most all bytes stand before the first t
---   parts-one, parts_more     a list with no t is one part; with one it is the part before it and the parts after it
+--   parts-one, parts-more     a list with no t is one part; with one it is the part before it and the parts after it
 --   count_before-hit, count_before-miss, count_before-end   the count from place i on, one byte further
 --   parts-append              two lists with a t between them have the parts of both
 --   spread, parts-spread      the lengths of parts, each with one byte more, added up: one more than the list has bytes
@@ -39,11 +39,11 @@ parts-one t (b ∷ bs) h = go (eqb b t) h (λ e. parts-one t bs e)
     go false h r = ap (on_first b) (r (omega arith))
 
 -- a list with a t is the part count_before it, and the parts after it
-pub parts_more : (t : ℕ) (bs : List ℕ) → count_before t bs < length bs
+pub parts-more : (t : ℕ) (bs : List ℕ) → count_before t bs < length bs
     → parts t bs ≡ take (count_before t bs) bs ∷ parts t (drop (suc (count_before t bs)) bs)
 unfolding count_before parts on_first
-parts_more t [] h = absurd (omega arith)
-parts_more t (b ∷ bs) h = go (eqb b t) h (λ e. parts_more t bs e)
+parts-more t [] h = absurd (omega arith)
+parts-more t (b ∷ bs) h = go (eqb b t) h (λ e. parts-more t bs e)
   where
     go : (v : Bool) → cond v 0 (suc (count_before t bs)) < suc (length bs) →
         (count_before t bs < length bs → parts t bs ≡ take (count_before t bs) bs ∷ parts t (drop (suc (count_before t bs)) bs))

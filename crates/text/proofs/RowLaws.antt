@@ -1,6 +1,6 @@
 -- Numbers and rows written into a buffer (specs/Decimal), over proofs/DigitLaws and proofs/BufferLaws.
 --   Filling, nothing-filled, one-filled, digits-left, all-filled, number-written   digits written from the last to the first
---   next-number, row_written       a turn of put_figures; a whole row
+--   next-number, row-written       a turn of put_figures; a whole row
 --   figures_text-next, figures_text-room, next-room, row_text-length, row_text-one   the room that figures and rows take
 --   figures_text-mono   smaller numbers take no more room
 -- Assumes nothing.
@@ -11,12 +11,12 @@ use native.Mathlib.Nat.{add-zero}
 use native.Mathlib.Omega.{arith}
 use lib.ListN.{length, take, drop, get_or, set, length-append, take-append-drop}
 use Rattle.numbers.specs.Bounds.{AllAtMost}
-use Rattle.numbers.proofs.RowsLaws.{rows_append, rows_next}
+use Rattle.numbers.proofs.RowsLaws.{rows-append, rows-next}
 use Rattle.text.specs.Bytes.{tab}
 use Rattle.text.specs.Decimal.{decimal, figures_text, row_text}
 use Rattle.text.specs.Buffer.{written, Wrote}
 use Rattle.text.proofs.DigitLaws.{decimal-small, decimal-more, decimal-room, decimal-mono}
-use Rattle.text.proofs.BufferLaws.{none_written, set_before, first_byte, then, then-byte}
+use Rattle.text.proofs.BufferLaws.{none-written, set-before, first-byte, then, then-byte}
 
 -- ---- a number, from its last digit on
 -- the digits of n behind those of rest are written
@@ -31,7 +31,7 @@ nothing-filled n end old = record {
   later = [];
   all = sym (append-nil (decimal n));
   place = add-zero end;
-  content = sym (none_written end old);
+  content = sym (none-written end old);
 }
 
 module _ (n end : ℕ) (old new : List ℕ) (rest p : ℕ) (f : Filling n end old new rest p) (room : end ≤ length old) where
@@ -43,7 +43,7 @@ module _ (n end : ℕ) (old new : List ℕ) (rest p : ℕ) (f : Filling n end ol
         ∙ append_assoc (decimal (rest / 10)) ((48 + rest % 10) ∷ []) f.later;
     place = omega (arith, f.place);
     content = ap (λ (l : List ℕ). set l q (48 + rest % 10)) (f.content ∙ ap (λ (x : ℕ). written f.later x old) e)
-        ∙ set_before (48 + rest % 10) f.later q old (omega (arith, f.place));
+        ∙ set-before (48 + rest % 10) f.later q old (omega (arith, f.place));
   }
 
   -- the digits of rest still have room
@@ -68,7 +68,7 @@ number-written n at end first old mid room ends whole content =
     record {
       content =
           ap (λ (l : List ℕ). set l at (48 + first)) (content ∙ ap (λ (x : ℕ). written (drop 1 (decimal n)) x old) behind)
-          ∙ set_before (48 + first) (drop 1 (decimal n)) at old (omega arith)
+          ∙ set-before (48 + first) (drop 1 (decimal n)) at old (omega arith)
           ∙ ap (λ (l : List ℕ). written l at old) (sym whole);
       ends = ends;
     }
@@ -77,7 +77,7 @@ number-written n at end first old mid room ends whole content =
 pub figures_text-next : (ns : List ℕ) (i : ℕ) → i < length ns
     → figures_text (take (i + 1) ns) ≡ figures_text (take i ns) ++ (9 ∷ decimal (get_or ns i 0))
 unfolding figures_text
-figures_text-next ns i h = rows_next _ ns i 0 h
+figures_text-next ns i h = rows-next _ ns i 0 h
 
 -- the room that the numbers up to one take
 pub figures_text-room : (ns : List ℕ) (i : ℕ) → length (figures_text (take i ns)) ≤ length (figures_text ns)
@@ -86,7 +86,7 @@ figures_text-room ns i =
     omega (
       arith,
       ap (λ (l : List ℕ). length (figures_text l)) (take-append-drop i ns),
-      ap length (rows_append (λ n. tab ∷ decimal n) (take i ns) (drop i ns)),
+      ap length (rows-append (λ n. tab ∷ decimal n) (take i ns) (drop i ns)),
       length-append (figures_text (take i ns)) (figures_text (drop i ns)),
     )
 
@@ -113,12 +113,12 @@ next-number {old} {out} {new} {at} {p} {e} ns i h room w v =
     length-append (figures_text (take i ns)) (9 ∷ []) in
     rw (figures_text-next ns i h) (rw append_assoc at (then (then-byte 9 w (omega arith)) v (omega arith)))
 
-pub row_written : {old out : List ℕ} {at p : ℕ} (b : ℕ) (ns : List ℕ) → at + length (row_text b ns) ≤ length old
+pub row-written : {old out : List ℕ} {at p : ℕ} (b : ℕ) (ns : List ℕ) → at + length (row_text b ns) ≤ length old
     → Wrote (figures_text ns) (at + 1) (set old at b) out p → Wrote (row_text b ns) at old (set out p 10) (p + 1)
 unfolding row_text
-row_written {old} {out} {at} {p} b ns room w =
+row-written {old} {out} {at} {p} b ns room w =
     let l : length (figures_text ns ++ (10 ∷ [])) ≡ length (figures_text ns) + 1 = length-append (figures_text ns) (10 ∷ []) in
-    then-byte 10 (then (first_byte old at b (omega arith)) w (omega arith)) (omega arith)
+    then-byte 10 (then (first-byte old at b (omega arith)) w (omega arith)) (omega arith)
 
 pub row_text-one : (b n : ℕ) → length (row_text b (n ∷ [])) ≤ 23
 unfolding row_text figures_text flat_map

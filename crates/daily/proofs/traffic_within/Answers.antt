@@ -2,12 +2,12 @@
 -- Assumes nothing.
 use mathlib.Core.Path.{sym, ◌∙◌}
 use native.Mathlib.Omega.{arith}
-use Rattle.daily.proofs.WithinLaws.{product-pos, product_le, traffic_within-eq}
+use Rattle.daily.proofs.WithinLaws.{product-pos, product-le, traffic_within-eq}
 use Rattle.daily.proofs.traffic_within.Goals as goal
 
 pub overflow_mul-shares : goal.overflow_mul-shares
 overflow_mul-shares c =
-    record { fits = omega (arith, product_le c.args.shares c.requires.0) }
+    record { fits = omega (arith, product-le c.args.shares c.requires.0) }
 
 pub nonzero_div-volume : goal.nonzero_div-volume
 nonzero_div-volume c =

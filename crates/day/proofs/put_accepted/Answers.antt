@@ -1,7 +1,7 @@
 -- `day::put_accepted` meets its contract: kind F reads no table, and kind M gets the table of powers.
 -- Assumes nothing.
 use mathlib.Core.Path.{ap, ◌∙◌}
-use Rattle.curve.proofs.TermsLaws.{table_none, table-lent}
+use Rattle.curve.proofs.TermsLaws.{table-none, table-lent}
 use Rattle.method.specs.Checked.{checked}
 use Rattle.method.specs.Assess.{case_terms}
 use Rattle.method.proofs.AssessLaws.{case-readied}
@@ -14,7 +14,7 @@ case_terms-terms-requires c =
 pub put_graded-requires : goal.put_graded-requires
 put_graded-requires c = (
   case-readied _ _ _ _ c.requires.0 (c.case_terms-terms.ensures ∙ ap case_terms c.with_demand.ensures)
-      (table_none _ _ c.in-Freeway.is),
+      (table-none _ _ c.in-Freeway.is),
   c.requires.1,
 )
 

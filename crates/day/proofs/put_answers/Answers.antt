@@ -5,7 +5,7 @@ use mathlib.Core.List.{flat_map}
 use native.Mathlib.Omega.{arith}
 use lib.ListN.{get_or}
 use lib.Seq.{take_all}
-use Rattle.text.proofs.BufferLaws.{none_written}
+use Rattle.text.proofs.BufferLaws.{none-written}
 use Rattle.road.specs.Cases.{with_demand}
 use Rattle.answer.specs.Answers.{answer_to}
 use Rattle.day.specs.Days.{day_figures}
@@ -17,7 +17,7 @@ use Rattle.day.proofs.put_answers.Goals as goal
 pub loop-i-init : goal.loop-i-init
 unfolding day_figures flat_map
 loop-i-init c =
-    (omega arith, refl, record { content = sym (none_written 0 _); ends = refl })
+    (omega arith, refl, record { content = sym (none-written 0 _); ends = refl })
 
 pub answer_with-answer-requires : goal.answer_with-answer-requires
 answer_with-answer-requires c =

@@ -2,7 +2,7 @@
 -- Assumes nothing.
 use mathlib.Core.Path.{sym, ap, ◌∙◌}
 use Rattle.method.specs.Checked.{checked}
-use Rattle.method.proofs.CheckedLaws.{checked_refused, checked-number}
+use Rattle.method.proofs.CheckedLaws.{checked-refused, checked-number}
 use Rattle.day.proofs.put_day.Goals as goal
 
 pub put_accepted-requires : goal.put_accepted-requires
@@ -16,4 +16,4 @@ put_answers-requires c =
     let e = sym (ap checked c.with_demand.ensures) ∙ sym c.check-checked.ensures
     ∙ c.in-Refused.is in
     let own = checked-number _ _ e in
-    ((sym own, rw own at (checked_refused _ _ e)), c.requires)
+    ((sym own, rw own at (checked-refused _ _ e)), c.requires)

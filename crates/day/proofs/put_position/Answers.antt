@@ -3,7 +3,7 @@
 use mathlib.Core.Path.{◌∙◌}
 use native.Mathlib.Omega.{arith}
 use lib.ListN.{length-set}
-use Rattle.text.proofs.BufferLaws.{first_byte, then}
+use Rattle.text.proofs.BufferLaws.{first-byte, then}
 use Rattle.day.proofs.put_position.Goals as goal
 
 pub put_numbers-requires : goal.put_numbers-requires
@@ -17,5 +17,5 @@ shape_of-out c =
 
 pub returns : goal.returns
 returns c =
-    then (first_byte c.args.out.now c.args.at c.args.number (omega (arith, c.requires))) c.put_numbers.ensures
+    then (first-byte c.args.out.now c.args.at c.args.number (omega (arith, c.requires))) c.put_numbers.ensures
     (omega (arith, c.requires))

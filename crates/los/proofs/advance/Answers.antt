@@ -6,10 +6,10 @@ use mathlib.Core.Bool.{true≢false}
 use native.Mathlib.Omega.{arith}
 use lib.ListN.{length, take}
 use lib.Seq.{length-take-le}
-use Rattle.stream.proofs.StreamLaws.{nothing_left, carried-newline}
+use Rattle.stream.proofs.StreamLaws.{nothing-left, carried-newline}
 use Rattle.replies.specs.Output.{line_texts}
 use Rattle.replies.proofs.TextsLaws.{line_text-pos}
-use Rattle.los.proofs.StepLaws.{begins, ends_held}
+use Rattle.los.proofs.StepLaws.{begins, ends-held}
 use borrow.Author.Rules.{rules}
 use Rattle.los.proofs.advance.Goals as goal
 
@@ -29,12 +29,12 @@ returns-then-written-eq0 c =
     let held = take c.args.held c.args.buffer.now in
     let t = c.answer_turn-turn in
     let r = c.read_more in
-    let none = nothing_left line_texts (length c.args.out.now) held line_text-pos c.requires.1.1
+    let none = nothing-left line_texts (length c.args.out.now) held line_text-pos c.requires.1.1
     (omega (arith, t.ensures.text.ends, c.if-written-eq0.true)) in record {
       held_in_bounds = search rules;
       answered = λ h. absurd (omega (arith, t.ensures.text.ends, c.if-written-eq0.true));
       kept = begins _ _ _ _ _ _ t.ensures.carried t.ensures.buffer r.ensures.kept r.ensures.in_bounds.0;
-      ended = λ m c. ends_held _ _ _ _ _ _ t.ensures.carried t.ensures.buffer r.ensures.kept (r.ensures.ended.0 m)
+      ended = λ m c. ends-held _ _ _ _ _ _ t.ensures.carried t.ensures.buffer r.ensures.kept (r.ensures.ended.0 m)
           (carried-newline line_texts _ held none);
     }
 

@@ -2,7 +2,7 @@
 -- Assumes nothing.
 use native.Mathlib.Nat.{lt_of_le_of_lt}
 use lib.Dec.{lit<}
-use Rattle.powers.proofs.PowerLaws.{power_le}
+use Rattle.powers.proofs.PowerLaws.{power-le}
 use Rattle.powers.proofs.power.Goals as goal
 
 pub overflow_cast-result : goal.overflow_cast-result
@@ -10,7 +10,7 @@ overflow_cast-result c =
     let i = c.args.i in
     record {
       fits = lt_of_le_of_lt {m = 1000000}
-          (rw (c.requires.0.1 i c.requires.1) (power_le i c.requires.1)) (lit< tt);
+          (rw (c.requires.0.1 i c.requires.1) (power-le i c.requires.1)) (lit< tt);
     }
 
 pub returns : goal.returns

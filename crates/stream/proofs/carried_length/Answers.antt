@@ -1,16 +1,16 @@
 -- `stream::carried_length` meets its contract: the bytes are few, hold a newline, or are cut off.
 -- Assumes nothing.
 use native.Mathlib.Omega.{arith}
-use Rattle.stream.proofs.CarryLaws.{cut_short, cut_line, cut-long}
+use Rattle.stream.proofs.CarryLaws.{cut-short, cut-line, cut-long}
 use Rattle.stream.proofs.carried_length.Goals as goal
 
 pub returns-then-n-kept : goal.returns-then-n-kept
 returns-then-n-kept c =
-    cut_short _ _ c.if-n-kept.true
+    cut-short _ _ c.if-n-kept.true
 
 pub returns-then-find-n : goal.returns-then-find-n
 returns-then-find-n c =
-    cut_line _ _ (omega (arith, c.find.ensures.value))
+    cut-line _ _ (omega (arith, c.find.ensures.value))
 
 pub returns : goal.returns
 returns c =

@@ -5,7 +5,7 @@ use mathlib.Core.List.{List, ◌++◌}
 use Prim.Native.Nat.{ℕ}
 use native.Mathlib.Omega.{arith}
 use lib.ListN.{take, drop}
-use Rattle.stream.proofs.CarryLaws.{cut-within, cut_moved}
+use Rattle.stream.proofs.CarryLaws.{cut-within, cut-moved}
 use Rattle.stream.proofs.carry_over.Goals as goal
 
 pub move_to_start-requires : goal.move_to_start-requires
@@ -26,5 +26,5 @@ returns c =
       buffer = c.move_to_start.ensures
           ∙ ap (λ (l : List ℕ). l ++ drop n.result a.buffer.now)
           (ap (λ (x : ℕ). take x (drop a.from a.buffer.now)) n.ensures
-          ∙ cut_moved a.kept a.held a.from a.buffer.now);
+          ∙ cut-moved a.kept a.held a.from a.buffer.now);
     }

@@ -2,7 +2,7 @@
 -- added.
 -- Assumes nothing.
 use native.Mathlib.Omega.{arith}
-use Rattle.answer.proofs.TriesLaws.{done-start, done_next, done-volumes, done-end-le, done-tries-le}
+use Rattle.answer.proofs.TriesLaws.{done-start, done-next, done-volumes, done-end-le, done-tries-le}
 use Rattle.answer.proofs.evaluate.found_volumes.Goals as goal
 
 pub loop-letter-init : goal.loop-letter-init
@@ -28,7 +28,7 @@ loop-letter-smaller c =
 pub loop-letter-preserved : goal.loop-letter-preserved
 loop-letter-preserved c =
     let p = c.requires in
-    done_next _ _ _ _ _ c.loop-letter.invariant (omega arith) _ c.greatest_for-found.ensures
+    done-next _ _ _ _ _ c.loop-letter.invariant (omega arith) _ c.greatest_for-found.ensures
     p.0.prepared.well-formed p.1.divisor-pos
 
 pub returns : goal.returns

@@ -8,7 +8,7 @@ pub greatest_meeting-requires : goal.greatest_meeting-requires
 greatest_meeting-requires c =
     record {
       ready = c.requires.0;
-      load_fits = c.requires.1;
+      load-fits = c.requires.1;
       limit-le = omega (arith, c.density_limit.ensures, density_limit-le c.args.letter);
       demand-le = omega (arith, c.requires.2);
     }

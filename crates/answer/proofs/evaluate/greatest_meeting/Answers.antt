@@ -16,7 +16,7 @@ pub loop-high-init : goal.loop-high-init
 loop-high-init c =
     halved-start _ c.args.end
     (demand_meets-zero c.args.terms.curve c.args.load c.args.limit c.requires.ready.prepared.well-formed
-    c.requires.load_fits.divisor-pos)
+    c.requires.load-fits.divisor-pos)
 
 pub overflow_sub-high : goal.overflow_sub-high
 overflow_sub-high c =
@@ -37,7 +37,7 @@ overflow_add-tries c =
 pub demand_meets-requires : goal.demand_meets-requires
 demand_meets-requires c =
     let p = c.requires in
-    record { ready = p.ready; load_fits = p.load_fits; limit-le = p.limit-le; demand-le = omega (arith, p.demand-le) }
+    record { ready = p.ready; load-fits = p.load-fits; limit-le = p.limit-le; demand-le = omega (arith, p.demand-le) }
 
 pub loop-high-smaller-then-demand_meets : goal.loop-high-smaller-then-demand_meets
 loop-high-smaller-then-demand_meets c =
@@ -63,6 +63,6 @@ pub returns : goal.returns
 returns c =
     let found = halved-done _ _ _ _ _ c.loop-high.invariant
     (demand_meets-down c.args.terms.curve c.args.load c.args.limit c.requires.ready.prepared.well-formed
-    c.requires.load_fits.divisor-pos)
+    c.requires.load-fits.divisor-pos)
     (omega arith) in
     simp (found.0, found.1)

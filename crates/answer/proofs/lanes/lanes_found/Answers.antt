@@ -5,7 +5,7 @@ use mathlib.Core.Path.{◌≡◌, sym, ◌∙◌}
 use Prim.Native.Nat.{suc}
 use native.Mathlib.Omega.{arith}
 use borrow.Author.Count.{below_more}
-use Rattle.numbers.proofs.BoolLaws.{T_true, T_false}
+use Rattle.numbers.proofs.BoolLaws.{T-true, T-false}
 use Rattle.curve.specs.Kinds.{most_lanes}
 use Rattle.curve.proofs.KindLaws.{kind-ends}
 use Rattle.road.specs.Cases.{with_lanes}
@@ -46,7 +46,7 @@ returns-then-lanes_meet c =
     let a = c.args in
     let l = c.loop-lanes in
     sym (lanes_found-eq a.case a.letter l.lanes (omega (arith, l.invariant.0))
-    (T_true _ (sym c.lanes_meet.ensures ∙ c.if-lanes_meet.true)) l.invariant.3)
+    (T-true _ (sym c.lanes_meet.ensures ∙ c.if-lanes_meet.true)) l.invariant.3)
 
 pub overflow_add-lanes : goal.overflow_add-lanes
 overflow_add-lanes c =
@@ -63,7 +63,7 @@ loop-lanes-smaller c =
 pub loop-lanes-preserved : goal.loop-lanes-preserved
 loop-lanes-preserved c =
     let inv = c.loop-lanes.invariant in
-    (inv.0, omega (arith, inv.1), omega arith, below_more _ _ inv.3 (T_false _ (sym c.lanes_meet.ensures ∙ c.if-lanes_meet.false)))
+    (inv.0, omega (arith, inv.1), omega arith, below_more _ _ inv.3 (T-false _ (sym c.lanes_meet.ensures ∙ c.if-lanes_meet.false)))
 
 pub returns : goal.returns
 returns c =

@@ -1,6 +1,6 @@
 -- `curve::service::flow_meets_limit` meets its contract: kind F reads no table, and kind M gets the powers.
 -- Assumes nothing.
-use Rattle.curve.proofs.TermsLaws.{table_none, table-lent, flow-beyond}
+use Rattle.curve.proofs.TermsLaws.{table-none, table-lent, flow-beyond}
 use Rattle.curve.proofs.ServiceLaws.{meets_limit-beyond}
 use Rattle.curve.proofs.service.flow_meets_limit.Goals as goal
 
@@ -11,7 +11,7 @@ returns-then-terms-v c =
 
 pub meets_limit-requires : goal.meets_limit-requires
 meets_limit-requires c =
-    (record { prepared = c.requires.0; read = table_none _ _ c.in-Freeway.is }, c.requires.1)
+    (record { prepared = c.requires.0; read = table-none _ _ c.in-Freeway.is }, c.requires.1)
 
 pub meets_limit-requires-in-Multilane : goal.meets_limit-requires-in-Multilane
 meets_limit-requires-in-Multilane c = (

@@ -5,7 +5,7 @@ use mathlib.Core.Bool.{true≢false}
 use native.Mathlib.Omega.{arith}
 use lib.Dec.{leb}
 use lib.ListN.{get_or, get_or-eq_default}
-use Rattle.lines.proofs.PlacesLaws.{digit_low, digit-high}
+use Rattle.lines.proofs.PlacesLaws.{digit-low, digit-high}
 use Rattle.lines.proofs.field.digit_at.Goals as goal
 
 pub returns-then-i-line : goal.returns-then-i-line
@@ -14,7 +14,7 @@ returns-then-i-line c =
 
 pub returns-then-b-lt48 : goal.returns-then-b-lt48
 returns-then-b-lt48 c =
-    let a = c.args in record { value = digit_low (get_or a.line.now a.i 0) (omega (arith, c.byte_value-b.ensures, c.if-b-lt48.true)); i_in_bounds = λ e. absurd (true≢false (sym e)) }
+    let a = c.args in record { value = digit-low (get_or a.line.now a.i 0) (omega (arith, c.byte_value-b.ensures, c.if-b-lt48.true)); i_in_bounds = λ e. absurd (true≢false (sym e)) }
 
 pub returns : goal.returns
 returns c =

@@ -4,7 +4,7 @@ use mathlib.Core.Path.{sym}
 use native.Mathlib.Omega.{arith}
 use borrow.Author.Tests.{eq-eqb}
 use Rattle.text.proofs.PartsLaws.{count_before-end}
-use Rattle.lines.proofs.PlacesLaws.{ends_by}
+use Rattle.lines.proofs.PlacesLaws.{ends-by}
 use Rattle.lines.proofs.field.field_ends.Goals as goal
 
 pub returns-then-i-line : goal.returns-then-i-line
@@ -15,4 +15,4 @@ returns-then-i-line c =
 pub returns : goal.returns
 returns c =
     let a = c.args in
-    ends_by a.line.now a.i (omega arith)
+    ends-by a.line.now a.i (omega arith)

@@ -11,7 +11,7 @@ use Rattle.text.specs.Bytes.{tab}
 use Rattle.text.specs.Parts.{parts}
 use Rattle.lines.specs.Fields.{digits, layout, completed, spelled, number, field_as, values_of}
 use Rattle.lines.proofs.PlacesLaws.{field_end-le}
-use Rattle.lines.proofs.FieldsLaws.{after, after-nil, completed_from, completed_from-zero, rest, more_of, last_of, field-bad, too_many}
+use Rattle.lines.proofs.FieldsLaws.{after, after-nil, completed_from, completed_from-zero, rest, more-of, last-of, field-bad, too-many}
 use borrow.Author.Rules.{rules}
 use Rattle.lines.proofs.field.field_values.Goals as goal
 
@@ -37,7 +37,7 @@ returns-then-end-line c =
     let f = c.field_at-field in
     let e = c.in-Value.is in
     rw c.may_end.ensures
-    (sym (l.invariant.4 ∙ last_of layout (digits 5) a.line.now l.values l.place l.at (omega arith) l.invariant.0
+    (sym (l.invariant.4 ∙ last-of layout (digits 5) a.line.now l.values l.place l.at (omega arith) l.invariant.0
     (sym (f.ensures.at-end _ e) ∙ c.if-end-line.true) l.invariant.2 refl _ (λ h. rw (l.invariant.3 (omega arith)))
     (sym f.ensures.as-field ∙ e)))
 
@@ -62,7 +62,7 @@ loop-place-preserved c =
       omega arith,
       simp length-set l.invariant.2,
       λ k. drop-set-lt 13 l.values l.place _ (omega arith) ∙ l.invariant.3 (omega arith),
-      l.invariant.4 ∙ more_of layout (digits 5) a.line.now l.values l.place l.at (omega arith) l.invariant.0 _ n
+      l.invariant.4 ∙ more-of layout (digits 5) a.line.now l.values l.place l.at (omega arith) l.invariant.0 _ n
           (omega (arith, n, h)) _ (omega arith)
           (sym f.ensures.as-field ∙ e),
     )
@@ -71,5 +71,5 @@ pub returns : goal.returns
 unfolding layout
 returns c =
     let l = c.loop-place in
-    sym (l.invariant.4 ∙ too_many layout c.args.line.now l.values l.place l.at (omega arith)
+    sym (l.invariant.4 ∙ too-many layout c.args.line.now l.values l.place l.at (omega arith)
     (omega arith))

@@ -6,7 +6,7 @@ use native.Mathlib.Omega.{arith}
 use lib.ListN.{get_or}
 use Rattle.lines.specs.Fields.{digits, field_as}
 use Rattle.lines.proofs.DigitsLaws.{more, small}
-use Rattle.lines.proofs.PlacesLaws.{digit-ends, digits-next, number-end, number_past, read-malformed}
+use Rattle.lines.proofs.PlacesLaws.{digit-ends, digits-next, number-end, number-past, read-malformed}
 use Rattle.lines.proofs.field.number_at.Goals as goal
 
 pub loop-at-init : goal.loop-at-init
@@ -31,7 +31,7 @@ returns-then-end-at c =
     let a = c.args in let l = c.loop-at in
     let d = sym c.digit_at.ensures.value ∙ c.loop-at-test.true in
     read-malformed (digits a.most_digits) a.line.now a.at l.end
-    (number_past a.line.now a.at l.end l.n l.invariant.0 a.most_digits l.invariant.1
+    (number-past a.line.now a.at l.end l.n l.invariant.0 a.most_digits l.invariant.1
     (omega (arith, l.invariant.0.begun, c.if-end-at.true)) d
     (c.digit_at.ensures.i_in_bounds c.loop-at-test.true))
 

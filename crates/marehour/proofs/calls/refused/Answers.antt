@@ -3,7 +3,7 @@
 use mathlib.Core.Path.{◌∙◌}
 use mir.Syntax.{w32}
 use mir.ValLaws.{to_z-of_z}
-use Rattle.marehour.proofs.CallLaws.{minus_is, minus-fits}
+use Rattle.marehour.proofs.CallLaws.{minus-is, minus-fits}
 use Rattle.marehour.proofs.calls.refused.Goals as goal
 
 pub overflow_sub-result : goal.overflow_sub-result
@@ -12,4 +12,4 @@ overflow_sub-result c =
 
 pub returns : goal.returns
 returns c =
-    to_z-of_z w32 _ (minus-fits c.args.number c.requires) ∙ minus_is c.args.number c.requires
+    to_z-of_z w32 _ (minus-fits c.args.number c.requires) ∙ minus-is c.args.number c.requires

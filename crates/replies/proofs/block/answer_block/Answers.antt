@@ -4,7 +4,7 @@
 use mathlib.Core.Path.{refl}
 use native.Mathlib.Omega.{arith}
 use lib.ListN.{drop, length-drop}
-use Rattle.stream.proofs.StreamLaws.{none_left, full}
+use Rattle.stream.proofs.StreamLaws.{none-left, full}
 use Rattle.stream.proofs.BlockLaws.{begun, answered-one, stopped}
 use Rattle.replies.specs.Output.{line_texts}
 use Rattle.replies.proofs.TextsLaws.{line_text-le}
@@ -20,7 +20,7 @@ returns-then-end-block c =
     let l = c.loop-written in
     let f = c.find-end in
     let done = stopped line_texts a.block.now a.out.now l.out l.read l.written f.result l.invariant.1 f.ensures.value
-    (none_left line_texts _ (drop l.read a.block.now) (omega (arith, length-drop l.read a.block.now, f.ensures.value))) in
+    (none-left line_texts _ (drop l.read a.block.now) (omega (arith, length-drop l.read a.block.now, f.ensures.value))) in
     record { read = done.0; text = done.1.0; read_in_bounds = done.1.1 }
 
 pub loop-written-preserved : goal.loop-written-preserved

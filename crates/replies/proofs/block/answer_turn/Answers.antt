@@ -7,7 +7,7 @@ use native.Mathlib.Omega.{arith}
 use lib.ListN.{length, take, drop}
 use lib.Seq.{length-take-le}
 use Rattle.stream.specs.Turns.{cut_off, carried}
-use Rattle.stream.proofs.StreamLaws.{nothing_left}
+use Rattle.stream.proofs.StreamLaws.{nothing-left}
 use Rattle.stream.proofs.CarryLaws.{cut-within, carried-is, carried-short}
 use Rattle.replies.specs.Output.{line_texts}
 use Rattle.replies.proofs.TextsLaws.{line_text-pos}
@@ -46,6 +46,6 @@ returns c =
         over.ensures.count,
         ap length is,
         carried-short line_texts room (take held old)
-            (nothing_left line_texts room (take held old) line_text-pos h (omega (arith, z, block.ensures.text.ends))),
+            (nothing-left line_texts room (take held old) line_text-pos h (omega (arith, z, block.ensures.text.ends))),
       );
     }

@@ -8,14 +8,14 @@ use native.Mathlib.Numerals.{add-one}
 use native.Mathlib.Omega.{arith}
 use lib.ListN.{take, get_or, length-set}
 use lib.Seq.{length-take-le, take-suc, take_all}
-use Rattle.text.proofs.BufferLaws.{none_written, then-byte}
+use Rattle.text.proofs.BufferLaws.{none-written, then-byte}
 use borrow.Author.Rules.{rules}
 use Rattle.text.proofs.buffer.put_numbers.Goals as goal
 
 -- the bounds-out-p of the next number
 pub loop-i-init : goal.loop-i-init
 loop-i-init c =
-    (search rules, refl, record { content = sym (none_written _ _); ends = sym (add-zero _) })
+    (search rules, refl, record { content = sym (none-written _ _); ends = sym (add-zero _) })
 
 pub bounds-out-p : goal.bounds-out-p
 bounds-out-p c =

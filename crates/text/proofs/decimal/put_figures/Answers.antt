@@ -9,7 +9,7 @@ use lib.ListN.{take, length-set}
 use lib.Seq.{take_all}
 use Rattle.text.specs.Decimal.{figures_text}
 use Rattle.text.specs.Buffer.{Wrote}
-use Rattle.text.proofs.BufferLaws.{none_written}
+use Rattle.text.proofs.BufferLaws.{none-written}
 use Rattle.text.proofs.RowLaws.{next-number, next-room}
 use borrow.Author.Rules.{rules}
 use Rattle.text.proofs.decimal.put_figures.Goals as goal
@@ -17,7 +17,7 @@ use Rattle.text.proofs.decimal.put_figures.Goals as goal
 pub loop-i-init : goal.loop-i-init
 unfolding figures_text flat_map
 loop-i-init c =
-    (search rules, refl, record { content = sym (none_written _ _); ends = sym (add-zero _) })
+    (search rules, refl, record { content = sym (none-written _ _); ends = sym (add-zero _) })
 
 pub bounds-out-p : goal.bounds-out-p
 bounds-out-p c =

@@ -3,7 +3,7 @@
 use mathlib.Core.Path.{refl}
 use native.Mathlib.Omega.{arith}
 use lib.ListN.{length-set}
-use Rattle.text.proofs.DigitLaws.{length_more}
+use Rattle.text.proofs.DigitLaws.{length-more}
 use Rattle.text.proofs.RowLaws.{nothing-filled, one-filled, digits-left, all-filled}
 use borrow.Author.Rules.{rules}
 use Rattle.text.proofs.decimal.put_later_digits.Goals as goal
@@ -19,7 +19,7 @@ overflow_sub-p c =
       arith,
       digits-left a.n a.end a.out.now l.out l.rest l.p l.invariant.2 c.requires.1
           c.requires.0,
-      length_more l.rest (omega arith) (omega (arith, l.invariant.0)),
+      length-more l.rest (omega arith) (omega (arith, l.invariant.0)),
     )
 
 pub bounds-out-p : goal.bounds-out-p
@@ -32,7 +32,7 @@ bounds-out-p c =
       c.requires.1,
       digits-left a.n a.end a.out.now l.out l.rest l.p l.invariant.2 c.requires.1
           c.requires.0,
-      length_more l.rest (omega arith) (omega (arith, l.invariant.0)),
+      length-more l.rest (omega arith) (omega (arith, l.invariant.0)),
     )
 
 pub loop-rest-preserved : goal.loop-rest-preserved
@@ -40,7 +40,7 @@ loop-rest-preserved c =
     let a = c.args in let l = c.loop-rest in
     let left = digits-left a.n a.end a.out.now l.out l.rest l.p l.invariant.2 c.requires.1
     c.requires.0 in
-    let more = length_more l.rest (omega arith) (omega (arith, l.invariant.0)) in (
+    let more = length-more l.rest (omega arith) (omega (arith, l.invariant.0)) in (
       omega (arith, l.invariant.0),
       simp length-set l.invariant.1,
       one-filled a.n a.end a.out.now l.out l.rest l.p l.invariant.2 c.requires.1 _ (omega arith)

@@ -2,7 +2,7 @@
 -- Assumes nothing.
 use native.Mathlib.Omega.{arith}
 use lib.ListN.{length-set}
-use Rattle.text.proofs.RowLaws.{row_text-length, row_written}
+use Rattle.text.proofs.RowLaws.{row_text-length, row-written}
 use Rattle.text.proofs.decimal.put_row.Goals as goal
 
 pub bounds-out-at : goal.bounds-out-at
@@ -38,5 +38,5 @@ shape_of-out c =
 pub returns : goal.returns
 returns c =
     let a = c.args in
-    row_written a.first a.figures.now c.requires
+    row-written a.first a.figures.now c.requires
     c.put_figures-p.ensures
