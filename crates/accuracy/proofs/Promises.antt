@@ -164,7 +164,7 @@ answer-just-below case accepted e within =
     rw (answer_to-accepted case accepted)
     (clear-just-below case.road.kind case.weather (free_flow_speed_of case.road case.lanes) (case_flow_rate case) e
     (multilane-is-in-clear-weather case accepted e) (accepted-adjusted case accepted) (free_flow_speed_of-le case.road case.lanes)
-    (rw (answer_to-accepted case accepted) at within))
+    (omega (arith, rw (answer_to-accepted case accepted) at within)))
 
 pub a-to-e-up-to-capacity : AToEUpToCapacity
 unfolding graded measures performance meets_limit density_limit

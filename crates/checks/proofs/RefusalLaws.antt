@@ -47,11 +47,6 @@ head-none r rs rest t z = go r.met refl z
     go true e n = absurd (omega (arith, above))
     go false e n = (e, n, and-right (ltb 0 r.number) (numbered rs) t)
 
-pub first_refusal-none : (rs ss : List Refusal) → T (numbered rs) → first_refusal rs ≡ 0 → first_refusal (rs ++ ss) ≡ first_refusal ss
-first_refusal-none [] ss t z = refl
-first_refusal-none (r ∷ rs) ss t z =
-    let p = head-none r rs (first_refusal rs) t z in rw p.0 (first_refusal-none rs ss p.2 p.1)
-
 some-head : (n f g : ℕ) (b : Bool) → 0 < cond b n f → (0 < f → g ≡ f) → cond b n g ≡ cond b n f
 some-head n f g true p k = refl
 some-head n f g false p k = k p
@@ -60,6 +55,11 @@ pub first_refusal-some : (rs ss : List Refusal) → 0 < first_refusal rs → fir
 first_refusal-some [] ss p = absurd (omega arith)
 first_refusal-some (r ∷ rs) ss p =
     some-head r.number (first_refusal rs) (first_refusal (rs ++ ss)) r.met p (λ q. first_refusal-some rs ss q)
+
+pub first_refusal-none : (rs ss : List Refusal) → T (numbered rs) → first_refusal rs ≡ 0 → first_refusal (rs ++ ss) ≡ first_refusal ss
+first_refusal-none [] ss t z = refl
+first_refusal-none (r ∷ rs) ss t z =
+    let p = head-none r rs (first_refusal rs) t z in rw p.0 (first_refusal-none rs ss p.2 p.1)
 
 pub first_refusal-join : (rs ss : List Refusal) → T (numbered rs) → first_refusal (rs ++ ss) ≡ 0
     → (first_refusal rs ≡ 0) × (first_refusal ss ≡ 0)

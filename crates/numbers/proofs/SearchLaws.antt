@@ -47,15 +47,15 @@ module _ (p : ℕ → Bool) (n g : ℕ) where
       go (yes l) = below l
       go (no l) = let s : x ≡ suc n = omega arith in absurd (subst T (ap p s ∙ e) t)
 
-pub greatest-le : (p : ℕ → Bool) (n : ℕ) → greatest p n ≤ n
-unfolding greatest
-greatest-le p zero = le_refl 0
-greatest-le p (suc n) = step-le p n (greatest p n) (p (suc n)) (greatest-le p n)
-
 pub greatest-passes : (p : ℕ → Bool) (n : ℕ) → T (p 0) → T (p (greatest p n))
 unfolding greatest
 greatest-passes p zero t = t
 greatest-passes p (suc n) t = step-passes p n (greatest p n) (p (suc n)) refl (greatest-passes p n t)
+
+pub greatest-le : (p : ℕ → Bool) (n : ℕ) → greatest p n ≤ n
+unfolding greatest
+greatest-le p zero = le_refl 0
+greatest-le p (suc n) = step-le p n (greatest p n) (p (suc n)) (greatest-le p n)
 
 pub le-greatest : (p : ℕ → Bool) (n x : ℕ) → x ≤ n → T (p x) → x ≤ greatest p n
 unfolding greatest

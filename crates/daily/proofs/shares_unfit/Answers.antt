@@ -5,16 +5,6 @@ use Rattle.daily.specs.Daily.{shares_unfit}
 use borrow.Author.Rules.{rules}
 use Rattle.daily.proofs.shares_unfit.Goals as goal
 
-pub outside-requires : goal.outside-requires
-unfolding shares_unfit
-outside-requires c =
-    search rules
-
-pub outside-requires-else-outside : goal.outside-requires-else-outside
-unfolding shares_unfit
-outside-requires-else-outside c =
-    search rules
-
 pub returns-then-outside : goal.returns-then-outside
 unfolding shares_unfit
 returns-then-outside c =

@@ -18,4 +18,7 @@ pub returns : goal.returns
 returns c =
     let a = c.args in
     let answered = day-answered a.case a.demands.now a.answers.now
-    (lent-passed _ _ _ c.lent_refusal-number.ensures c.if-number-gt0.false) in record { result = answered.0; answers = c.put_day.ensures ∙ answered.1 }
+    (lent-passed _ _ _ c.lent_refusal-number.ensures c.if-number-gt0.false) in record {
+      result = answered.0;
+      answers = c.put_day.ensures ∙ answered.1;
+    }

@@ -5,17 +5,12 @@ use Rattle.day.specs.Days.{lent_unfit}
 use borrow.Author.Rules.{rules}
 use Rattle.day.proofs.lent_unfit.Goals as goal
 
-pub outside-requires : goal.outside-requires
+pub returns-else-outside : goal.returns-else-outside
 unfolding lent_unfit
-outside-requires c =
-    search rules
+returns-else-outside c =
+    simp (sym c.outside.ensures ∙ c.if-outside.false)
 
 pub returns-then-outside : goal.returns-then-outside
 unfolding lent_unfit
 returns-then-outside c =
     simp (sym c.outside.ensures ∙ c.if-outside.true, c.if-outside.true)
-
-pub returns-else-outside : goal.returns-else-outside
-unfolding lent_unfit
-returns-else-outside c =
-    simp (sym c.outside.ensures ∙ c.if-outside.false)

@@ -10,4 +10,5 @@ volumes_with-volumes-requires c =
 
 pub put_answers-requires : goal.put_answers-requires
 put_answers-requires c =
-    ((c.requires.0, c.volumes_with-volumes.ensures ∙ service_volumes-terms _ _ _ c.requires.0 ∙ service_volumes-with_demand _ 0), c.requires.1)
+    let volumes = c.volumes_with-volumes.ensures ∙ service_volumes-terms _ _ _ c.requires.0 ∙ service_volumes-with_demand _ 0 in
+    ((c.requires.0, volumes), c.requires.1)

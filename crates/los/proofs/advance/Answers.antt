@@ -34,7 +34,7 @@ returns-then-written-eq0 c =
       held_in_bounds = search rules;
       answered = λ h. absurd (omega (arith, t.ensures.text.ends, c.if-written-eq0.true));
       kept = begins _ _ _ _ _ _ t.ensures.carried t.ensures.buffer r.ensures.kept r.ensures.in_bounds.0;
-      ended = λ m c. ends-held _ _ _ _ _ _ t.ensures.carried t.ensures.buffer r.ensures.kept (r.ensures.ended.0 m)
+      ended = λ m sound. ends-held _ _ _ _ _ _ t.ensures.carried t.ensures.buffer r.ensures.kept (r.ensures.ended.0 m)
           (carried-newline line_texts _ held none);
     }
 
@@ -45,4 +45,9 @@ slice_bounds-write_out-end-2 c =
 
 pub returns : goal.returns
 returns c =
-    let t = c.answer_turn-turn in record { held_in_bounds = search rules; answered = λ h. (t.ensures.carried, refl); kept = begins _ _ _ _ _ t.result.carried t.ensures.carried t.ensures.buffer refl (omega arith); ended = λ m s. absurd (true≢false (sym s ∙ m)) }
+    let t = c.answer_turn-turn in record {
+      held_in_bounds = search rules;
+      answered = λ h. (t.ensures.carried, refl);
+      kept = begins _ _ _ _ _ t.result.carried t.ensures.carried t.ensures.buffer refl (omega arith);
+      ended = λ m s. absurd (true≢false (sym s ∙ m));
+    }

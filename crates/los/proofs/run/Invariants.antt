@@ -1,4 +1,4 @@
--- `los::run` meets its contract: a step that ends the input leaves no newline in what is held; the count of steps falls.
+-- The loop of `los::run`: a step that ends the input leaves no newline in what is held; the count of steps falls.
 -- Assumes nothing.
 use mathlib.Core.Path.{◌≡◌, refl, sym, ◌∙◌}
 use mathlib.Core.Bool.{true, false, true≢false}
@@ -13,7 +13,8 @@ use borrow.Author.Rules.{rules}
 use Rattle.los.proofs.run.Given as goal
 
 abbrev pub invariant-loop-more : goal.invariant-loop-more
-invariant-loop-more l = (length l.buffer ≡ length l.initial.buffer) × (length l.out ≡ length l.initial.out) × (l.held ≤ length l.buffer)
+invariant-loop-more l = (length l.buffer ≡ length l.initial.buffer) × (length l.out ≡ length l.initial.out)
+    × (l.held ≤ length l.buffer)
     × (l.more ≡ false → l.sound ≡ true → count_before newline (take l.held l.buffer) ≡ l.held)
 
 abbrev pub decreases-loop-more : goal.decreases-loop-more

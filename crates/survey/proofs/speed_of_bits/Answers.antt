@@ -8,6 +8,12 @@ use native.Mathlib.Omega.{arith}
 use Rattle.survey.proofs.FloatLaws.{steps, bits-low, bits-by, bits-high, numerator-fits, denominator-fits, denominator-pos}
 use Rattle.survey.proofs.speed_of_bits.Goals as goal
 
+pub returns : goal.returns
+unfolding steps
+returns c =
+    bits-by c.args.unit c.requires c.args.bits false c.if-exponent-lt127.false
+    c.if-exponent-gt135.false (sym c.outside.ensures ∙ c.if-outside.false)
+
 pub returns-then-exponent-lt127 : goal.returns-then-exponent-lt127
 unfolding steps
 returns-then-exponent-lt127 c =
@@ -38,9 +44,3 @@ unfolding steps
 returns-then-outside c =
     bits-by c.args.unit c.requires c.args.bits true c.if-exponent-lt127.false
     c.if-exponent-gt135.false (sym c.outside.ensures ∙ c.if-outside.true)
-
-pub returns : goal.returns
-unfolding steps
-returns c =
-    bits-by c.args.unit c.requires c.args.bits false c.if-exponent-lt127.false
-    c.if-exponent-gt135.false (sym c.outside.ensures ∙ c.if-outside.false)

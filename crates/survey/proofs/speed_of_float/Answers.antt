@@ -23,7 +23,9 @@ float_to_bits-bits c =
 
 pub overflow_cast-bits : goal.overflow_cast-bits
 overflow_cast-bits c =
-    record { fits = lt_of_lt_of_le (to_bits-lt binary32 c.args.x (passes (fits binary32 c.args.x) c.well_formed.0.1)) (lit≤ tt) }
+    record {
+      fits = lt_of_lt_of_le (to_bits-lt binary32 c.args.x (passes (fits binary32 c.args.x) c.well_formed.0.1)) (lit≤ tt);
+    }
 
 pub returns : goal.returns
 returns c =

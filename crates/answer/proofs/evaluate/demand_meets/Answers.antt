@@ -4,16 +4,6 @@ use Rattle.answer.specs.Search.{demand_meets}
 use borrow.Author.Rules.{rules}
 use Rattle.answer.proofs.evaluate.demand_meets.Goals as goal
 
-pub flow_rate-requires : goal.flow_rate-requires
-unfolding demand_meets
-flow_rate-requires c =
-    search rules
-
-pub meets_limit-requires : goal.meets_limit-requires
-unfolding demand_meets
-meets_limit-requires c =
-    search rules
-
 pub returns : goal.returns
 unfolding demand_meets
 returns c =

@@ -5,6 +5,12 @@ use native.Mathlib.Omega.{arith}
 use Rattle.answer.proofs.TriesLaws.{done-start, done-next, done-volumes, done-end-le, done-tries-le}
 use Rattle.answer.proofs.evaluate.found_volumes.Goals as goal
 
+pub loop-letter-preserved : goal.loop-letter-preserved
+loop-letter-preserved c =
+    let p = c.requires in
+    done-next _ _ _ _ _ c.loop-letter.invariant (omega arith) _ c.greatest_for-found.ensures
+    p.0.prepared.well-formed p.1.divisor-pos
+
 pub loop-letter-init : goal.loop-letter-init
 loop-letter-init c =
     done-start _
@@ -13,23 +19,9 @@ pub greatest_for-found-requires : goal.greatest_for-found-requires
 greatest_for-found-requires c =
     let p = c.requires in (p.0, p.1, done-end-le _ _ _ _ _ c.loop-letter.invariant)
 
-pub overflow_sub-letter : goal.overflow_sub-letter
-overflow_sub-letter c =
-    omega arith
-
 pub overflow_add-tries : goal.overflow_add-tries
 overflow_add-tries c =
     omega (arith, done-tries-le _ _ _ _ _ c.loop-letter.invariant (omega arith) _ c.greatest_for-found.ensures)
-
-pub loop-letter-smaller : goal.loop-letter-smaller
-loop-letter-smaller c =
-    omega arith
-
-pub loop-letter-preserved : goal.loop-letter-preserved
-loop-letter-preserved c =
-    let p = c.requires in
-    done-next _ _ _ _ _ c.loop-letter.invariant (omega arith) _ c.greatest_for-found.ensures
-    p.0.prepared.well-formed p.1.divisor-pos
 
 pub returns : goal.returns
 returns c =

@@ -1,4 +1,4 @@
--- `answer::evaluate::found_volumes` meets its contract: each search hands back what it would up to the greatest demand, and the counts are
+-- The loop of `answer::evaluate::found_volumes`: each search hands back what it would up to the greatest demand, and the counts are
 -- added.
 -- Assumes nothing.
 use Rattle.answer.proofs.TriesLaws.{Done}

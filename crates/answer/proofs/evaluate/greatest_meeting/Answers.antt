@@ -18,18 +18,6 @@ loop-high-init c =
     (demand_meets-zero c.args.terms.curve c.args.load c.args.limit c.requires.ready.prepared.well-formed
     c.requires.load-fits.divisor-pos)
 
-pub overflow_sub-high : goal.overflow_sub-high
-overflow_sub-high c =
-    omega arith
-
-pub overflow_sub-middle : goal.overflow_sub-middle
-overflow_sub-middle c =
-    omega arith
-
-pub overflow_add-middle : goal.overflow_add-middle
-overflow_add-middle c =
-    omega arith
-
 pub overflow_add-tries : goal.overflow_add-tries
 overflow_add-tries c =
     omega (arith, c.loop-high.invariant.near, c.requires.demand-le)
@@ -39,19 +27,11 @@ demand_meets-requires c =
     let p = c.requires in
     record { ready = p.ready; load-fits = p.load-fits; limit-le = p.limit-le; demand-le = omega (arith, p.demand-le) }
 
-pub loop-high-smaller-then-demand_meets : goal.loop-high-smaller-then-demand_meets
-loop-high-smaller-then-demand_meets c =
-    omega arith
-
 pub loop-high-preserved-then-demand_meets : goal.loop-high-preserved-then-demand_meets
 unfolding middle
 loop-high-preserved-then-demand_meets c =
     halved-passes _ _ _ _ _ c.loop-high.invariant (omega arith)
     (sym c.demand_meets.ensures ∙ c.if-demand_meets.true)
-
-pub loop-high-smaller : goal.loop-high-smaller
-loop-high-smaller c =
-    omega arith
 
 pub loop-high-preserved : goal.loop-high-preserved
 unfolding middle

@@ -1,4 +1,4 @@
--- `answer::evaluate::greatest_meeting` meets its contract: the halving keeps a demand that passes below one that fails or is past the
+-- The loop of `answer::evaluate::greatest_meeting`: the halving keeps a demand that passes below one that fails or is past the
 -- end, until they are neighbours, and counts what it tries.
 -- Assumes nothing.
 use Prim.Native.Nat.{◌-◌}

@@ -13,14 +13,6 @@ use Rattle.road.proofs.RefusalLaws.{fields-with_lanes}
 use Rattle.answer.proofs.LanesLaws.{meets-of-kind, lanes_found-eq, lanes_found-none}
 use Rattle.answer.proofs.lanes.lanes_found.Goals as goal
 
-pub most_lanes-most-requires : goal.most_lanes-most-requires
-most_lanes-most-requires c =
-    tt
-
-pub fewest_lanes-lanes-requires : goal.fewest_lanes-lanes-requires
-fewest_lanes-lanes-requires c =
-    tt
-
 pub loop-lanes-init : goal.loop-lanes-init
 loop-lanes-init c =
     let a = c.args in
@@ -55,10 +47,6 @@ overflow_add-lanes c =
       c.loop-lanes.invariant.0,
       (kind-ends c.args.case.road.kind).lanes-le,
     )
-
-pub loop-lanes-smaller : goal.loop-lanes-smaller
-loop-lanes-smaller c =
-    omega arith
 
 pub loop-lanes-preserved : goal.loop-lanes-preserved
 loop-lanes-preserved c =

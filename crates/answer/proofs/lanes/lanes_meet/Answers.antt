@@ -13,6 +13,23 @@ use Rattle.method.proofs.FlowLaws.{load_of-fits}
 use Rattle.answer.proofs.VolumeLaws.{meets-accepted, meets-refused}
 use Rattle.answer.proofs.lanes.lanes_meet.Goals as goal
 
+pub returns-in-Accepted : goal.returns-in-Accepted
+unfolding heavy_factor_of curve_terms_of
+returns-in-Accepted c =
+    let case = with_lanes c.args.case c.args.lanes in
+    let found = checked_curve-accepted case _ c.requires.fields
+    (sym c.checked_curve-checked.ensures
+    ∙ c.in-Accepted.is) in
+    let own = ap (λ t. t.curve) (c.curve_terms.ensures ∙ ap curve_terms_of found.1) in
+    simp (
+      c.flow_meets_limit.ensures,
+      own,
+      c.flow_rate-v.ensures,
+      c.load_of.ensures,
+      c.density_limit.ensures,
+    )
+    (sym (meets-accepted case c.args.letter found.0 c.requires.letter-low c.requires.letter-high))
+
 pub checked_curve-checked-requires : goal.checked_curve-checked-requires
 checked_curve-checked-requires c =
     let case = with_lanes c.args.case c.args.lanes in
@@ -45,23 +62,6 @@ flow_meets_limit-requires c =
           (curve_terms_of-prepared _ (case_curve-well_formed case found.0) (case_curve-sized case found.0)),
       omega (arith, c.density_limit.ensures, density_limit-le c.args.letter),
     )
-
-pub returns-in-Accepted : goal.returns-in-Accepted
-unfolding heavy_factor_of curve_terms_of
-returns-in-Accepted c =
-    let case = with_lanes c.args.case c.args.lanes in
-    let found = checked_curve-accepted case _ c.requires.fields
-    (sym c.checked_curve-checked.ensures
-    ∙ c.in-Accepted.is) in
-    let own = ap (λ t. t.curve) (c.curve_terms.ensures ∙ ap curve_terms_of found.1) in
-    simp (
-      c.flow_meets_limit.ensures,
-      own,
-      c.flow_rate-v.ensures,
-      c.load_of.ensures,
-      c.density_limit.ensures,
-    )
-    (sym (meets-accepted case c.args.letter found.0 c.requires.letter-low c.requires.letter-high))
 
 pub returns-in-Refused : goal.returns-in-Refused
 returns-in-Refused c =

@@ -24,7 +24,11 @@ pub lanes_found-found-requires : goal.lanes_found-found-requires
 lanes_found-found-requires c =
     let a = c.args in
     let ends = within 1 5 a.letter (sym c.outside.ensures ∙ c.if-outside.false) in
-    record { fields = omega (arith, c.field_refusal-number.ensures, c.if-number-gt0.false); letter-low = ends.0; letter-high = ends.1 }
+    record {
+      fields = omega (arith, c.field_refusal-number.ensures, c.if-number-gt0.false);
+      letter-low = ends.0;
+      letter-high = ends.1;
+    }
 
 pub returns-then-most_lanes-found : goal.returns-then-most_lanes-found
 returns-then-most_lanes-found c =

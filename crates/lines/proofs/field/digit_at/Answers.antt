@@ -10,11 +10,17 @@ use Rattle.lines.proofs.field.digit_at.Goals as goal
 
 pub returns-then-i-line : goal.returns-then-i-line
 returns-then-i-line c =
-    record { value = rw (get_or-eq_default c.args.line.now 0 {n = c.args.i} (omega arith)); i_in_bounds = λ e. absurd (true≢false (sym e)) }
+    record {
+      value = rw (get_or-eq_default c.args.line.now 0 {n = c.args.i} (omega arith));
+      i_in_bounds = λ e. absurd (true≢false (sym e));
+    }
 
 pub returns-then-b-lt48 : goal.returns-then-b-lt48
 returns-then-b-lt48 c =
-    let a = c.args in record { value = digit-low (get_or a.line.now a.i 0) (omega (arith, c.byte_value-b.ensures, c.if-b-lt48.true)); i_in_bounds = λ e. absurd (true≢false (sym e)) }
+    let a = c.args in record {
+      value = digit-low (get_or a.line.now a.i 0) (omega (arith, c.byte_value-b.ensures, c.if-b-lt48.true));
+      i_in_bounds = λ e. absurd (true≢false (sym e));
+    }
 
 pub returns : goal.returns
 returns c =

@@ -1,4 +1,4 @@
--- `lines::field::field_values` meets its contract: the fields read so far have their values, and the rest of the line is read as the rest
+-- The loop of `lines::field::field_values`: the fields read so far have their values, and the rest of the line is read as the rest
 -- of the layout.
 -- Assumes nothing.
 use mathlib.Core.Path.{◌≡◌}
@@ -12,7 +12,8 @@ use Rattle.lines.proofs.FieldsLaws.{after, completed_from}
 use Rattle.lines.proofs.field.field_values.Given as goal
 
 abbrev pub invariant-loop-place : goal.invariant-loop-place
-invariant-loop-place l = (l.at ≤ length l.line) × (l.place ≤ 15) × (length l.values ≡ 15) × (l.place ≤ 13 → drop 13 l.values ≡ 1000 ∷ 1000 ∷ [])
+invariant-loop-place l = (l.at ≤ length l.line) × (l.place ≤ 15) × (length l.values ≡ 15)
+    × (l.place ≤ 13 → drop 13 l.values ≡ 1000 ∷ 1000 ∷ [])
     × (values_of layout (completed (parts tab l.line))
     ≡ after (take l.place l.values) (values_of (drop l.place layout) (completed_from l.place (parts tab (drop l.at l.line)))))
 

@@ -1,4 +1,4 @@
--- `lines::field::letter_value` meets its contract: the letters passed are not the byte, so it is one of all exactly when it is one of the
+-- The loop of `lines::field::letter_value`: the letters passed are not the byte, so it is one of all exactly when it is one of the
 -- rest.
 -- Assumes nothing.
 use mathlib.Core.Path.{◌≡◌}

@@ -1,4 +1,4 @@
--- `lines::field::number_at` meets its contract: the digits read so far spell n, and 17 of them leave room for one more in 64 bits.
+-- The loop of `lines::field::number_at`: the digits read so far spell n, and 17 of them leave room for one more in 64 bits.
 -- Assumes nothing.
 use Prim.Native.Nat.{◌+◌, ◌-◌, ◌^◌, ◌≤◌, ◌<◌}
 use lib.ListN.{length}

@@ -11,21 +11,11 @@ unfolding read_values read_line
 returns-then-line-gt-LONGEST_LINE c =
     simp (lt-ltb _ _ c.if-line-gt-LONGEST_LINE.true)
 
-pub field_values-fields-requires : goal.field_values-fields-requires
-unfolding read_values read_line
-field_values-fields-requires c =
-    search rules
-
 pub returns-then-not-fields : goal.returns-then-not-fields
 unfolding read_values read_line
 returns-then-not-fields c =
     let f = c.field_values-fields in
     rw (le-ltb _ _ c.if-line-gt-LONGEST_LINE.false, sym f.ensures, not-true f.result.well_formed c.if-not-fields.true)
-
-pub case_of-requires : goal.case_of-requires
-unfolding read_values read_line
-case_of-requires c =
-    search rules
 
 pub returns : goal.returns
 unfolding read_values read_line

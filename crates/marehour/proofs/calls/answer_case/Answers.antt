@@ -11,6 +11,19 @@ use Rattle.marehour.specs.Calls.{answer_reply}
 use Rattle.marehour.proofs.CallLaws.{positive-fits, refused-reply, wrote-reply}
 use Rattle.marehour.proofs.calls.answer_case.Goals as goal
 
+pub returns-in-Graded : goal.returns-in-Graded
+returns-in-Graded c =
+    let both =
+    let e = sym c.evaluate-found.ensures
+    ∙ c.in-Graded.is in
+    wrote-reply _ _ _ _ _
+    (omega (
+      arith,
+      answer_text-le c.args.case,
+      ap (λ a. length (answer_text a)) e,
+    )) c.write_grade-written.ensures (ap answer_reply e) in
+    record { result = both.0; buffer = both.1 }
+
 pub write_grade-written-requires : goal.write_grade-written-requires
 write_grade-written-requires c =
     let e = sym c.evaluate-found.ensures ∙ c.in-Graded.is in
@@ -38,23 +51,10 @@ refused-requires c =
     let e = sym c.evaluate-found.ensures ∙ c.in-Refused.is in
     omega (arith, (refusals-within-ends c.args.case 1).0, ap refusal_number e)
 
-pub returns-in-Graded : goal.returns-in-Graded
-returns-in-Graded c =
-    let both =
-    let e = sym c.evaluate-found.ensures
-    ∙ c.in-Graded.is in
-    wrote-reply _ _ _ _ _
-    (omega (
-      arith,
-      answer_text-le c.args.case,
-      ap (λ a. length (answer_text a)) e,
-    )) c.write_grade-written.ensures (ap answer_reply e) in
-    record { result = both.0; buffer = both.1 }
-
 pub returns-in-Refused : goal.returns-in-Refused
 returns-in-Refused c =
-    let both =
     let e = sym c.evaluate-found.ensures ∙ c.in-Refused.is in
+    let both =
     refused-reply length c.refused.result _ _ _
     (omega (
       arith,

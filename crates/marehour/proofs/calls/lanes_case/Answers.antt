@@ -29,17 +29,17 @@ refused-requires c =
 
 pub returns-in-Lanes : goal.returns-in-Lanes
 returns-in-Lanes c =
-    let both =
     let e = sym c.lanes_needed-found.ensures ∙ c.in-Lanes.is in
     let digit = found-digit c.args.case c.args.letter _ e in
+    let both =
     wrote-reply _ _ _ 2 _ (omega (arith, count-length _ digit)) (count-written _ c.args.answer.now digit c.requires) (ap count_reply e) in
     record { result = both.0; buffer = both.1 }
 
 pub returns-in-Refused : goal.returns-in-Refused
 returns-in-Refused c =
-    let both =
     let a = c.args in
     let e = sym c.lanes_needed-found.ensures ∙ c.in-Refused.is in
+    let both =
     refused-reply length c.refused.result _ _ _ (omega (arith, (refusals-within-ends a.case a.letter).1, ap refusal_number e))
     c.refused.ensures (ap count_reply e) in
     record { result = both.0; buffer = both.1 }

@@ -27,9 +27,9 @@ returns-in-Graded c =
 
 pub returns-in-Refused : goal.returns-in-Refused
 returns-in-Refused c =
-    let both =
     let a = c.args in
     let e = sym c.evaluate_daily-found.ensures ∙ c.in-Refused.is in
+    let both =
     refused-reply length c.refused.result _ _ _
     (omega (arith, number-le a.case a.shares a.daily_traffic, ap refusal_number e)) c.refused.ensures
     (ap (λ a. figures_reply (refusal_number a) (values a)) e) in

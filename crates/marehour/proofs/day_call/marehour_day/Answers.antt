@@ -12,30 +12,30 @@ use Rattle.marehour.specs.Calls.{day_reply, answer_count}
 use Rattle.marehour.proofs.CallLaws.{call-lent, call-refused, call-wrote, positive-fits}
 use Rattle.marehour.proofs.day_call.marehour_day.Goals as goal
 
--- 32 bits hold the count of the demands
 pub refused-requires : goal.refused-requires
 refused-requires c =
     omega (arith, lent-number _ _ _ c.lent_refusal-number.ensures c.if-number-gt0.true)
 
 pub returns-then-number-gt0 : goal.returns-then-number-gt0
 returns-then-number-gt0 c =
-    let both =
     let a = c.args in
     let own = c.lent_refusal-number.ensures in
+    let both =
     call-lent answer_count (day_reply a.demands.now) (read_line a.line.now) (lent_refusals _ _) a.answers.now c.refused.result _
     own c.if-number-gt0.true (omega (arith, lent-number _ _ _ own c.if-number-gt0.true)) c.refused.ensures in
     record { result = both.0; answers = both.1 }
 
 pub returns-in_default : goal.returns-in_default
 returns-in_default c =
-    let both =
     let a = c.args in
     let e = sym c.read_line-reading.ensures ∙ c.in_default.is in
+    let both =
     call-refused answer_count (day_reply a.demands.now) _ (lent_refusals _ _) a.answers.now
     (lent-passed _ _ _ c.lent_refusal-number.ensures c.if-number-gt0.false) c.refused-in_default.result 15
     (omega arith) (e ∙ ap LineRead.Refused (read_line-refused a.line.now _ e)) c.refused-in_default.ensures in
     record { result = both.0; answers = both.1 }
 
+-- 32 bits hold the count of the demands
 pub overflow_cast-result : goal.overflow_cast-result
 overflow_cast-result c =
     let fits = lent-passed _ _ _ c.lent_refusal-number.ensures c.if-number-gt0.false in
@@ -43,9 +43,9 @@ overflow_cast-result c =
 
 pub returns : goal.returns
 returns c =
-    let both =
     let a = c.args in
     let fits = lent-passed _ _ _ c.lent_refusal-number.ensures c.if-number-gt0.false in
+    let both =
     call-wrote answer_count (day_reply a.demands.now) _ (lent_refusals _ _) a.answers.now fits _ _ _ _
     (sym c.read_line-reading.ensures
     ∙ c.in-Case.is) refl

@@ -2,6 +2,7 @@
 -- and 22 first.
 -- Assumes nothing.
 use mathlib.Core.Path.{sym, ◌∙◌}
+use native.Mathlib.Omega.{arith}
 use Rattle.forecast.specs.Forecasts.{figure_count}
 use Rattle.marehour.specs.Calls.{forecast_reply}
 use Rattle.marehour.proofs.CallLaws.{call-short, call-malformed, call-read}
@@ -10,24 +11,24 @@ use Rattle.marehour.proofs.forecast_call.marehour_forecast.Goals as goal
 
 pub returns-then-figures-lt-FIGURES : goal.returns-then-figures-lt-FIGURES
 returns-then-figures-lt-FIGURES c =
-    let both =
     let a = c.args in
-    call-short figure_count (forecast_reply _) a.line.now a.figures.now _ c.if-figures-lt-FIGURES.true c.refused.ensures in
+    let both =
+    call-short figure_count (forecast_reply _) a.line.now a.figures.now _ (omega (arith, c.if-figures-lt-FIGURES.true)) c.refused.ensures in
     record { result = both.0; figures = both.1 }
 
 pub returns-in_default : goal.returns-in_default
 returns-in_default c =
-    let both =
     let a = c.args in
+    let both =
     call-malformed figure_count (forecast_reply _) a.line.now a.figures.now c.if-figures-lt-FIGURES.false _ _
     (sym c.read_line-reading.ensures ∙ c.in_default.is) c.refused-in_default.ensures in
     record { result = both.0; figures = both.1 }
 
 pub returns : goal.returns
 returns c =
-    let both =
     let a = c.args in
     let s = c.forecast_case in
+    let both =
     call-read figure_count (forecast_reply _) a.line.now a.figures.now c.if-figures-lt-FIGURES.false _ _ _
     (sym c.read_line-reading.ensures ∙ c.in-Case.is) (search rules) (s.ensures.result, s.ensures.figures) in
     record { result = both.0; figures = both.1 }

@@ -11,11 +11,6 @@ unfolding flow_rate_of
 overflow_mul-demand c =
     record { fits = product-fits greatest_demand 3000 c.requires.1 c.requires.0.heavy-le tt }
 
-pub div_up-requires : goal.div_up-requires
-unfolding flow_rate_of
-div_up-requires c =
-    search rules
-
 pub returns : goal.returns
 unfolding flow_rate_of
 returns c =

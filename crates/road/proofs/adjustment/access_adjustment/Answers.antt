@@ -4,11 +4,6 @@ use Rattle.road.specs.Adjustments.{access_adjustment}
 use borrow.Author.Rules.{rules}
 use Rattle.road.proofs.adjustment.access_adjustment.Goals as goal
 
-pub lesser-requires : goal.lesser-requires
-unfolding access_adjustment
-lesser-requires c =
-    search rules
-
 pub returns : goal.returns
 unfolding access_adjustment
 returns c =

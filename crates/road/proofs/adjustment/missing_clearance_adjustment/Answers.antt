@@ -1,6 +1,5 @@
 -- `road::adjustment::missing_clearance_adjustment` meets its contract: it reads the entries on both sides, which rise.
 -- Assumes nothing.
--- what is read of a row for x missing tenths, k the place after
 use mathlib.Core.Path.{◌≡◌, sym}
 use mathlib.Core.List.{List}
 use Prim.Native.Nat.{ℕ, ◌+◌, ◌*◌, ◌-◌, ◌/◌, ◌%◌, ◌≤◌}
@@ -15,6 +14,7 @@ use Rattle.road.proofs.AdjustmentLaws.{total_clearance_row-rises, total_clearanc
 use borrow.Author.Rules.{rules}
 use Rattle.road.proofs.adjustment.missing_clearance_adjustment.Goals as goal
 
+-- what is read of a row for x missing tenths, k the place after
 module _ (row : List ℕ) (n x k : ℕ) (own : row ≡ total_clearance_row n) (up : k ≡ div_up x 20) (h : x ≤ 120) where
   rises : get_or row (x / 20) 0 ≤ get_or row k 0
   unfolding entry_before entry_after
@@ -27,16 +27,6 @@ module _ (row : List ℕ) (n x k : ℕ) (own : row ≡ total_clearance_row n) (u
   line : get_or row (x / 20) 0 + (get_or row k 0 - get_or row (x / 20) 0) * (x % 20) / 20 ≡ interpolated (total_clearance_row n) 20 x
   unfolding entry_before entry_after
   line = rw (own, up) (sym (interpolated-rise (total_clearance_row n) 20 x (omega arith) (total_clearance_row-rises n x h)))
-
-pub total_clearance_row-row-requires : goal.total_clearance_row-row-requires
-unfolding div_up
-total_clearance_row-row-requires c =
-    search rules
-
-pub div_up-requires : goal.div_up-requires
-unfolding div_up
-div_up-requires c =
-    search rules
 
 pub offset_bounds-row-div_up : goal.offset_bounds-row-div_up
 unfolding div_up

@@ -6,16 +6,6 @@ use Rattle.road.proofs.AdjustmentLaws.{counted_left_clearance-le}
 use borrow.Author.Rules.{rules}
 use Rattle.road.proofs.adjustment.total_clearance.Goals as goal
 
-pub lesser-requires : goal.lesser-requires
-unfolding total_clearance
-lesser-requires c =
-    search rules
-
-pub counted_left_clearance-requires : goal.counted_left_clearance-requires
-unfolding total_clearance
-counted_left_clearance-requires c =
-    search rules
-
 pub overflow_add-result : goal.overflow_add-result
 unfolding total_clearance
 overflow_add-result c =

@@ -4,21 +4,6 @@ use Rattle.road.specs.FreeFlowSpeed.{free_flow_speed_of}
 use borrow.Author.Rules.{rules}
 use Rattle.road.proofs.free_flow.free_flow_speed.Goals as goal
 
-pub highest_speed-requires : goal.highest_speed-requires
-unfolding free_flow_speed_of
-highest_speed-requires c =
-    search rules
-
-pub uncapped_speed-requires : goal.uncapped_speed-requires
-unfolding free_flow_speed_of
-uncapped_speed-requires c =
-    search rules
-
-pub lesser-requires : goal.lesser-requires
-unfolding free_flow_speed_of
-lesser-requires c =
-    search rules
-
 pub returns : goal.returns
 unfolding free_flow_speed_of
 returns c =

@@ -6,32 +6,17 @@ use Rattle.road.proofs.FreeFlowSpeedLaws.{freeway_terms-le}
 use borrow.Author.Rules.{rules}
 use Rattle.road.proofs.free_flow.freeway_estimate.Goals as goal
 
-pub lane_width_adjustment-requires : goal.lane_width_adjustment-requires
-unfolding estimated_by
-lane_width_adjustment-requires c =
-    search rules
-
 pub overflow_sub-result : goal.overflow_sub-result
 unfolding estimated_by
 overflow_sub-result c =
     let a = c.args in omega
     (arith, freeway_terms-le a.road.lane_width a.road.right_clearance a.lanes a.road.access)
 
-pub right_clearance_adjustment-requires : goal.right_clearance_adjustment-requires
-unfolding estimated_by
-right_clearance_adjustment-requires c =
-    search rules
-
 pub overflow_sub-result-2 : goal.overflow_sub-result-2
 unfolding estimated_by
 overflow_sub-result-2 c =
     let a = c.args in
     omega (arith, freeway_terms-le a.road.lane_width a.road.right_clearance a.lanes a.road.access)
-
-pub ramp_term-requires : goal.ramp_term-requires
-unfolding estimated_by
-ramp_term-requires c =
-    search rules
 
 pub overflow_sub-result-3 : goal.overflow_sub-result-3
 unfolding estimated_by

@@ -6,40 +6,20 @@ use Rattle.road.proofs.FreeFlowSpeedLaws.{multilane_terms-le}
 use borrow.Author.Rules.{rules}
 use Rattle.road.proofs.free_flow.multilane_estimate.Goals as goal
 
-pub lane_width_adjustment-requires : goal.lane_width_adjustment-requires
-unfolding estimated_by
-lane_width_adjustment-requires c =
-    search rules
-
 pub overflow_sub-result : goal.overflow_sub-result
 unfolding estimated_by
 overflow_sub-result c =
     let a = c.args in omega (arith, multilane_terms-le a.road a.lanes)
-
-pub total_clearance_adjustment-requires : goal.total_clearance_adjustment-requires
-unfolding estimated_by
-total_clearance_adjustment-requires c =
-    search rules
 
 pub overflow_sub-result-2 : goal.overflow_sub-result-2
 unfolding estimated_by
 overflow_sub-result-2 c =
     let a = c.args in omega (arith, multilane_terms-le a.road a.lanes)
 
-pub median_adjustment-requires : goal.median_adjustment-requires
-unfolding estimated_by
-median_adjustment-requires c =
-    search rules
-
 pub overflow_sub-result-3 : goal.overflow_sub-result-3
 unfolding estimated_by
 overflow_sub-result-3 c =
     let a = c.args in omega (arith, multilane_terms-le a.road a.lanes)
-
-pub access_adjustment-requires : goal.access_adjustment-requires
-unfolding estimated_by
-access_adjustment-requires c =
-    search rules
 
 pub overflow_sub-result-4 : goal.overflow_sub-result-4
 unfolding estimated_by

@@ -1,6 +1,5 @@
 -- `road::refusal::field_refusal_with` meets its contract: 1 to 6, the number that was found, and 19, one after the other.
 -- Assumes nothing.
--- 1 to 6 refuse nothing: the number and 19 decide
 use mathlib.Core.Path.{◌≡◌, sym, ◌∙◌}
 use mathlib.Core.List.{◌++◌}
 use Prim.Native.Nat.{ℕ, ◌≤◌}
@@ -13,6 +12,7 @@ use Rattle.road.specs.Refusals.{section_refusals, weather_refusals, field_refusa
 use Rattle.road.proofs.RefusalLaws.{section-numbered}
 use Rattle.road.proofs.refusal.field_refusal_with.Goals as goal
 
+-- 1 to 6 refuse nothing: the number and 19 decide
 behind : (case : Case) (number loads : ℕ) → number ≡ first_refusal (section_refusals case) → number ≤ 0
     → first_refusal (field_refusals_with (found loads) case) ≡ first_refusal (found loads ++ weather_refusals case)
 behind case number loads e z =

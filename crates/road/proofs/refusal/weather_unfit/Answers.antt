@@ -5,21 +5,6 @@ use Rattle.road.specs.Refusals.{weather_unfit}
 use borrow.Author.Rules.{rules}
 use Rattle.road.proofs.refusal.weather_unfit.Goals as goal
 
-pub lowest_factor-lowest-requires : goal.lowest_factor-lowest-requires
-unfolding weather_unfit
-lowest_factor-lowest-requires c =
-    search rules
-
-pub outside-requires : goal.outside-requires
-unfolding weather_unfit
-outside-requires c =
-    search rules
-
-pub outside-requires-else-outside : goal.outside-requires-else-outside
-unfolding weather_unfit
-outside-requires-else-outside c =
-    search rules
-
 pub returns-then-outside : goal.returns-then-outside
 unfolding weather_unfit
 returns-then-outside c =

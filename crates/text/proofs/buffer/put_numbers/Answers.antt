@@ -12,11 +12,11 @@ use Rattle.text.proofs.BufferLaws.{none-written, then-byte}
 use borrow.Author.Rules.{rules}
 use Rattle.text.proofs.buffer.put_numbers.Goals as goal
 
--- the bounds-out-p of the next number
 pub loop-i-init : goal.loop-i-init
 loop-i-init c =
     (search rules, refl, record { content = sym (none-written _ _); ends = sym (add-zero _) })
 
+-- the place of the next number
 pub bounds-out-p : goal.bounds-out-p
 bounds-out-p c =
     let a = c.args in let l = c.loop-i in

@@ -1,4 +1,4 @@
--- `text::decimal::long_digit_count` meets its contract: each division by ten takes one digit off.
+-- The loop of `text::decimal::long_digit_count`: each division by ten takes one digit off.
 -- Assumes nothing.
 use mathlib.Core.Path.{◌≡◌}
 use Prim.Native.Nat.{◌+◌, ◌≤◌}

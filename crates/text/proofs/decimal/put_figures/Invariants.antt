@@ -1,4 +1,4 @@
--- `text::decimal::put_figures` meets its contract: each turn writes a tab and a number behind what the figures before it took.
+-- The loop of `text::decimal::put_figures`: each turn writes a tab and a number behind what the figures before it took.
 -- Assumes nothing.
 use mathlib.Core.Path.{◌≡◌}
 use Prim.Native.Nat.{◌-◌, ◌≤◌}

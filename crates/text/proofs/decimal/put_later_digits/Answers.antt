@@ -50,4 +50,7 @@ loop-rest-preserved c =
 pub returns : goal.returns
 returns c =
     let a = c.args in let l = c.loop-rest in
-    let all = all-filled a.n a.end a.out.now l.out l.rest l.p l.invariant.2 c.requires.1 (omega arith) in record { upper_bound = (omega arith, all.0); out_after = all.1 }
+    let all = all-filled a.n a.end a.out.now l.out l.rest l.p l.invariant.2 c.requires.1 (omega arith) in record {
+      upper_bound = (omega arith, all.0);
+      out_after = all.1;
+    }

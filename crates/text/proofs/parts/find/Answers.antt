@@ -28,4 +28,7 @@ loop-i-preserved c = (
 
 pub returns : goal.returns
 returns c =
-    record { value = sym (c.loop-i.invariant.1 ∙ count_before-end c.args.b c.args.bytes.now c.loop-i.i (omega arith)); upper_bound = search rules }
+    record {
+      value = sym (c.loop-i.invariant.1 ∙ count_before-end c.args.b c.args.bytes.now c.loop-i.i (omega arith));
+      upper_bound = search rules;
+    }
