@@ -2,7 +2,6 @@
 -- Assumes nothing.
 use mathlib.Core.Path.{sym, ◌∙◌}
 use Rattle.daily.specs.Daily.{shares_unfit}
-use borrow.Author.Rules.{rules}
 use Rattle.daily.proofs.shares_unfit.Goals as goal
 
 pub returns-then-outside : goal.returns-then-outside

@@ -2,7 +2,6 @@
 -- Assumes nothing.
 use mathlib.Core.Path.{sym, ◌∙◌}
 use Rattle.day.specs.Days.{lent_unfit}
-use borrow.Author.Rules.{rules}
 use Rattle.day.proofs.lent_unfit.Goals as goal
 
 pub returns-else-outside : goal.returns-else-outside

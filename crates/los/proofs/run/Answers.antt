@@ -1,13 +1,9 @@
 -- `los::run` meets its contract: a step that ends the input leaves no newline in what is held; the count of steps falls.
 -- Assumes nothing.
-use mathlib.Core.Path.{◌≡◌, refl, sym, ◌∙◌}
-use mathlib.Core.Bool.{true, false, true≢false}
-use Prim.Native.Nat.{◌≤◌}
+use mathlib.Core.Path.{refl, sym, ◌∙◌}
+use mathlib.Core.Bool.{true≢false}
 use native.Mathlib.Omega.{arith}
-use lib.ListN.{length, take}
 use lib.Seq.{length-take-le}
-use Rattle.text.specs.Bytes.{newline}
-use Rattle.text.specs.Parts.{count_before}
 use borrow.Author.Rules.{rules}
 use Rattle.los.proofs.run.Goals as goal
 

@@ -1,15 +1,11 @@
 -- The loop of `los::run`: a step that ends the input leaves no newline in what is held; the count of steps falls.
 -- Assumes nothing.
-use mathlib.Core.Path.{◌≡◌, refl, sym, ◌∙◌}
-use mathlib.Core.Bool.{true, false, true≢false}
+use mathlib.Core.Path.{◌≡◌}
+use mathlib.Core.Bool.{true, false}
 use Prim.Native.Nat.{◌≤◌}
-use native.Mathlib.Omega.{arith}
-use borrow.Author.Tests.{not-false}
 use lib.ListN.{length, take}
-use lib.Seq.{length-take-le}
 use Rattle.text.specs.Bytes.{newline}
 use Rattle.text.specs.Parts.{count_before}
-use borrow.Author.Rules.{rules}
 use Rattle.los.proofs.run.Given as goal
 
 abbrev pub invariant-loop-more : goal.invariant-loop-more

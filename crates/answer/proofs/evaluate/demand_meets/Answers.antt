@@ -1,7 +1,6 @@
 -- `answer::evaluate::demand_meets` meets its contract: the flow rate of the demand, tried at the limit.
 -- Assumes nothing.
 use Rattle.answer.specs.Search.{demand_meets}
-use borrow.Author.Rules.{rules}
 use Rattle.answer.proofs.evaluate.demand_meets.Goals as goal
 
 pub returns : goal.returns

@@ -1,7 +1,6 @@
 -- `lines::read::road_of` meets its contract, field by field.
 -- Assumes nothing.
 use Rattle.lines.specs.Reading.{case_of}
-use borrow.Author.Rules.{rules}
 use Rattle.lines.proofs.read.road_of.Goals as goal
 
 pub returns : goal.returns

@@ -3,7 +3,6 @@
 use Rattle.numbers.proofs.ProductLaws.{product-fits}
 use Rattle.road.specs.Refusals.{greatest_demand}
 use Rattle.method.specs.Flow.{flow_rate_of}
-use borrow.Author.Rules.{rules}
 use Rattle.method.proofs.flow.flow_rate.Goals as goal
 
 pub overflow_mul-demand : goal.overflow_mul-demand

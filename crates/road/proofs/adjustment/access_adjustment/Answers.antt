@@ -1,7 +1,6 @@
 -- `road::adjustment::access_adjustment` meets its contract: it is the definition's lesser.
 -- Assumes nothing.
 use Rattle.road.specs.Adjustments.{access_adjustment}
-use borrow.Author.Rules.{rules}
 use Rattle.road.proofs.adjustment.access_adjustment.Goals as goal
 
 pub returns : goal.returns

@@ -11,7 +11,6 @@ use Rattle.road.specs.Interpolation.{entry_before, entry_after, interpolated}
 use Rattle.road.specs.Adjustments.{total_clearance_row}
 use Rattle.road.proofs.InterpolationLaws.{interpolated-rise}
 use Rattle.road.proofs.AdjustmentLaws.{total_clearance_row-rises, total_clearance_row-after-le, total_clearance_row-line-le}
-use borrow.Author.Rules.{rules}
 use Rattle.road.proofs.adjustment.missing_clearance_adjustment.Goals as goal
 
 -- what is read of a row for x missing tenths, k the place after

@@ -3,7 +3,6 @@
 use native.Mathlib.Omega.{arith}
 use Rattle.road.specs.Adjustments.{total_clearance}
 use Rattle.road.proofs.AdjustmentLaws.{counted_left_clearance-le}
-use borrow.Author.Rules.{rules}
 use Rattle.road.proofs.adjustment.total_clearance.Goals as goal
 
 pub overflow_add-result : goal.overflow_add-result

@@ -1,7 +1,6 @@
 -- `road::free_flow::free_flow_speed` meets its contract: it is the definition's lesser.
 -- Assumes nothing.
 use Rattle.road.specs.FreeFlowSpeed.{free_flow_speed_of}
-use borrow.Author.Rules.{rules}
 use Rattle.road.proofs.free_flow.free_flow_speed.Goals as goal
 
 pub returns : goal.returns

@@ -3,7 +3,6 @@
 use native.Mathlib.Omega.{arith}
 use Rattle.road.specs.FreeFlowSpeed.{estimated_by}
 use Rattle.road.proofs.FreeFlowSpeedLaws.{multilane_terms-le}
-use borrow.Author.Rules.{rules}
 use Rattle.road.proofs.free_flow.multilane_estimate.Goals as goal
 
 pub overflow_sub-result : goal.overflow_sub-result

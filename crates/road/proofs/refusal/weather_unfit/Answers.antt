@@ -2,7 +2,6 @@
 -- Assumes nothing.
 use mathlib.Core.Path.{sym, ◌∙◌}
 use Rattle.road.specs.Refusals.{weather_unfit}
-use borrow.Author.Rules.{rules}
 use Rattle.road.proofs.refusal.weather_unfit.Goals as goal
 
 pub returns-then-outside : goal.returns-then-outside
