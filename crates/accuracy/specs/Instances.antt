@@ -3,9 +3,9 @@
 --   AnsweredJustBelow case figures   these five in the answer to a case, up to capacity, and the speed just below the curve
 --   farthest              M G 69923 120 60 60 D 0 2 4584 1000 0 L
 --   AnswerToFarthest      it gets E
---   at_capacity            M G 65000 120 60 60 D 0 2 4600 1000 0 L
+--   at_capacity           M G 65000 120 60 60 D 0 2 4600 1000 0 L
 --   AnswerAtCapacity      it gets E, and the demand is the last that does
---   above_capacity         M G 65000 120 60 60 D 0 2 4601 1000 0 L
+--   above_capacity        M G 65000 120 60 60 D 0 2 4601 1000 0 L
 --   AnswerAboveCapacity   it gets F, and its speed is 0
 -- Assumes nothing.
 use Rattle.std.specs.Prelude.{◌≡◌, List, [], ◌∷◌, ℕ}

@@ -2,7 +2,7 @@
 --   answer_to-accepted   an accepted case gets its grade
 --   answer_to-refused    a refused one gets its number
 --   answer_to-number     its number is the case's refusal
---   Meets-iff           an answer meets a letter exactly when the case does
+--   Meets-iff            an answer meets a letter exactly when the case does
 -- Assumes nothing.
 use mathlib.Core.Path.{◌≡◌, refl, sym, ◌∙◌}
 use mathlib.Core.Logic.{◌↔◌}

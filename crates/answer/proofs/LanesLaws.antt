@@ -2,7 +2,7 @@
 --   lanes_found-eq        it is n where n is a count of the kind that meets the letter and no smaller count does
 --   lanes_found-meets, lanes_found-le   a count that is found meets the letter, and is at most every count that does
 --   lanes_found-none      it is one more than the most where no count meets the letter
---   meets-of-kind        a case that meets a letter has a lane count of the kind
+--   meets-of-kind         a case that meets a letter has a lane count of the kind
 --   lanes_answer-letter   a letter number that is not 1 to 5: 16
 --   lanes_answer-fields   a case that 1 to 9 or 19 refuse: that number
 --   lanes_answer-none     no count: 14

@@ -4,7 +4,7 @@
 --   meets-up-to-the-service-volume   part 2
 --   least-accepted-count             part 3
 --   demand-three                     the three together
---   volume_in-accepted                the volume in an accepted case's answer is its service volume
+--   volume_in-accepted               the volume in an accepted case's answer is its service volume
 -- Assumes nothing.
 use mathlib.Core.Path.{◌≡◌, refl, sym, ap, ◌∙◌}
 use mathlib.Core.Logic.{◌↔◌, ⊎_elim, inl}

@@ -1,5 +1,5 @@
 -- The order of the searches for the service volumes, and the demands that they try (specs/Tries).
---   volume-next         no volume is above that of the next worse letter
+--   volume-next          no volume is above that of the next worse letter
 --   search_end-le        no search goes past the greatest demand
 --   tried_from-suc       how many demands are tried, letter by letter
 --   Done, done-start, done-next, done-volumes   the searches so far: none, one more, all five

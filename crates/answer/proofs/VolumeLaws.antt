@@ -2,7 +2,7 @@
 --   demand_meets-zero, demand_meets-down   no demand keeps to every density; less demand keeps to what more keeps to
 --   meets-accepted       an accepted case meets a letter exactly when its flow rate keeps to the letter's density
 --   meets-refused, meets-only-accepted   a refused case meets no letter
---   meets-demand         what the search tries at a demand is meeting the letter with that demand
+--   meets-demand          what the search tries at a demand is meeting the letter with that demand
 --   service_volume-eq     the service volume of an accepted case is the greatest demand that the search's test passes
 --   service_volumes-with_demand   they are the same whatever the case's own demand is
 --   service_volume-iff    a demand meets a letter exactly when it is at most the service volume

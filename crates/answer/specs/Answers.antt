@@ -1,9 +1,9 @@
 -- The answer to a case (document 01, "Lines": letter, F, c, v, speed, density, service volumes A to E).
 --   grade_of m volumes  the grade of what a case gets and its service volumes
---   graded case        the grade of a case
+--   graded case         the grade of a case
 --   answer_to case      its grade, or the number of the first of 1 to 9, 19 and 10 that refuses it
 --   refusal_number a    the number of the refusal, 0 where there is none
---   values a           the eleven figures as a list, the letter by its number; of a refusal no value
+--   values a            the eleven figures as a list, the letter by its number; of a refusal no value
 -- Assumes nothing.
 use Rattle.std.specs.Prelude.{ℕ, List, [], ◌∷◌}
 use Rattle.checks.specs.Refusals.{unless_refused}

@@ -4,8 +4,8 @@
 --   estimated            F E 60000 120 0 0 D 6 2 2000 1000 0 L: refused with 10, and 4 lanes are the least for every letter
 --   given_in_snow n demand   F G 75000 120 60 60 D 0 N V 1000 0 L 950 900
 --   refused_by19          F G 75000 120 60 60 D 0 2 0 1000 0 L 499 1000
---   answered case        the number of its answer's refusal, 0 for none, and the answer's values
---   counted case n       the same of the lanes question with letter number n
+--   answered case         the number of its answer's refusal, 0 for none, and the answer's values
+--   counted case n        the same of the lanes question with letter number n
 --   added_figures         what this layer adds
 --   boundary_figures      the longer list
 -- Assumes nothing.

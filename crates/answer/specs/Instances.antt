@@ -3,7 +3,7 @@
 --   lighter                          F E 75400 110 20 0 D 24 3 2000 1000 0 L: the printed case with less of every load
 --   NoBetterLetterUnderMoreLoad      part 1: it gets A, and the printed case with V = 2,643, with more of every load, gets D
 --   NoBetterLetterUnderMoreDemand    part 1, all but the demand equal: the printed case gets C with V = 2,000 and D with 2,643
---   multilane_with demand             M G 60000 120 60 60 D 0 2 V 1000 0 L
+--   multilane_with demand            M G 60000 120 60 60 D 0 2 V 1000 0 L
 --   NoBetterLetterOnAMultilane       part 1 on kind M with F given: C with V = 2,800, D with 3,600
 --   NoBetterLetterInSnowWithFewerLanes   part 1 in snow, F given: B with 3 lanes, C with 2
 --   lighter_in_snow                    F E 75400 110 20 0 D 24 2 2000 1000 0 L 860 780
@@ -15,7 +15,7 @@
 --   FourLanesForEveryLetter          part 3: a case that 10 refuses needs 4 lanes, for every letter
 --   NoLanesForTheGreatestDemand      part 3: with V = 99,999 no accepted count of the printed case meets C
 --   ThreeLanesOnAMultilane           part 3 on kind M: with V = 3,600 C needs 3 lanes
---   narrow_in_snow                     F E 75400 110 20 0 D 24 2 2000 920 50 R 815 1000: 10 refuses 2 lanes after the factor
+--   narrow_in_snow                   F E 75400 110 20 0 D 24 2 2000 920 50 R 815 1000: 10 refuses 2 lanes after the factor
 --   ThreeLanesInSnow                 part 3 in snow: it needs 3 lanes for C
 -- Assumes nothing.
 use Rattle.std.specs.Prelude.{◌≡◌, [], ◌∷◌, ℕ, ◌≤◌}

@@ -4,7 +4,7 @@
 --   lanes_refusals case n    what refuses the question, in its order: 16, 1 to 9, 19, 14
 --   lanes_answer case n      the count, or the refusal's number
 --   refusal_number a         the number of the refusal, 0 where there is none
---   values a                the count; of a refusal no value
+--   values a                 the count; of a refusal no value
 -- Assumes nothing.
 use Rattle.std.specs.Prelude.{ℕ, suc, Bool, List, [], ◌∷◌, ◌++◌, ltb}
 use Rattle.numbers.specs.Search.{least}

@@ -1,7 +1,7 @@
 -- Laws of the answers, stated; proofs/Laws proves them.
---   figure_ends           the most that each figure of an answer can be
+--   figure_ends          the most that each figure of an answer can be
 --   FiguresWithinEnds    no figure of an answer is above its end; the room for an answer rests on it
---   last_refusal          19, the greatest number with which a case or a lanes question is refused
+--   last_refusal         19, the greatest number with which a case or a lanes question is refused
 --   RefusalsWithinEnds   no refusal has a greater number
 --   RefusalsReachEnds    a case that 19 refuses, and its lanes question
 --   LanesRefusalsInOrder   the lanes question's list has 16, 1 to 9, 19 and 14, in this order, for every case and letter number

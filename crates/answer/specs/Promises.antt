@@ -1,16 +1,16 @@
 -- Demand 3, stated over whole cases and over the definitions that the contracts of `evaluate` and `lanes_needed` cite; proofs/Promises
 -- proves it.
---   letter_in a, volume_in a n       the letter's number, and the service volume of letter number n from 1 to 5, in a graded answer
---   Meets case n                   the answer to the case is graded, with letter number n or a better one; a refused case meets nothing
---   AcceptedCount case n           n is an accepted lane count
---   hardness t                     how hard a terrain is: level is easier than rolling
---   HeavierIsNoBetter c d          if d has no less load than c, it does not get the better letter
---   LanesComparable c d            c and d may have different lanes: clear weather, or a given speed; or they have equal lanes
---   NoBetterUnderMoreLoad          part 1
---   NoBetterInClearWeather         what part 1 says of clear weather, whatever the lanes
---   MeetsUpToTheServiceVolume      part 2
---   LeastAcceptedCount             part 3
---   DemandThree                    the three together
+--   letter_in a, volume_in a n      the letter's number, and the service volume of letter number n from 1 to 5, in a graded answer
+--   Meets case n                    the answer to the case is graded, with letter number n or a better one; a refused case meets nothing
+--   AcceptedCount case n            n is an accepted lane count
+--   hardness t                      how hard a terrain is: level is easier than rolling
+--   HeavierIsNoBetter c d           if d has no less load than c, it does not get the better letter
+--   LanesComparable c d             c and d may have different lanes: clear weather, or a given speed; or they have equal lanes
+--   NoBetterUnderMoreLoad           part 1
+--   NoBetterInClearWeather          what part 1 says of clear weather, whatever the lanes
+--   MeetsUpToTheServiceVolume       part 2
+--   LeastAcceptedCount              part 3
+--   DemandThree                     the three together
 -- Assumes nothing.
 use Rattle.std.specs.Prelude.{◌≡◌, ◌↔◌, ◌⊎◌, [], ◌∷◌, ℕ, ◌+◌, ◌≤◌, ◌<◌, get_or}
 use Rattle.road.specs.declared.Way.TheVariants as Way

@@ -1,7 +1,7 @@
 -- What the searches try, and what they need. It is no part of the method: proofs/VolumeLaws shows that a demand that is tried passes
 -- exactly when it meets the letter.
---   demand_meets curve load limit demand   the flow rate of the demand keeps to capacity and to the density
---   searched_volumes terms                 the greatest demands that pass, with the density of each letter A to E
+--   demand_meets curve load limit demand  the flow rate of the demand keeps to capacity and to the density
+--   searched_volumes terms                the greatest demands that pass, with the density of each letter A to E
 --   Trying terms table load limit demand  a demand, or an end of demands, that 64 bits hold with these terms and this load
 --   Asking case n                         none of 16, 1 to 9 and 19 refuses the lanes question
 -- Assumes nothing.

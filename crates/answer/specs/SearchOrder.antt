@@ -4,9 +4,9 @@
 --   ExampleVolumesRise     so it is with A and B, and with D and E, of the printed line
 --   TriesOfALetter         at most 20 demands are tried for E, and at most 15 for each other letter
 --   AtMost80Tried          at most 80 are tried for the five together, and at least one
---   example_tried           the 64 that are tried for the printed line, a row for each of E, D, C, B and A
+--   example_tried          the 64 that are tried for the printed line, a row for each of E, D, C, B and A
 --   ExampleTried           they are those, and 64 are counted
---   eight_lanes             F G 72500 120 60 60 D 0 8 0 969 0 L
+--   eight_lanes            F G 72500 120 60 60 D 0 8 0 969 0 L
 --   EightLanesTried        75 are counted for it
 --   RefusedTried           none is counted for a case that 10 refuses
 -- Assumes nothing.

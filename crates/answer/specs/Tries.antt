@@ -6,7 +6,7 @@
 --   tried_for test n      the demands that are tried for it
 --   tried_from test n     those for letter number n and then for each better one
 --   demands_tried case    those for E, D, C, B and A, of a case
---   found p end          what the search for the greatest demand up to an end hands back: the demand, and how many were tried
+--   found p end           what the search for the greatest demand up to an end hands back: the demand, and how many were tried
 --   found_volumes terms   what the five searches hand back together
 --   counted_answer case   the answer to a case, and how many demands were tried for it: none for a refused one
 -- Assumes nothing.

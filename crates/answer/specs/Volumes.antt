@@ -1,5 +1,5 @@
 -- Meeting a letter, and the service volumes (document 01, "Flow, letter, service volume, lanes"). Letter numbers: A is 1.
---   meets case n            the case is accepted and gets letter number n or a better one
+--   meets case n             the case is accepted and gets letter number n or a better one
 --   service_volume case n    the service volume of letter number n
 --   service_volumes case     those of A to E
 -- Assumes nothing.

@@ -11,12 +11,12 @@
 --   unless_refused-number   where a definition gives each answer's number: that of this one
 --   unless_refused-found    an answer with number 0 was not refused
 --   first_refusal-found     a number that was found stands for the list that it was found in
---   found-none             a number and a list that refuse nothing: neither does
+--   found-none              a number and a list that refuse nothing: neither does
 --   rises_with rs ss        two lists with the same numbers above 0, each greater than those before it
 --   lesser_refusal-same     the lesser of a number and itself
---   first_refusal-by_turns   of two such lists that are asked by turns: the lesser number
+--   first_refusal-by_turns  of two such lists that are asked by turns: the lesser number
 --   first_refusal-met       a refusal that is met, behind those of no greater number and before those of no smaller one: by the list
---                          in which it is not met
+--                           in which it is not met
 -- Assumes nothing.
 use mathlib.Core.Path.{◌≡◌, refl, sym, ap, ◌∙◌}
 use mathlib.Core.Bool.{Bool, true, false, cond, ◌&&◌}

@@ -1,8 +1,8 @@
 -- Numbered refusals in an order, and an answer unless one is met (document 01, "Refused, by who can cause it").
---   Refusal             a refusal's number, and whether it is met
---   refuses n b         refusal n, met where b is
+--   Refusal              a refusal's number, and whether it is met
+--   refuses n b          refusal n, met where b is
 --   first_refusal rs     the number of the first of rs that is met, 0 where none is
---   found n             a number that was found, 0 for none, as a list of one refusal
+--   found n              a number that was found, 0 for none, as a list of one refusal
 --   by_turns rs ss       the first of rs, the first of ss, the second of rs and so on
 --   lesser_refusal m n   the lesser of two numbers, of which 0 is none
 --   unless_refused n a f   a where the number n is 0, else the refusal n, made by f

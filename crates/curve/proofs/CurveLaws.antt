@@ -1,10 +1,10 @@
 -- Capacity, breakpoint and the curve (specs/Curves).
---   capacity-mono        capacity never falls with a higher free-flow speed
---   capacity-le          it is at most 240,000
---   breakpoint-le        the breakpoint is at most 400,000
---   capacity-within      it lies between the kind's ends, for F between its ends
+--   capacity-mono          capacity never falls with a higher free-flow speed
+--   capacity-le            it is at most 240,000
+--   breakpoint-le          the breakpoint is at most 400,000
+--   capacity-within        it lies between the kind's ends, for F between its ends
 --   curve_at-well_formed   the curve at an F between the kind's ends is well formed
---   curve_at-sized        and within the ends that 64 bits want
+--   curve_at-sized         and within the ends that 64 bits want
 -- Assumes nothing.
 use Prim.Native.Nat.{ℕ, ◌≤◌}
 use native.Mathlib.Omega.{arith}

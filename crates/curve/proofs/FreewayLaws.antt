@@ -2,7 +2,7 @@
 -- The breakpoint falls as F rises, so the proof is not term by term. With p = 100v − b (0 up to b), d what is left of c − b, q the
 -- rise of F and a = 9F − 2c: c − b rises by 4q and a by 9q from F = 70,000 up, and by 5q and 7q up to it. Each half is one
 -- polynomial inequality; they join at 70,000.
---   lift                the order of two speeds from that of their polynomials, of either kind
+--   lift                 the order of two speeds from that of their polynomials, of either kind
 --   freeway_speed-mono   AtMost (speed at f) (speed at g) for f ≤ g
 -- Assumes nothing.
 use mathlib.Core.Path.{◌≡◌}

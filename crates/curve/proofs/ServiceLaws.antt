@@ -1,10 +1,10 @@
 -- Density and letter (specs/Service).
---   density-le-iff     the density meets a limit exactly when 10,000v is at most the limit times S
+--   density-le-iff      the density meets a limit exactly when 10,000v is at most the limit times S
 --   shown_density-eq    up to capacity it is the shown density
---   density-exact      it may be worked from any fraction of the value of S
---   limit-exact        the test of a limit may be worked from any such fraction too
---   density-mono       more flow at no higher speed: no less density
---   density-le         up to capacity the density is at most 450
+--   density-exact       it may be worked from any fraction of the value of S
+--   limit-exact         the test of a limit may be worked from any such fraction too
+--   density-mono        more flow at no higher speed: no less density
+--   density-le          up to capacity the density is at most 450
 --   shown_density-le, shown_speed-le   what is shown is at most 450, and at most F
 --   density-zero       without flow it is 0
 --   density_letter-mono, letter_number-le   a greater density gets no better letter; none is past F
@@ -16,7 +16,7 @@
 --   letter_at-flow      more flow on one curve: no better letter
 --   letter_at-mono      more flow, or a lower free-flow speed: no better letter
 --   letter_at-zero      without flow the letter is A
---   speed-mono         with a higher free-flow speed the speed never falls, of either kind
+--   speed-mono          with a higher free-flow speed the speed never falls, of either kind
 -- Assumes nothing.
 use mathlib.Core.Path.{◌≡◌, refl, ap}
 use mathlib.Core.Bool.{Bool, true, false, cond}

@@ -6,9 +6,9 @@
 --   reduced_speed-denominator-pos, reduced_speed-pos   it is a fraction, above 0
 --   speed-reduced         it has the value of S
 --   speed-denominator-pos, speed-numerator-pos   S is a fraction, above 0
---   share-denominator-le, reduced_speed-exact     what 64 bits hold of w and of S
---   speed-le              two speeds compare as their reduced forms do
---   speed-antitone        with more flow S never rises
+--   share-denominator-le, reduced_speed-exact    what 64 bits hold of w and of S
+--   speed-le               two speeds compare as their reduced forms do
+--   speed-antitone         with more flow S never rises
 --   capacity_speed-le      S is at least the speed at capacity, 10c/45
 -- Assumes nothing.
 use mathlib.Core.Path.{◌≡◌, refl, sym}

@@ -1,6 +1,6 @@
 -- The terms of a curve (specs/Terms).
---   share-denominator-eq   the denominator of w, at every v
---   curve_terms_of-prepared    the terms of a curve that is well formed and within the sizes are prepared
+--   share-denominator-eq      the denominator of w, at every v
+--   curve_terms_of-prepared   the terms of a curve that is well formed and within the sizes are prepared
 --   table-none, table-lent, table-powers   the table that a kind reads: none on kind F, the powers on kind M
 --   TermsFacts, terms-facts    what each term is
 --   flow-within, flow-beyond   a flow rate by the greatest that keeps to capacity

@@ -1,7 +1,7 @@
 -- The curve under weather (specs/Weather).
 --   adjusted_speed-le       the factor raises no speed
 --   adjusted_speed-clear, curve_under-clear   in clear weather F is kept, and the curve is the one at that F
---   multilane-clear        factors that fit kind M are those of clear weather
+--   multilane-clear         factors that fit kind M are those of clear weather
 --   curve_under-fits        with factors and speeds between their ends it is well formed and within the sizes
 -- Assumes nothing.
 use mathlib.Core.Path.{◌≡◌, ap, sym, subst, ◌∙◌}

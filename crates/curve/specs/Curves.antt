@@ -1,7 +1,7 @@
 -- Capacity, breakpoint and the speed–flow curve (document 01, "Capacity and curve"), in hundredths of passenger cars per hour per lane.
 --   capacity kind f      c at free-flow speed f
 --   breakpoint kind f    b at free-flow speed f
---   curve_at kind f       the curve of a kind at free-flow speed f
+--   curve_at kind f      the curve of a kind at free-flow speed f
 --   WellFormed curve     b is below c, and the speed at capacity, 10c/45, is at most F
 --   Sized curve          the ends within which 64 bits hold every product
 -- Assumes nothing.

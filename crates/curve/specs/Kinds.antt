@@ -3,7 +3,7 @@
 -- 1.31, are in Speed.
 --   lowest_speed, highest_speed         the ends of F
 --   lowest_adjusted_speed               the lower end of F after the speed factor
---   lowest_factor                      the lower end of the weather's factors
+--   lowest_factor                       the lower end of the weather's factors
 --   fewest_lanes, most_lanes            the ends of the lane count
 --   lowest_capacity, highest_capacity   the ends of capacity in clear weather, at the ends of F
 -- Assumes nothing.

@@ -1,13 +1,13 @@
 -- Density and letter on a curve at flow rate v (document 01, "Capacity and curve", "Flow, letter, service volume, lanes").
 -- Density is in tenths of a passenger car per mile per lane.
---   density curve v        10,000v / S rounded up, for v up to capacity
+--   density curve v         10,000v / S rounded up, for v up to capacity
 --   shown_density curve v   the same; 0 above capacity
 --   density_limit n         the greatest density of letter number n from 1 to 5 (any other number has E's)
 --   density_letter d        the letter of a density up to capacity
 --   letter_at curve v       the letter; F above capacity
 --   meets_limit curve v l   up to capacity, with a density of at most l
 --   letter_number l         A is 1, the best, F is 6, the worst
---   performance curve v    speed and density as they are shown, and the letter
+--   performance curve v     speed and density as they are shown, and the letter
 -- Assumes nothing.
 use Rattle.std.specs.Prelude.{ℕ, ◌*◌, Bool, cond, ◌&&◌, leb, eqb}
 use Rattle.numbers.specs.Fraction.{whole, divided_by, rounded_up}

@@ -1,11 +1,11 @@
 -- Speed on a curve at flow rate v, in thousandths of mi/h (document 01, "Capacity and curve").
---   beyond_breakpoint curve v   100v − b, 0 up to the breakpoint
+--   beyond_breakpoint curve v    100v − b, 0 up to the breakpoint
 --   span_to_capacity curve       c − b
---   fall_share curve v          w, the part of the fall from F to the speed at capacity that is reached at v
+--   fall_share curve v           w, the part of the fall from F to the speed at capacity that is reached at v
 --   fall_share_by kind curve v   the same, by the kind
---   speed curve v              S, exactly, for v up to capacity
---   shown_speed curve v         S rounded down; 0 above capacity
---   ExactSpeed curve v s       s is a fraction of the same value as S, above 0 and in numbers that the code can go on with
+--   speed curve v                S, exactly, for v up to capacity
+--   shown_speed curve v          S rounded down; 0 above capacity
+--   ExactSpeed curve v s         s is a fraction of the same value as S, above 0 and in numbers that the code can go on with
 -- Assumes nothing.
 use Rattle.std.specs.Prelude.{ℕ, ◌*◌, ◌-◌, ◌≤◌, ◌<◌, cond, leb}
 use Rattle.numbers.specs.declared.Fraction.{Fraction}

@@ -2,9 +2,9 @@
 -- table of powers. It is no part of the method.
 --   share_denominator_of kind s   the denominator of w, where c − b is s
 --   curve_terms_of curve          a curve with its terms
---   Prepared terms            terms of a curve that is well formed and within the sizes
---   TableFor kind ts          ts is the table of powers that the kind reads
---   Ready terms ts            prepared terms, with the table that their kind reads
+--   Prepared terms                terms of a curve that is well formed and within the sizes
+--   TableFor kind ts              ts is the table of powers that the kind reads
+--   Ready terms ts                prepared terms, with the table that their kind reads
 -- Assumes nothing.
 use Rattle.std.specs.Prelude.{◌≡◌, List, ℕ, ◌*◌, ◌-◌, ◌/◌}
 use Rattle.powers.specs.Power.{PowerTable}

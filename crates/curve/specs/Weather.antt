@@ -1,8 +1,8 @@
 -- The curve under weather (document 02, T-03): a speed factor and a capacity factor, in thousandths. "Each product is rounded down once, at
 -- its end."
---   factors s k                    the weather with speed factor s and capacity factor k
---   clear                          both factors 1,000
---   FactorsFit kind weather        both factors are within the kind's ends
+--   factors s k                     the weather with speed factor s and capacity factor k
+--   clear                           both factors 1,000
+--   FactorsFit kind weather         both factors are within the kind's ends
 --   adjusted_speed weather f        F after its factor
 --   adjusted_capacity weather c     c after its factor
 --   adjusted_breakpoint weather b   b after its factor

@@ -6,7 +6,7 @@
 --   answer-accepted    what is accepted gets the engine's grade and the daily service volumes
 --   meets-iff          a demand of any size meets a letter exactly when it is at most the service volume in the engine's answer
 --   volumes-fit        no service volume of a grade is above the greatest demand
---   daily_volume-eq     a daily service volume is the greatest daily traffic within the service volume in the engine's answer
+--   daily_volume-eq    a daily service volume is the greatest daily traffic within the service volume in the engine's answer
 --   volumes-eq         the five of them
 --   by-letter          what holds of 1 to 5 by number
 --   refused-with       an answer with a number above 0 is that refusal

@@ -4,9 +4,9 @@
 --   passed             the same by the number that the code asks
 --   scaled-le          daily traffic × K is at most 4,000,000,000 × 1,000
 --   product-pos, product-le   K × D is from 1 to 1,000,000
---   hourly-le-iff      the hourly demand is at most a volume exactly when daily traffic × K × D is at most as many millions
---   within-iff         the same by the division of the volume's millions by K × D
---   hourly-mono        it never falls with the traffic or a share
+--   hourly-le-iff       the hourly demand is at most a volume exactly when daily traffic × K × D is at most as many millions
+--   within-iff          the same by the division of the volume's millions by K × D
+--   hourly-mono         it never falls with the traffic or a share
 --   traffic_within-eq   the greatest daily traffic within a volume, by that division
 -- Assumes nothing.
 use mathlib.Core.Path.{◌≡◌}

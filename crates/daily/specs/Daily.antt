@@ -1,11 +1,11 @@
 -- Daily volumes for the yearly table (document 02, T-06): a case whose own demand is not read, the shares K and D in thousandths, and
 -- daily traffic. Letter numbers: A is 1.
---   greatest_daily_traffic          the greatest daily traffic that 21 lets pass
+--   greatest_daily_traffic         the greatest daily traffic that 21 lets pass
 --   shares_of k d                  the shares K and D
---   SharesInRange shares          both are from 1 to 1,000
+--   SharesInRange shares           both are from 1 to 1,000
 --   shares_unfit shares            shares that 20 refuses
 --   traffic_refusals shares daily  20 and 21
---   TrafficFits shares daily      neither refuses them
+--   TrafficFits shares daily       neither refuses them
 --   hourly_demand shares daily     the hourly demand of a daily traffic
 --   hourly_case case shares daily  the case with that demand in the place of its own
 --   daily_volume case shares n     the daily service volume of letter number n
@@ -14,7 +14,7 @@
 --   daily_answer case shares daily   the answer to a case, or the number of the first of 20, 21 and the engine's refusals
 --   figure_count                   how many numbers an answer has
 --   refusal_number a               the number of the refusal, 0 where there is none
---   values a                      the eleven figures of the engine's answer, then the daily service volumes A to E; of a refusal no value
+--   values a                       the eleven figures of the engine's answer, then the daily service volumes A to E; of a refusal no value
 -- Assumes nothing.
 use Rattle.std.specs.Prelude.{ℕ, ◌*◌, ◌≤◌, ◌≡◌, Bool, ◌||◌, List, [], ◌∷◌, ◌++◌, ltb}
 use Rattle.numbers.specs.Division.{div_up}

@@ -1,6 +1,6 @@
 -- Instances of the promises, with every hypothesis met; proofs/Computed and proofs/Instances show them.
 --   urban, rural     K and D of source document 001 for urban and for rural roads
---   eight_lanes       F G 75000 120 60 60 D 0 8 V 1000 0 L
+--   eight_lanes      F G 75000 120 60 60 D 0 8 V 1000 0 L
 --   narrow           F G 75000 99 60 60 D 0 2 V 1000 0 L, which 2 refuses
 --   peaked           F G 75000 120 60 60 D 0 2 1000000 1 0 L, which 8 refuses; its own demand, which 7 would refuse, is not read
 --   told a           the number of an answer's refusal, 0 for none, and its values
@@ -8,7 +8,7 @@
 --   volumes_in a      its daily service volumes A to E
 --   hour_figures      the eleven figures of the printed road with an hourly demand of 2,000
 --   printed_figures, rural_figures   with them its daily service volumes on an urban and on a rural road
---   snow_figures      all sixteen on an urban road in snow
+--   snow_figures     all sixteen on an urban road in snow
 --   NoTrafficMeetsA  the printed road meets A with no traffic
 --   hourly_instances, refusal_instances, daily_instances   what is worked out, and what is to be shown
 -- Assumes nothing.

@@ -1,16 +1,16 @@
 -- What a reader of an answer is promised (document 02, T-06), over the definitions that the contract of `evaluate_daily` cites;
 -- proofs/Promises proves each.
 --   AcceptedTraffic case shares daily   neither 20 nor 21 nor the engine refuses the case with the daily traffic
---   letter_in a, daily_volume_in a n   the letter's number, and the daily service volume of letter number n from 1 to 5, in an answer
---   MeetsByDay case shares daily n  the answer has letter number n or a better one; what is refused meets nothing
---   MeetsUpToTheDailyVolume      a daily traffic meets a letter exactly when it is at most the daily service volume in the answer
---   NoBetterWithMoreTraffic      more daily traffic, or a larger share, never gets a better letter
---   by_the_day shares volume       a service volume by the day, by division
---   FiguresOfTheHour             the sixteen figures, by the eleven of the engine's answer for the hourly demand
---   RoundedUpOnce                the hourly demand is at most a number exactly when daily traffic × K × D is at most as many millions
---   OwnDemandIsNotRead           whatever demand the case carries, the answer is the same
---   RefusedInOrder               the refusals as one list: 20, 21, and those of the case with the hourly demand
---   RefusedExactly               20 exactly by a share out of range, 21 exactly by the traffic, else what the engine says
+--   letter_in a, daily_volume_in a n  the letter's number, and the daily service volume of letter number n from 1 to 5, in an answer
+--   MeetsByDay case shares daily n    the answer has letter number n or a better one; what is refused meets nothing
+--   MeetsUpToTheDailyVolume       a daily traffic meets a letter exactly when it is at most the daily service volume in the answer
+--   NoBetterWithMoreTraffic       more daily traffic, or a larger share, never gets a better letter
+--   by_the_day shares volume      a service volume by the day, by division
+--   FiguresOfTheHour              the sixteen figures, by the eleven of the engine's answer for the hourly demand
+--   RoundedUpOnce                 the hourly demand is at most a number exactly when daily traffic × K × D is at most as many millions
+--   OwnDemandIsNotRead            whatever demand the case carries, the answer is the same
+--   RefusedInOrder                the refusals as one list: 20, 21, and those of the case with the hourly demand
+--   RefusedExactly                20 exactly by a share out of range, 21 exactly by the traffic, else what the engine says
 -- Assumes nothing.
 use Rattle.std.specs.Prelude.{◌≡◌, ◌↔◌, ◌++◌, map, ℕ, ◌+◌, ◌*◌, ◌/◌, ◌≤◌, ◌<◌, min, length, drop, get_or}
 use Rattle.checks.specs.Refusals.{first_refusal}

@@ -1,7 +1,7 @@
 -- The daily traffic that a service volume lets pass. It is no part of the request: proofs/DailyLaws shows that a daily service volume is
 -- it, of the service volume in the engine's answer, and proofs/WithinLaws that a division finds it.
 --   traffic_within shares volume   the greatest daily traffic whose hourly demand is at most a volume
---   VolumesFit grade              no service volume of a grade is above the greatest demand
+--   VolumesFit grade               no service volume of a grade is above the greatest demand
 --   volumes_within shares grade    traffic_within of each of its service volumes A to E
 -- Assumes nothing.
 use Rattle.std.specs.Prelude.{ℕ, ◌≤◌, leb}

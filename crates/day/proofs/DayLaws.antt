@@ -1,9 +1,9 @@
 -- The numbers of a day (specs/Days).
---   answer_figures-length          an answer has twelve numbers
+--   answer_figures-length         an answer has twelve numbers
 --   number-first, letter-second   the first is its refusal's number, the second its letter's
---   day_figures-length             a day has twelve for each demand
+--   day_figures-length            a day has twelve for each demand
 --   day_figures-next, day_figures-at   those of one demand more; those of one of the demands
---   day_figures-count              as many answers as demands
+--   day_figures-count             as many answers as demands
 --   lent-number                   18 is all that refuses what is lent
 --   lent-passed                   where its number is 0 it does not refuse
 --   lent-room                     where 18 does not refuse there is room for every answer

@@ -3,7 +3,7 @@
 --   refused-within, refused-above     one that is not: with its demand it gets the same number, or 7 unless that comes before it
 --   ready-within                      the terms of the case with no demand are those of the case
 --   told                              what is shared, by what it is told to be
---   shared-with_demand                 what the demands on a case share is the same whatever its own is
+--   shared-with_demand                what the demands on a case share is the same whatever its own is
 -- Assumes nothing.
 use mathlib.Core.Path.{◌≡◌, sym, subst, ◌∙◌}
 use mathlib.Core.List.{List}

@@ -7,11 +7,11 @@
 --   day_written case demands old   numbers that were old, with these from the start on
 --   lent_unfit n room              n demands and room for so many numbers that 18 refuses
 --   lent_refusals n room           18
---   LentFits n room               18 does not refuse them
+--   LentFits n room                18 does not refuse them
 --   day_answer n room              how many answers are written, or the refusal's number
 --   day_content case demands old   what the lent numbers are afterwards, if they were old
 --   refusal_number a               the number of the refusal, 0 where there is none
---   values a                      the count of answers; of a refusal no value
+--   values a                       the count of answers; of a refusal no value
 -- Assumes nothing.
 use Rattle.std.specs.Prelude.{ℕ, ◌/◌, ◌≡◌, Bool, ◌||◌, ltb, length, replicate}
 use mathlib.Core.List.{List, [], ◌∷◌, flat_map}

@@ -1,6 +1,6 @@
 -- Instances of a day, with every hypothesis of its promises met; proofs/Instances shows each.
 --   at2000, at2643      the numbers of the printed road of document 01 with these demands
---   refused_with n       the numbers of a position that n refuses
+--   refused_with n      the numbers of a position that n refuses
 --   example_demands, example_day   these demands on it with one that 7 refuses between, and what 38 nines then are: three positions, and
 --                       two numbers kept
 --   refused_by8          F G 75000 120 60 60 D 0 2 V 249 0 L

@@ -6,7 +6,7 @@
 --                                stood there
 --   PositionHoldsTheAnswer       position i holds what the single call answers with demand i
 --   FiguresTellTheAnswer         twelve numbers are those of one answer only
---   road_number case              what refuses the case with no demand, 0 where nothing does
+--   road_number case             what refuses the case with no demand, 0 where nothing does
 --   PositionNumbers              with a demand that 7 lets pass a position has the road's number; with one that 7 refuses it has 7, unless
 --                                one of 1 to 6 refuses the road
 --   NoBetterWithMoreDemand       on an accepted road a position with more demand has no better a letter

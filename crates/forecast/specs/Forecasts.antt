@@ -3,7 +3,7 @@
 --   range_of low high               the range with these ends
 --   forecast_of ..                  the forecast with these ends
 --   combination_of ..               the combination of these numbers
---   Within range n                 n is from the low end to the high end
+--   Within range n                  n is from the low end to the high end
 --   with_combination case combination   the case with a combination in the place of its own
 --   every_within range p            every whole number within the ends passes p
 --   every_combination forecast p    every whole combination within the ends passes p
@@ -11,14 +11,14 @@
 --   best_letter, worst_letter case forecast   the best and the worst letter over all whole combinations within the ends, by number
 --   letter_of n                     the letter of a number
 --   best_combination, worst_combination forecast   the combinations that are shown with them
---   reversed range                 a range that 22 refuses
+--   reversed range                  a range that 22 refuses
 --   range_refusals case forecast    22, and 7 to 9 of both ends
 --   forecast_refusals case forecast   1 to 6, these, 19 and 10
 --   forecast_answer case forecast   the best letter and the worst, each with its combination, or the number of the first that refuses
 --   figure_count                    how many numbers an answer has
 --   refusal_number a                the number of the refusal, 0 where there is none
---   values a                       best letter, its demand, share and factor; worst letter, its demand, share and factor; of a refusal
---                                  no value
+--   values a                        best letter, its demand, share and factor; worst letter, its demand, share and factor; of a refusal
+--                                   no value
 -- Assumes nothing.
 use Rattle.std.specs.Prelude.{ℕ, ◌≤◌, Bool, cond, not, ◌||◌, List, [], ◌∷◌, leb, ltb}
 use Rattle.numbers.specs.Search.{least}

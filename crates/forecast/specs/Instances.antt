@@ -3,15 +3,15 @@
 --   letters_of case forecast   the best and the worst letter
 --   numbers_of case forecasts   the numbers of the refusals of a case with some forecasts, 0 for none
 --   level_freeway     F G 75000 120 60 60 D 0 2 V H P L
---   narrow           F G 75000 99 60 60 D 0 2 V H P L, which 2 refuses
+--   narrow            F G 75000 99 60 60 D 0 2 V H P L, which 2 refuses
 --   ten_lanes         F G 75000 120 60 60 D 0 10 V H P L, which 6 refuses
---   slow             F G 54999 120 60 60 D 0 2 V H P L, which 10 refuses
---   fit              a forecast that 22 and 7 to 9 let pass, at the ends that they leave
+--   slow              F G 54999 120 60 60 D 0 2 V H P L, which 10 refuses
+--   fit               a forecast that 22 and 7 to 9 let pass, at the ends that they leave
 --   reversed_thrice   one that reverses all three ranges
---   farthest         all six numbers at 2^64 - 1
---   wide             demand 1,000 to 4,000, share 0 to 100, factor 850 to 950
---   LetterBetween    the printed line's road within these: A at best, F at worst, and C with a demand of 2,000, a share of 50 and a factor
---                    of 920
+--   farthest          all six numbers at 2^64 - 1
+--   wide              demand 1,000 to 4,000, share 0 to 100, factor 850 to 950
+--   LetterBetween     the printed line's road within these: A at best, F at worst, and C with a demand of 2,000, a share of 50 and a factor
+--                     of 920
 --   TargetKept, TargetMissed   on the same road C is met with every demand from 0 to 2,642, and with none from 2,643 to 4,000
 --   computed_instances, refusal_instances, forecast_instances   what is worked out, and what is to be shown
 -- Assumes nothing.

@@ -9,7 +9,7 @@
 --   ShownAtTheEnds               the eight figures: the engine's letters at the two ends, each with its combination
 --   MetThroughout                a letter is met by every combination exactly when the worst meets it, and by none exactly when the best
 --                                does not
---   own_ends case                 the case's own demand, share and factor as both ends
+--   own_ends case                the case's own demand, share and factor as both ends
 --   EqualEnds                    equal ends give the plain letter twice, or the refusal of the plain case
 --   OwnLoadIsNotRead             cases that agree in road, lanes, terrain and weather get one answer
 --   Ordered forecast             no low end is above its high end

@@ -1,6 +1,6 @@
 -- The laws of specs/Laws, proved.
 --   FieldFits, Fits   what the value of a field is; values that fit some fields
---   values_of-fits     the values of well-formed parts fit their fields
+--   values_of-fits    the values of well-formed parts fit their fields
 --   length-never-decides-alone, well-formed-lines-are-short, clear-weather-may-be-left-out, other-counts-are-malformed,
 --   values-are-the-fields, demand-on-a-line, refusal-has-its-number
 -- Assumes nothing.

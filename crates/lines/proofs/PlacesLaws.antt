@@ -2,7 +2,7 @@
 --   digit-low, digit-high, digit-ends, digit-within   a digit is a byte from 48 to 57, and stands within the line
 --   not-malformed      a value is not malformed
 --   field-more, field-next, field-done   a byte of the field follows, with the rest behind it; none follows
---   ends-by            the byte tells whether the field ends
+--   ends-by             the byte tells whether the field ends
 --   field_end-le        a field ends within the line
 --   field_from-length   the bytes of a field are as many as its end says
 --   field_from-first    the first byte of a field that has one

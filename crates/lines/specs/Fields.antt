@@ -1,17 +1,17 @@
 -- The fields of a line (document 01, "Lines", and document 02, T-03).
---   Field             one of some letters, or a number with at most so many digits
---   layout            the 15 fields
+--   Field              one of some letters, or a number with at most so many digits
+--   layout             the 15 fields
 --   field_at i         the field at place i of the layout
 --   clear_factors      the last two fields of a line that has 13
---   completed ps      the parts ps of a line, with these where they are 13
---   digit b           the byte b is a decimal digit
---   spelled n bs      the number that the digits bs spell, read on from n
+--   completed ps       the parts ps of a line, with these where they are 13
+--   digit b            the byte b is a decimal digit
+--   spelled n bs       the number that the digits bs spell, read on from n
 --   leading_zero bs    bs begins with the digit 0 and has more than that
---   number k bs       the number of one to k digits that bs is
+--   number k bs        the number of one to k digits that bs is
 --   one_of b ls        b is one of ls
---   letter ls bs      the letter, one of ls, that bs is
+--   letter ls bs       the letter, one of ls, that bs is
 --   field_as f bs      the value that bs has as field f
---   joined v vs       a field's value before those of the fields after it
+--   joined v vs        a field's value before those of the fields after it
 --   values_of fs ps    the values of the parts ps as the fields fs, where there is a part for each and all are well formed
 -- A letter's value is its byte.
 -- Assumes nothing.

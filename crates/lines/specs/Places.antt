@@ -1,9 +1,9 @@
 -- Where a field of a line lies, and what the code hands on while it reads. It is no part of the paper.
---   field_end line at          where the field of the line that begins at place at ends
---   field_from line at         its bytes
+--   field_end line at         where the field of the line that begins at place at ends
+--   field_from line at        its bytes
 --   DigitsRead line at end n  of the field from at on the bytes up to end are read: digits, that spell n
 --   ReadAs f line at r        r has the value of the field from at on as field f, and its end where it is well formed
---   values_in r                the values of all fields, if they are well formed
+--   values_in r               the values of all fields, if they are well formed
 -- Assumes nothing.
 use Rattle.std.specs.Prelude.{ℕ, ◌+◌, ◌≤◌, ◌≡◌, cond, List, length, take, drop}
 use Rattle.std.proofs.Math.Option.{Option, none, some}

@@ -1,7 +1,7 @@
 // los: reads lines from standard input and prints one answer a line; a refused line prints X, tab and its number.
 // Its steps are those of stream/specs/Runs.Run: a piece is read behind the bytes held (feed), whole lines are answered and the rest is
 // carried over (turn), and at the end of the input a last line without newline is answered (end). It stops with a message when its output
-// can't be written or its input can't be read: half a line is never answered.
+// can't be written or its input can't be read, and without one where nobody reads its output: half a line is never answered.
 #![tactic(auto)]
 
 ghost use Rattle.std.specs.Prelude.{◌≡◌, true, false, ◌↔◌, ◌+◌, ◌≤◌, ◌<◌, length, take};

@@ -1,11 +1,11 @@
 -- The boundary sections of document 01, and of T-03 of document 02: one list, those of the layers below with what this layer adds.
---   printed_line           the line of document 01
+--   printed_line            the line of document 01
 --   printed_line_with v t   the same with another demand and another terrain
---   printed_answer         what `los` prints for it
---   snow_answer            what it prints for the same line with the factors 860 and 780
---   longest               a well-formed line of 73 bytes
---   added_figures          what this layer adds
---   boundary_figures       the list
+--   printed_answer          what `los` prints for it
+--   snow_answer             what it prints for the same line with the factors 860 and 780
+--   longest                 a well-formed line of 73 bytes
+--   added_figures           what this layer adds
+--   boundary_figures        the list
 -- Assumes nothing.
 use Rattle.std.specs.Prelude.{ℕ, List, [], ◌∷◌, ◌++◌, length, replicate}
 use Prim.Native.String.{String, ◌++◌ as ◌then◌}

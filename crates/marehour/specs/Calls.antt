@@ -1,6 +1,6 @@
 -- What the calls of a host in C hand back, and what the lent memory then holds (document 01, "Lines", "Refused, by who can cause it";
 -- document 02, T-01, T-06 and T-07).
---   Reply                  what is written from the start of the lent memory on, or a refusal's number
+--   Reply                   what is written from the start of the lent memory on, or a refusal's number
 --   reply_of n vs text      the reply of an answer with number n and values vs: its text, or the refusal where it has no values
 --   answer_reply a          the reply of an answer
 --   count_text vs           the text of a lane count
@@ -20,10 +20,10 @@
 --   daily_call line shares traffic room   the same for a daily traffic and its shares, with room for so many numbers
 --   forecast_call line forecast room   the same for a forecast, with room for so many numbers
 --   handed_back count r     what a call hands back, by how it counts what is written
---   call_result r          the same in bytes, or in numbers where numbers are written
+--   call_result r           the same in bytes, or in numbers where numbers are written
 --   answer_count ns         how many answers so many numbers are
 --   day_result r            what a call hands back, in answers
---   content r old          what the lent memory holds afterwards, if it held old
+--   content r old           what the lent memory holds afterwards, if it held old
 --   result_of n vs          the value of an answer with number n and values vs, or minus the number
 --   survey_result a         what a survey call hands back
 -- Assumes nothing.

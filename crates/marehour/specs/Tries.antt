@@ -3,9 +3,9 @@
 --   tries_result a n    the count n of an answer with a grade, or minus the refusal's number
 --   line_tries r        the same for a line that was read: minus 15 where it is malformed
 --   tries_call line     the same for a line
---   TriesHandBack      minus 15 where the line is malformed; else the count of the tried demands, from 1 to 80, or minus the refusal
---                      of its case
---   TriesOfLines       64 for the printed line, and minus 15 for a line of one field
+--   TriesHandBack       minus 15 where the line is malformed; else the count of the tried demands, from 1 to 80, or minus the refusal
+--                       of its case
+--   TriesOfLines        64 for the printed line, and minus 15 for a line of one field
 -- Assumes nothing.
 use Rattle.std.specs.Prelude.{◌≡◌, List, ℕ, ◌≤◌, ◌<◌, ℤ, pos, neg_ℤ, length}
 use Rattle.text.specs.Bytes.{bytes_of}

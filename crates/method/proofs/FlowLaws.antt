@@ -1,7 +1,7 @@
 -- The flow rate (specs/Flow).
 --   truck_equivalent-ends   E is 2 or 3
---   load_of-fits      64 bits hold the products with the load of a case that 1 to 9 and 19 do not refuse
---   case_load-fits    the same with its own lanes
+--   load_of-fits         64 bits hold the products with the load of a case that 1 to 9 and 19 do not refuse
+--   case_load-fits       the same with its own lanes
 --   flow_rate_of-mono    it rises with demand and heavy factor, and falls with the divisor
 --   case_flow_rate-mono   it rises with demand, share and equivalent, and falls with peak-hour factor and lanes
 --   flow_rate_of-zero    of no demand it is 0

@@ -1,13 +1,13 @@
 -- Refusal 10, after 1 to 9 and 19 (specs/Refusals).
---   refusal-le             a case is refused with 19 at most
+--   refusal-le              a case is refused with 19 at most
 --   refusals_with-joined    the list, from its front: 1 to 6, what is asked in the place of 7 to 9, and then 19 and 10
 --   refusals_with-found     a number that was found stands for what is asked in the place of 7 to 9
---   refusals-with          the number of 7 to 9 stands for them
---   with-accepted          a case that 1 to 6, what is asked in the place of 7 to 9, 19 and 10 do not refuse: none of the four does
---   with-of                where the first two do not refuse, 19 and 10 decide
+--   refusals-with           the number of 7 to 9 stands for them
+--   with-accepted           a case that 1 to 6, what is asked in the place of 7 to 9, 19 and 10 do not refuse: none of the four does
+--   with-of                 where the first two do not refuse, 19 and 10 decide
 --   refusals_with-fields    a case that 1 to 6, a number in the place of 7 to 9, and 19 do not refuse: 10 decides
---   refusals-fields        a case that 1 to 9 and 19 do not refuse: 10 decides
---   accepted-fields        what is accepted: neither 1 to 9 nor 19 refuse it
+--   refusals-fields         a case that 1 to 9 and 19 do not refuse: 10 decides
+--   accepted-fields         what is accepted: neither 1 to 9 nor 19 refuse it
 --   accepted-speed, accepted-adjusted   F of an accepted case is at its lower end or above, before its factor and after it
 --   refusal-within, refusal-above   the refusal of a case by that of the same case with no demand: the same with every demand up to the
 --                          greatest; with a greater one 7, unless one of 1 to 6 comes before it

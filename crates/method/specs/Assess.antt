@@ -1,8 +1,8 @@
 -- What a case gets, or its refusal.
---   measures case     the curve, flow rate and performance of a case
---   assessment case   its measures, or the number of the first of 1 to 9, 19 and 10 that refuses it
+--   measures case      the curve, flow rate and performance of a case
+--   assessment case    its measures, or the number of the first of 1 to 9, 19 and 10 that refuses it
 --   refusal_number a   the number of the refusal, 0 where there is none
---   values a          letter, F, c, v, speed and density; of a refusal no value
+--   values a           letter, F, c, v, speed and density; of a refusal no value
 --   case_terms case    what the code works out once a case: its load, and the terms of its curve. It is no part of the method
 --   CaseReady case terms table   an accepted case, its terms, and the table of powers that its kind reads
 -- Assumes nothing.

@@ -3,8 +3,8 @@
 --   given kind f w   a road of given speed f and lane width w
 --   two_lanes_under weather road v   its case with two lanes and demand v, no heavy vehicles, level, under weather
 --   two_lanes road v  the same in clear weather
---   example          the printed line's case
---   refused_by_all     a case that breaks 1 to 9, 19 and 10
+--   example           the printed line's case
+--   refused_by_all    a case that breaks 1 to 9, 19 and 10
 --   boundary_figures, clearance_figures, speed_figures, weather_figures, order_figures, limit_figures   the list, and its last parts, each the
 --                    end of the one before
 -- Assumes nothing.

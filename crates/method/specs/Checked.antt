@@ -3,9 +3,9 @@
 --   case_curve case               the curve of a case
 --   checked_curve road weather n  the curve of a road with n lanes under weather, or 10
 --   checked_with loads case       the curve of a case, or the number of its refusal, with what is asked in the place of 7 to 9
---   checked case                 the curve of a case, or the number of its refusal
+--   checked case                  the curve of a case, or the number of its refusal
 --   refusal_number c              the number of the refusal, 0 where there is none
---   values c                     F, c and b; of a refusal no value
+--   values c                      F, c and b; of a refusal no value
 -- Assumes nothing.
 use Rattle.std.specs.Prelude.{ℕ, List, [], ◌∷◌}
 use Rattle.checks.specs.Refusals.{Refusal, first_refusal, unless_refused}

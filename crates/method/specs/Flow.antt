@@ -1,11 +1,11 @@
 -- The flow rate v, in whole passenger cars per hour per lane (document 01, "Flow, letter, service volume, lanes"):
 -- "v = V × (1,000 + P × (E − 1)) / (H × N), rounded up".
---   truck_equivalent t      E
+--   truck_equivalent t         E
 --   heavy_factor_of case       1,000 + P × (E − 1)
---   load_of case n          that factor, and H × N with n lanes
+--   load_of case n             that factor, and H × N with n lanes
 --   flow_rate_of load demand   v of a demand
---   case_flow_rate case      v of a case
---   LoadFits load          the ends within which 64 bits hold the product with a demand
+--   case_flow_rate case        v of a case
+--   LoadFits load              the ends within which 64 bits hold the product with a demand
 -- Assumes nothing.
 use Rattle.std.specs.Prelude.{ℕ, ◌+◌, ◌*◌, ◌-◌, ◌≤◌, ◌<◌}
 use Rattle.numbers.specs.Division.{div_up}

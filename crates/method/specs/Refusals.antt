@@ -1,9 +1,9 @@
 -- Refusal 10, after 1 to 9 and 19 (document 01, "Refused, by who can cause it", and document 02, T-03).
 --   speed_refusals road weather n   10, of a road with n lanes under weather
---   refusals case                  1 to 9, 19 and 10
+--   refusals case                   1 to 9, 19 and 10
 --   refusals_with loads case        the same with something else in the place of 7 to 9
---   refusal case                   the number of the first of them that refuses the case, 0 where none does
---   Accepted case                  none of them refuses the case
+--   refusal case                    the number of the first of them that refuses the case, 0 where none does
+--   Accepted case                   none of them refuses the case
 -- Assumes nothing.
 use Rattle.std.specs.Prelude.{ℕ, ◌≡◌, List, [], ◌∷◌, ◌++◌, ltb}
 use Rattle.checks.specs.Refusals.{Refusal, refuses, first_refusal}

@@ -1,12 +1,12 @@
 -- Exact fractions (specs/Fraction): their order, and what rounding keeps of it.
---   AtMost-trans        the order is transitive
+--   AtMost-trans         the order is transitive
 --   rounded_down-mono    the greater fraction is rounded down to no less
 --   rounded_down-eq      fractions of one value are rounded down to one number
 --   rounded_up-mono      the greater fraction is rounded up to no less
 --   rounded_up-eq        fractions of one value are rounded up to one number
---   SameValue-pos       a fraction of one value with one above 0 is above 0
+--   SameValue-pos        a fraction of one value with one above 0 is above 0
 --   divided_by-mono      more divided by less is no less
---   quotient-le-iff     n / x rounded up is at most l exactly when n is at most l times x
+--   quotient-le-iff      n / x rounded up is at most l exactly when n is at most l times x
 -- Assumes nothing.
 use mathlib.Core.Path.{◌≡◌, sym}
 use mathlib.Core.Logic.{◌↔◌, ⊎_elim}

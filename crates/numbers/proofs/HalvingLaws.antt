@@ -1,7 +1,7 @@
 -- What halving tries (specs/Halving).
 --   Halved p end low high tries   how far a search has come
 --   halved-start, halved-passes, halved-fails   at its start, and after a try that passes or fails
---   halved-done            at its end it has found the greatest number that passes, and has counted what it tried
+--   halved-done              at its end it has found the greatest number that passes, and has counted what it tried
 --   tried_up_to-some         at least one number, where the end is above 0
 --   tried_up_to-steps        no more numbers than the end counts
 --   tried_up_to-doublings    at most k numbers, where the end is below the k-th power of 2

@@ -4,8 +4,8 @@
 --   le-greatest       what passes is at most it
 --   greatest-eq       it is s where s passes and nothing above s does
 --   greatest-iff      of a test that is downward closed: a number passes exactly when it is at most the greatest
---   ends_at-passes     a test that ends at s passes there
---   ends_at-most       of a test that is downward closed: where it ends at s, what passes is at most s
+--   ends_at-passes    a test that ends at s passes there
+--   ends_at-most      of a test that is downward closed: where it ends at s, what passes is at most s
 --   greatest-last     of a test that is downward closed: it is s where the test ends at s
 --   greatest-between  of a test that is downward closed: it is s where s passes and the next number, if the bound has it, fails
 --   greatest-cong     tests that agree up to the bound find the same

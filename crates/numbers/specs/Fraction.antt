@@ -1,9 +1,9 @@
 -- Exact fractions of whole numbers, none below 0: src's struct Fraction, a numerator over a denominator, not reduced.
---   over n d, whole n       n / d, n / 1
---   minus, times, squared   the usual operations; minus is for a second fraction that is at most the first
---   divided_by               the quotient, for a second fraction above 0
+--   over n d, whole n         n / d, n / 1
+--   minus, times, squared     the usual operations; minus is for a second fraction that is at most the first
+--   divided_by                the quotient, for a second fraction above 0
 --   rounded_down, rounded_up  to a whole number
---   AtMost, SameValue       the order and the equality of the values, cross-multiplied: for denominators above 0
+--   AtMost, SameValue         the order and the equality of the values, cross-multiplied: for denominators above 0
 -- Assumes nothing.
 use Rattle.std.specs.Prelude.{◌≡◌, ℕ, ◌*◌, ◌-◌, ◌/◌, ◌≤◌}
 use Rattle.numbers.specs.declared.Fraction.{Fraction}

@@ -1,8 +1,8 @@
 -- Halving: which numbers a search tries for the greatest number up to an end that passes a test. 0 is known to pass, and the number
 -- after the end stands for one that fails; neither is tried.
---   middle low high                 the number in the middle, rounded down
+--   middle low high                  the number in the middle, rounded down
 --   tried_between p steps low high   what is tried between a number that passes and one that fails, in at most so many steps
---   tried_up_to p end                 what is tried for the greatest number up to the end
+--   tried_up_to p end                what is tried for the greatest number up to the end
 -- Assumes nothing.
 use Rattle.std.specs.Prelude.{ℕ, zero, suc, ◌+◌, ◌-◌, ◌/◌, Bool, cond, List, [], ◌∷◌, ltb}
 

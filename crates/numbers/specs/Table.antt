@@ -1,8 +1,8 @@
 -- A test of every entry of a table, and of every number up to an end.
 --   every_from f i x xs   f passes at each entry of xs: it is handed the entry's place, counted from i, the entry
---                        before it, x before the first, and the entry
+--                         before it, x before the first, and the entry
 --   every_entry f xs      the same from place 0, with 0 before the first
---   every_up_to p n        p passes at each number from 0 to n
+--   every_up_to p n       p passes at each number from 0 to n
 -- Assumes nothing.
 use Rattle.std.specs.Prelude.{Bool, true, ◌&&◌, List, [], ◌∷◌, ℕ, zero, suc}
 

@@ -1,9 +1,9 @@
 -- T (specs/Power): the table's rule and its rise, by one test that is computed over all 1,001 entries.
 --   power_table-at    the entry at i is T(i)
---   power-eq         T(i) is t where t reaches the power and the number before does not
---   power-zero       T(0) is 0
---   power-mono       T rises
---   power-le         no T is above 1,000,000
+--   power-eq          T(i) is t where t reaches the power and the number before does not
+--   power-zero        T(0) is 0
+--   power-mono        T rises
+--   power-le          no T is above 1,000,000
 -- Assumes nothing.
 use mathlib.Core.Path.{◌≡◌, refl}
 use mathlib.Core.Bool.{Bool, ◌&&◌}

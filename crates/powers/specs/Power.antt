@@ -1,7 +1,7 @@
 -- T(i), the power 1.31 of i thousandths in millionths, by whole powers (document 01, "Capacity and curve").
 --   reaches_power i t   t millionths are at least the power 1.31 of i thousandths
---   power i            T(i): the least such t, for i from 0 to 1,000
---   PowerTable ts      ts is the table of T
+--   power i             T(i): the least such t, for i from 0 to 1,000
+--   PowerTable ts       ts is the table of T
 -- Assumes nothing.
 use Rattle.std.specs.Prelude.{ℕ, ◌*◌, ◌^◌, ◌≤◌, ◌≡◌, List, Bool, leb, length, get_or}
 use Rattle.numbers.specs.Search.{least}

@@ -1,5 +1,5 @@
 -- What `los` prints for an input (document 01, "Lines").
---   line_texts           the answers of lines: at most 64 bytes for each, lines of more than 80 bytes alike
+--   line_texts          the answers of lines: at most 64 bytes for each, lines of more than 80 bytes alike
 --   OutputOfAnyPieces   whatever pieces the input comes in, what is printed is the answers of its lines
 -- Assumes nothing.
 use Rattle.std.specs.Prelude.{ℕ, ◌≡◌, List, []}

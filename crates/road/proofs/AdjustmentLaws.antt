@@ -4,8 +4,8 @@
 --   total_clearance_adjustment-le, median_adjustment-le, access_adjustment-le   the most that it is
 --   right_clearance_adjustment-antitone, total_clearance_adjustment-antitone    with more lanes it is no more
 --   right_clearance_adjustment-whole, total_clearance_adjustment-whole          the interpolation rounds nothing
---   right_clearance_adjustment-tenths                                         a missing tenth takes off a tenth of what a foot takes
---   total_clearance_row-line-le                                               the line of a row of kind M is at most 5,400
+--   right_clearance_adjustment-tenths                                           a missing tenth takes off a tenth of what a foot takes
+--   total_clearance_row-line-le                                                 the line of a row of kind M is at most 5,400
 --   total_clearance_row-rises, total_clearance_row-after-le                     its entries on both sides of a place
 -- Assumes nothing.
 use mathlib.Core.Path.{◌≡◌}

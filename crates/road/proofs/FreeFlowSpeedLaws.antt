@@ -1,7 +1,7 @@
 -- Free-flow speed (specs/FreeFlowSpeed): no subtraction goes below 0, and F never falls with more lanes.
---   freeway_terms-le      what is taken off on kind F is at most 30,000
---   multilane_terms-le    what is taken off on kind M is at most 30,000
---   uncapped_speed-mono   F before its upper end never falls with more lanes
+--   freeway_terms-le          what is taken off on kind F is at most 30,000
+--   multilane_terms-le        what is taken off on kind M is at most 30,000
+--   uncapped_speed-mono       F before its upper end never falls with more lanes
 --   free_flow_speed_of-mono   F never falls with more lanes
 --   free_flow_speed_of-le     F is at most its upper end
 --   free_flow_speed_of-given  a given F is the same with any lanes

@@ -1,6 +1,6 @@
 -- Interpolation over a row (specs/Interpolation).
 --   weighted_sum-between   from each entry to the next it is the straight line, both ends included
---   interpolated-rise     where the entries rise: the entry before and its part of the rise
+--   interpolated-rise      where the entries rise: the entry before and its part of the rise
 -- Assumes nothing.
 use mathlib.Core.Path.{◌≡◌}
 use mathlib.Core.List.{List}

@@ -1,6 +1,6 @@
 -- Refusals 1 to 9 and 19 (specs/Refusals).
 --   field_refusals-found  the number of 7 to 9 stands for them
---   with-parts           a case that 1 to 6, a number in the place of 7 to 9, and 19 do not refuse: none of the three does
+--   with-parts            a case that 1 to 6, a number in the place of 7 to 9, and 19 do not refuse: none of the three does
 --   section-road, fields-road   a case that none of 1 to 6 refuses, or none of them: 1 to 5 do not refuse its road
 --   road-numbered, section-numbered, load-numbered, fields-numbered   every number is above 0
 --   RoadEnds, road-ends  the ends that 1 and 5 leave to a road

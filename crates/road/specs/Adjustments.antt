@@ -5,11 +5,11 @@
 --   right_clearance_row p                kind F: the row for 6, 5, 4, 3, 2, 1, 0 feet, with p for each missing foot
 --   right_clearance_adjustment r n       kind F: for right clearance r and n lanes
 --   counted_left_clearance m l           the left clearance that counts, by the median
---   total_clearance m r l               kind M: right plus left
+--   total_clearance m r l                kind M: right plus left
 --   two_lane_row, three_lane_row, total_clearance_row n   kind M: the row for 12, 10, 8, 6, 4, 2, 0 feet
 --   total_clearance_adjustment n s       kind M: for n lanes and total clearance s
---   median_adjustment m                 kind M: for the median
---   access_adjustment p                 kind M: for p access points per mile
+--   median_adjustment m                  kind M: for the median
+--   access_adjustment p                  kind M: for p access points per mile
 -- Assumes nothing.
 use Rattle.std.specs.Prelude.{ℕ, ◌+◌, ◌*◌, ◌-◌, min, cond, List, [], ◌∷◌, leb}
 use Rattle.road.specs.Interpolation.{interpolated}

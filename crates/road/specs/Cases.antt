@@ -1,7 +1,7 @@
 -- Roads and cases by their fields, in the order of a line (document 01, "Lines", and document 02, T-03); a case with one field changed, and
 -- cases of the same road ("Flow, letter, service volume, lanes").
---   road ..                  the road with these fields
---   loaded road ..           the case of a road with these lanes, demand, peak-hour factor, heavy share, terrain and weather
+--   road ..                   the road with these fields
+--   loaded road ..            the case of a road with these lanes, demand, peak-hour factor, heavy share, terrain and weather
 --   with_demand case demand   the case with that demand, all other fields kept
 --   with_lanes case n         the case with n lanes, all other fields kept
 --   with_weather case weather   the case under that weather, all other fields kept

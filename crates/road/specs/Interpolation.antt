@@ -1,8 +1,8 @@
 -- Interpolation over a row of a table (document 02, T-02). The row's entries are `step` tenths of a foot apart, and x is counted in tenths
 -- from the first of them.
---   entry_before row step x    the last entry up to x
---   entry_after row step x     the first entry from x on
---   weighted_sum row step x    step times the height at x of the straight line between the two
+--   entry_before row step x   the last entry up to x
+--   entry_after row step x    the first entry from x on
+--   weighted_sum row step x   step times the height at x of the straight line between the two
 --   interpolated row step x   that height
 -- Assumes nothing.
 use Rattle.std.specs.Prelude.{ℕ, ◌+◌, ◌*◌, ◌-◌, ◌/◌, ◌%◌, List, get_or}

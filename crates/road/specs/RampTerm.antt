@@ -1,6 +1,6 @@
 -- The ramp term, in thousandths of mi/h, by whole powers (document 01, "Free-flow speed F").
 --   ramp_at_most k t   t is at most the manual's 3.22 × (ramps per mile)^0.84, with k ramps in six miles
---   ramp_term k       the greatest such t
+--   ramp_term k        the greatest such t
 -- Assumes nothing.
 use Rattle.std.specs.Prelude.{ℕ, ◌*◌, ◌^◌, Bool, leb}
 use Rattle.numbers.specs.Search.{greatest}

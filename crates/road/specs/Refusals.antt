@@ -10,9 +10,9 @@
 --   weather_refusals case   19, of the weather's factors
 --   field_refusals_with loads case   1 to 6, what is asked in the place of 7 to 9, and 19
 --   field_refusals case   1 to 9 and 19
---   RoadFits road        none of 1 to 5 refuses the road
---   SectionFits case     none of 1 to 6 refuses the case
---   FieldsFit case       none of 1 to 9 nor 19 refuses the case
+--   RoadFits road         none of 1 to 5 refuses the road
+--   SectionFits case      none of 1 to 6 refuses the case
+--   FieldsFit case        none of 1 to 9 nor 19 refuses the case
 -- Assumes nothing.
 use Rattle.std.specs.Prelude.{ℕ, ◌≡◌, Bool, true, false, ◌||◌, List, [], ◌∷◌, ◌++◌, ltb}
 use Rattle.checks.specs.Refusals.{Refusal, refuses, first_refusal, outside}

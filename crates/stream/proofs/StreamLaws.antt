@@ -1,5 +1,5 @@
 -- An input answered line by line, a turn at a time (specs/Stream, specs/Turns).
---   first_line, after_first        the bytes before the first newline, and those after it
+--   first_line, after_first      the bytes before the first newline, and those after it
 --   none-left, full, next-line   what a turn answers: no whole line is left, no room is left, a line and the rest
 --   texts-append, size-append    the texts and the size of lines in two stretches
 --   turn-law     a turn prints the texts of some lines, and what it carries over stands for the rest

@@ -1,7 +1,7 @@
 -- Runs over an input that comes in pieces, and what they print: stated over any text of a line and any length from which on lines count as
 -- too long; proofs/RunLaws proves it.
 --   Run t room held ps out   a run that holds some bytes, with the pieces ps still to come, prints out from there on
---   joined_pieces ps          the pieces ps, one after the other
+--   joined_pieces ps         the pieces ps, one after the other
 --   TooLongAlike t           lines that are too long all get the same text
 --   AnyPieces                whatever pieces the input comes in, a run from an empty start prints the texts of its lines
 --   SomeRun                  for any pieces there is such a run, where the longest text has room

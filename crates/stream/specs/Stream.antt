@@ -1,10 +1,10 @@
 -- An input answered line by line (document 01, "Lines"), over any text of a line.
---   LineTexts               the text printed for a line, the most bytes that it has, and the longest line that is told apart
---   texts t ls              the texts of the lines ls, one after the other
---   last_line p              the line that a last part without newline is: none where it is empty
+--   LineTexts                 the text printed for a line, the most bytes that it has, and the longest line that is told apart
+--   texts t ls                the texts of the lines ls, one after the other
+--   last_line p               the line that a last part without newline is: none where it is empty
 --   without_empty_last ps     the parts ps but for a last one that is empty
---   lines_of input           the lines of an input
---   output_of t input        what is printed for an input
+--   lines_of input            the lines of an input
+--   output_of t input         what is printed for an input
 -- Assumes nothing.
 use Rattle.std.specs.Prelude.{ℕ, cond, eqb, length}
 use mathlib.Core.List.{List, [], ◌∷◌, flat_map}

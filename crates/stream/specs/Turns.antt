@@ -1,10 +1,10 @@
 -- A turn, which answers whole lines of the bytes that are held and carries the rest over: the words in which the contracts of src/ speak.
 -- What it comes to is in specs/Runs.
---   ended_parts ps           the parts that a newline ends: all but the last
+--   ended_parts ps          the parts that a newline ends: all but the last
 --   fitting t room ls       of the lines ls, those that are answered in a buffer with this room
 --   answered t room bytes   the lines of some bytes that a turn answers
 --   size ls                 how many bytes the lines ls have, with their newlines
---   cut_off kept bytes       bytes that are no whole line, cut to so many
+--   cut_off kept bytes      bytes that are no whole line, cut to so many
 --   carried t room bytes    what a turn carries over: of a line that is too long one byte more than the longest line
 -- Assumes nothing.
 use Rattle.std.specs.Prelude.{ℕ, suc, ◌+◌, ◌-◌, cond, List, [], ◌∷◌, ltb, length, take, drop}

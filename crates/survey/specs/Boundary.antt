@@ -1,6 +1,6 @@
 -- The boundary sections of document 01 about a surveyed speed; the layer above puts them into its list.
 --   survey_of speed    a survey of that speed with the fewest cars and the greatest flow that are accepted
---   miles x           the same of x mi/h
+--   miles x            the same of x mi/h
 --   survey_figures     the list
 -- Assumes nothing.
 use Rattle.std.specs.Prelude.{true, false, List, [], ◌∷◌, ℕ, pos, negsuc, Float}

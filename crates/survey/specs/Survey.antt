@@ -2,8 +2,8 @@
 --   mile_in_kilometres       a mile
 --   mile_an_hour, kilometre_an_hour   the two units, in thousandths of mi/h
 --   exact_value m e         m × 2 ^ e
---   floor s x              x rounded down, or -x where s is true
---   RoundedSpeed           thousandths of mi/h, or that there is no finite number
+--   floor s x               x rounded down, or -x where s is true
+--   RoundedSpeed            thousandths of mi/h, or that there is no finite number
 --   rounded_in unit x       the float x in a unit: its exact value rounded down
 --   rounded_speed speed     the same of a surveyed speed
 --   speed_refused r         what 13 refuses
@@ -11,7 +11,7 @@
 --   survey_refusals survey  11 to 13 in their order
 --   survey_answer survey    the speed, or the refusal's number
 --   refusal_number a        the number of the refusal, 0 where there is none
---   values a               the speed; of a refusal no value
+--   values a                the speed; of a refusal no value
 -- Assumes nothing.
 use Rattle.std.specs.Prelude.{ℕ, ◌*◌, Bool, true, false, List, [], ◌∷◌, ℤ, pos, negsuc, neg_ℤ, leb, ltb, Float}
 use Rattle.std.specs.Float.{nan, inf, fin}

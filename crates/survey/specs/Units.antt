@@ -1,6 +1,6 @@
 -- What the code's helpers need and hand back. It is no part of the method: proofs/SurveyLaws shows where it is the answer to a survey.
---   UnitFits unit   a unit for which no float below 1 or from 512 on comes to 30,000 to 90,000, and the code's products fit 64 bits.
---                   Both units of a survey are such.
+--   UnitFits unit    a unit for which no float below 1 or from 512 on comes to 30,000 to 90,000, and the code's products fit 64 bits.
+--                    Both units of a survey are such.
 --   speed_answer r   what 13 alone makes of a rounded speed
 -- Assumes nothing.
 use Rattle.std.specs.Prelude.{◌*◌, ◌≤◌, ◌<◌, cond}

@@ -1,5 +1,5 @@
 -- The parts of a list, by where its first part ends (specs/Parts).
---   count_before-le            at most all bytes stand before the first t
+--   count_before-le           at most all bytes stand before the first t
 --   parts-one, parts-more     a list with no t is one part; with one it is the part before it and the parts after it
 --   count_before-hit, count_before-miss, count_before-end   the count from place i on, one byte further
 --   parts-append              two lists with a t between them have the parts of both

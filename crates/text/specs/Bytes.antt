@@ -1,5 +1,5 @@
 -- Text as bytes.
---   bytes_of s      the bytes of a text in ASCII
+--   bytes_of s     the bytes of a text in ASCII
 --   tab, newline   the bytes that part fields and end lines
 -- Assumes nothing.
 use Rattle.std.specs.Prelude.{ℕ, List, [], ◌∷◌}

@@ -1,8 +1,8 @@
 -- Numbers as text (document 01, "Figures are written in decimal"; "Lines").
 --   decimal_up_to k n   the decimal digits of a number that has at most k
---   decimal n         the decimal digits of a number below 10 ^ 20
---   figures_text ns    each number after a tab
---   row_text b ns      the byte b, each number after a tab, and a newline
+--   decimal n           the decimal digits of a number below 10 ^ 20
+--   figures_text ns     each number after a tab
+--   row_text b ns       the byte b, each number after a tab, and a newline
 -- Assumes nothing.
 use Rattle.std.specs.Prelude.{ℕ, zero, suc, ◌+◌, ◌/◌, ◌%◌, cond, ltb}
 use Prim.Native.Char.{code}

@@ -1,6 +1,6 @@
 -- A list of bytes, parted at each byte of one value.
 --   on_first b ps       the parts ps with b in front of the first
---   parts t bs         the parts of bs between its bytes t: one more than it has bytes t
+--   parts t bs          the parts of bs between its bytes t: one more than it has bytes t
 --   count_before t bs   how many bytes stand before the first t, or all of them where there is none
 -- Assumes nothing.
 use Rattle.std.specs.Prelude.{ℕ, suc, cond, List, [], ◌∷◌, eqb}
