@@ -1,7 +1,7 @@
 #!/usr/bin/env python3
 """Brings the repository's own names in specs/ and proofs/ to snake case, as today's library spells its words: divUp is div_up.
 
-usage: python3 tools/port_names.py [--check]   at the top, once, after /opt/rattle/port/port.py; --check only lists what would fall together
+usage: python3 tools/port_names.py [--check]   at the top, once, after the kit's port.py; --check only lists what would fall together
 
 Only words that begin in lower case and have a capital inside turn, each part of a lemma's name (flowRate-le is flow_rate-le). Types, modules,
 constructors, functions of src/, numbers and strings keep their names. APART has the words whose snake case would fall together with another name.
