@@ -28,12 +28,6 @@ put_answer-at-requires c =
     let l = c.loop-i in
     omega (arith, l.invariant.1, next-room c.args.case c.args.demands.now l.i c.loop-i-test.true c.requires.1 l.invariant.2)
 
-pub overflow_add-i : goal.overflow_add-i
-overflow_add-i c =
-    let taken = c.loop-i-test.true in
-    let room = c.well_formed.1.1.1.0 in
-    search rules
-
 pub loop-i-smaller : goal.loop-i-smaller
 loop-i-smaller c =
     omega (arith, c.loop-i-test.true)

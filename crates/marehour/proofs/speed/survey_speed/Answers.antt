@@ -24,7 +24,6 @@ returns-in-Speed c =
 
 pub returns-in-Refused : goal.returns-in-Refused
 returns-in-Refused c =
-    let a = c.args in
     let e = sym c.surveyed_speed-answer.ensures ∙ c.in-Refused.is in
     handed-back c.refused.result c.in-Refused.number
     (omega (arith, (survey_answer-refused-ends _ _ e).1)) c.refused.ensures ∙ sym (ap survey_result e)
