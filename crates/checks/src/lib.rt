@@ -1,4 +1,5 @@
 // Checks: numbered refusals, the first that is met first.
+//   Refusal      why a line, a case or a call is refused, each with the documents' number
 //   outside      whether a number is out of a range
 //   refused_if   one line of a list of refusals
 //   lesser_refusal   the first of two lists with the same rising numbers that are asked by turns
@@ -6,6 +7,41 @@
 
 ghost use Rattle.std.specs.Prelude.{◌≡◌, cond};
 ghost use Rattle.checks.specs.Refusals.{outside, lesser_refusal};
+ghost use Rattle.checks.specs.Numbers.{number};
+
+#[derive(Clone, Copy, Debug, PartialEq, Eq)]
+pub enum Refusal {
+    SpeedOutOfRange = 1,
+    WidthOutOfRange = 2,
+    ClearanceTooLarge = 3,
+    MedianUnfit = 4,
+    AccessTooLarge = 5,
+    LanesNotOfTheKind = 6,
+    DemandTooLarge = 7,
+    FactorOutOfRange = 8,
+    ShareTooLarge = 9,
+    SpeedBelowLowerEnd = 10,
+    CarsTooFew = 11,
+    FlowTooLarge = 12,
+    SurveyedSpeedOutOfRange = 13,
+    NoLaneCount = 14,
+    LineMalformed = 15,
+    LetterUnknown = 16,
+    BufferTooShort = 17,
+    DayUnfit = 18,
+    WeatherUnfit = 19,
+    SharesUnfit = 20,
+    DailyTrafficTooLarge = 21,
+    EndsReversed = 22,
+}
+
+impl Refusal {
+    pub fn number(self) -> u64
+        ensures { result ≡ number self }
+    {
+        self as u64
+    }
+}
 
 pub fn outside(low: u64, high: u64, n: u64) -> bool
     ensures { result ≡ outside low high n }
