@@ -4,7 +4,7 @@
 --   Curves    capacity, breakpoint, the curve at a free-flow speed
 --   Weather   the factors of document 02, and the curve under weather
 --   Speed     S as an exact fraction, and as it is shown
---   Terms     what the code works out once a curve
+--   Terms     the denominator of w, which the code works out once a curve
 --   Service   density and letter
 --   Laws      the laws of the curve, stated
 pub mod Kinds

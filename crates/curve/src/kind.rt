@@ -1,7 +1,7 @@
 // The two kinds of road and what each carries: the ends of F in thousandths of mi/h, of the weather's factors in thousandths, of the lane
 // count, and of capacity in clear weather, at those ends of F, in hundredths of passenger cars per hour per lane.
 //   Freeway, Multilane            the two kinds, with what they carry as constants
-//   Kind                          one of the two
+//   Kind                          one of the two, with methods
 //   lowest_speed, highest_speed   the ends of F
 //   lowest_adjusted_speed         the lower end of F after the speed factor
 //   lowest_factor                 the lower end of the weather's factors
@@ -53,62 +53,64 @@ impl Multilane {
     pub const HIGHEST_CAPACITY: u64 = 230_000;
 }
 
-#[derive(Clone, Copy)]
+#[derive(Clone, Copy, Debug, PartialEq, Eq)]
 pub enum Kind {
     Freeway,
     Multilane,
 }
 
-pub fn lowest_speed(kind: Kind) -> u64
-    ensures { result ≡ lowest_speed kind }
-{
-    match kind {
-        Kind::Freeway => Freeway::LOWEST_SPEED,
-        Kind::Multilane => Multilane::LOWEST_SPEED,
+impl Kind {
+    pub fn lowest_speed(self) -> u64
+        ensures { result ≡ lowest_speed self }
+    {
+        match self {
+            Kind::Freeway => Freeway::LOWEST_SPEED,
+            Kind::Multilane => Multilane::LOWEST_SPEED,
+        }
     }
-}
 
-pub fn highest_speed(kind: Kind) -> u64
-    ensures { result ≡ highest_speed kind }
-{
-    match kind {
-        Kind::Freeway => Freeway::HIGHEST_SPEED,
-        Kind::Multilane => Multilane::HIGHEST_SPEED,
+    pub fn highest_speed(self) -> u64
+        ensures { result ≡ highest_speed self }
+    {
+        match self {
+            Kind::Freeway => Freeway::HIGHEST_SPEED,
+            Kind::Multilane => Multilane::HIGHEST_SPEED,
+        }
     }
-}
 
-pub fn lowest_adjusted_speed(kind: Kind) -> u64
-    ensures { result ≡ lowest_adjusted_speed kind }
-{
-    match kind {
-        Kind::Freeway => Freeway::LOWEST_ADJUSTED_SPEED,
-        Kind::Multilane => Multilane::LOWEST_ADJUSTED_SPEED,
+    pub fn lowest_adjusted_speed(self) -> u64
+        ensures { result ≡ lowest_adjusted_speed self }
+    {
+        match self {
+            Kind::Freeway => Freeway::LOWEST_ADJUSTED_SPEED,
+            Kind::Multilane => Multilane::LOWEST_ADJUSTED_SPEED,
+        }
     }
-}
 
-pub fn lowest_factor(kind: Kind) -> u64
-    ensures { result ≡ lowest_factor kind }
-{
-    match kind {
-        Kind::Freeway => Freeway::LOWEST_FACTOR,
-        Kind::Multilane => Multilane::LOWEST_FACTOR,
+    pub fn lowest_factor(self) -> u64
+        ensures { result ≡ lowest_factor self }
+    {
+        match self {
+            Kind::Freeway => Freeway::LOWEST_FACTOR,
+            Kind::Multilane => Multilane::LOWEST_FACTOR,
+        }
     }
-}
 
-pub fn fewest_lanes(kind: Kind) -> u64
-    ensures { result ≡ fewest_lanes kind }
-{
-    match kind {
-        Kind::Freeway => Freeway::FEWEST_LANES,
-        Kind::Multilane => Multilane::FEWEST_LANES,
+    pub fn fewest_lanes(self) -> u64
+        ensures { result ≡ fewest_lanes self }
+    {
+        match self {
+            Kind::Freeway => Freeway::FEWEST_LANES,
+            Kind::Multilane => Multilane::FEWEST_LANES,
+        }
     }
-}
 
-pub fn most_lanes(kind: Kind) -> u64
-    ensures { result ≡ most_lanes kind }
-{
-    match kind {
-        Kind::Freeway => Freeway::MOST_LANES,
-        Kind::Multilane => Multilane::MOST_LANES,
+    pub fn most_lanes(self) -> u64
+        ensures { result ≡ most_lanes self }
+    {
+        match self {
+            Kind::Freeway => Freeway::MOST_LANES,
+            Kind::Multilane => Multilane::MOST_LANES,
+        }
     }
 }

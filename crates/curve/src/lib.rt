@@ -1,8 +1,7 @@
 // Curve: the two kinds of road, and the speed-flow curve of a kind at a free-flow speed, under weather.
 //   kind         Kind, and what each kind carries: Freeway, Multilane
-//   Curve        free-flow speed, capacity and breakpoint
+//   Curve        free-flow speed, capacity and breakpoint; Curve::under: of a kind at a free-flow speed under weather
 //   Weather      the factors on them
-//   curve_under  the curve of a kind at a free-flow speed under weather
 //   speed        the terms of a curve, and speed as an exact fraction
 //   service      speed and density as they are shown, and the letter
 #![tactic(auto)]
@@ -17,9 +16,8 @@ ghost use Rattle.curve.specs.Curves.{capacity, breakpoint};
 ghost use Rattle.curve.specs.Weather.{FactorsFit, adjusted_speed, curve_under};
 
 use crate::kind::{Freeway, Kind, Multilane};
-use numbers::lesser;
 
-#[derive(Clone, Copy)]
+#[derive(Clone, Copy, Debug, PartialEq, Eq)]
 pub struct Curve {
     pub kind: Kind,
     // thousandths of mi/h
@@ -31,7 +29,7 @@ pub struct Curve {
 }
 
 // Snow or rain. Any number may stand in a field; refusal 19 says which are fit.
-#[derive(Clone, Copy)]
+#[derive(Clone, Copy, Debug, PartialEq, Eq)]
 pub struct Weather {
     // thousandths, on the free-flow speed
     pub speed_factor: u64,
@@ -39,50 +37,58 @@ pub struct Weather {
     pub capacity_factor: u64,
 }
 
-fn capacity(kind: Kind, speed: u64) -> u64
-    requires { speed ≤ highest_speed kind }
-    ensures { result ≡ capacity kind speed }
-{
-    match kind {
-        Kind::Freeway => lesser(
-            Freeway::HIGHEST_CAPACITY,
-            Freeway::LOWEST_CAPACITY + speed - Freeway::LOWEST_SPEED,
-        ),
-        Kind::Multilane => lesser(
-            Multilane::HIGHEST_CAPACITY,
-            Multilane::LOWEST_CAPACITY + 2 * speed - 2 * Multilane::LOWEST_SPEED,
-        ),
+impl Kind {
+    fn capacity(self, speed: u64) -> u64
+        requires { speed ≤ highest_speed self }
+        ensures { result ≡ capacity self speed }
+    {
+        match self {
+            Kind::Freeway => {
+                let by_speed = Freeway::LOWEST_CAPACITY + speed - Freeway::LOWEST_SPEED;
+                by_speed.min(Freeway::HIGHEST_CAPACITY)
+            }
+            Kind::Multilane => {
+                let by_speed = Multilane::LOWEST_CAPACITY + 2 * speed - 2 * Multilane::LOWEST_SPEED;
+                by_speed.min(Multilane::HIGHEST_CAPACITY)
+            }
+        }
+    }
+
+    fn breakpoint(self, speed: u64) -> u64
+        requires { speed ≤ highest_speed self }
+        ensures { result ≡ breakpoint self speed }
+    {
+        match self {
+            Kind::Freeway => 400_000 - 4 * speed,
+            Kind::Multilane => 140_000,
+        }
     }
 }
 
-fn breakpoint(kind: Kind, speed: u64) -> u64
-    requires { speed ≤ highest_speed kind }
-    ensures { result ≡ breakpoint kind speed }
-{
-    match kind {
-        Kind::Freeway => 400_000 - 4 * speed,
-        Kind::Multilane => 140_000,
+impl Weather {
+    fn adjusted_speed(self, speed: u64) -> u64
+        requires speed_high { speed ≤ 75000 }
+        requires factor_high { self.speed_factor ≤ 1000 }
+        ensures { result ≡ adjusted_speed self speed }
+    {
+        speed * self.speed_factor / 1_000
     }
 }
 
-fn adjusted_speed(weather: Weather, speed: u64) -> u64
-    requires { (speed ≤ 75000) × (weather.speed_factor ≤ 1000) }
-    ensures { result ≡ adjusted_speed weather speed }
-{
-    speed * weather.speed_factor / 1_000
-}
-
-// From a free-flow speed before its factor. Capacity and breakpoint are worked from the one after it.
-pub fn curve_under(weather: Weather, kind: Kind, speed: u64) -> Curve
-    requires { (speed ≤ highest_speed kind) × FactorsFit kind weather }
-    ensures { result ≡ curve_under weather kind speed }
-{
-    let factor = weather.capacity_factor;
-    let adjusted = adjusted_speed(weather, speed);
-    Curve {
-        kind,
-        free_flow_speed: adjusted,
-        capacity: capacity(kind, adjusted) * factor / 1_000,
-        breakpoint: breakpoint(kind, adjusted) * (factor * factor) / 1_000_000,
+impl Curve {
+    // From a free-flow speed before its factor. Capacity and breakpoint are worked from the one after it.
+    pub fn under(weather: Weather, kind: Kind, speed: u64) -> Curve
+        requires speed_high { speed ≤ highest_speed kind }
+        requires factors_fit { FactorsFit kind weather }
+        ensures { result ≡ curve_under weather kind speed }
+    {
+        let factor = weather.capacity_factor;
+        let adjusted = weather.adjusted_speed(speed);
+        Curve {
+            kind,
+            free_flow_speed: adjusted,
+            capacity: kind.capacity(adjusted) * factor / 1_000,
+            breakpoint: kind.breakpoint(adjusted) * (factor * factor) / 1_000_000,
+        }
     }
 }

@@ -1,17 +1,16 @@
 // Speed on a curve, as an exact fraction of thousandths of mi/h.
-//   CurveTerms    a curve with what its speeds have in common
-//   curve_terms   the terms of a curve, worked out once
+//   CurveTerms    a curve with what its speeds have in common, worked out once
 //   exact_speed   S at a flow rate up to capacity, in the form that 64 bits hold
-ghost use Rattle.std.specs.Prelude.{◌≡◌, ◌*◌, ◌≤◌};
+ghost use Rattle.std.specs.Prelude.{◌≡◌, ◌*◌, ◌-◌, ◌/◌, ◌≤◌};
 ghost use Rattle.curve.specs.Curves.{WellFormed, Sized};
-ghost use Rattle.curve.specs.Speed.{beyond_breakpoint, fall_share, ExactSpeed};
-ghost use Rattle.curve.specs.Terms.{share_denominator_of, curve_terms_of, Ready};
+ghost use Rattle.curve.specs.Speed.{beyond_breakpoint, span_to_capacity, fall_share, ExactSpeed};
+ghost use Rattle.curve.specs.Terms.{share_denominator_of};
 
 use crate::Curve;
 use crate::kind::Kind;
 use numbers::Fraction;
 
-#[derive(Clone, Copy)]
+#[derive(Clone, Copy, Debug, PartialEq, Eq)]
 pub struct CurveTerms {
     pub curve: Curve,
     // the greatest flow rate up to capacity
@@ -24,67 +23,75 @@ pub struct CurveTerms {
     pub free_flow_term: u64,
     // 9F - 2c
     pub fall_term: u64,
+    pub ghost well_formed: { WellFormed curve },
+    pub ghost sized: { Sized curve },
+    ghost own_most_flow: { most_flow ≡ curve.capacity / 100 },
+    ghost own_span: { span ≡ span_to_capacity curve },
+    ghost own_denominator: { share_denominator ≡ share_denominator_of curve.kind span },
+    ghost own_free_flow_term: { free_flow_term ≡ 9 * curve.free_flow_speed * share_denominator },
+    ghost own_fall_term: { fall_term ≡ 9 * curve.free_flow_speed - 2 * curve.capacity },
 }
 
-fn share_denominator(kind: Kind, span: u64) -> u64
-    requires { span ≤ 140000 }
-    ensures { result ≡ share_denominator_of kind span }
-{
-    match kind {
-        Kind::Freeway => span * span,
-        Kind::Multilane => 1_000_000,
+impl Kind {
+    fn share_denominator(self, span: u64) -> u64
+        requires { span ≤ 140000 }
+        ensures { result ≡ share_denominator_of self span }
+    {
+        match self {
+            Kind::Freeway => span * span,
+            Kind::Multilane => 1_000_000,
+        }
     }
 }
 
-pub fn curve_terms(curve: Curve) -> CurveTerms
-    requires { WellFormed curve × Sized curve }
-    ensures { result ≡ curve_terms_of curve }
-{
-    let kind = curve.kind;
-    let span = curve.capacity - curve.breakpoint;
-    let denominator = share_denominator(kind, span);
-    CurveTerms {
-        curve,
-        most_flow: curve.capacity / 100,
-        span,
-        share_denominator: denominator,
-        free_flow_term: 9 * curve.free_flow_speed * denominator,
-        fall_term: 9 * curve.free_flow_speed - 2 * curve.capacity,
+impl Curve {
+    fn beyond_breakpoint(&self, v: u64) -> u64
+        requires up_to_capacity { 100 * v ≤ self.now.capacity }
+        requires sized { Sized self.now }
+        ensures { result ≡ beyond_breakpoint self.now v }
+    {
+        (100 * v).saturating_sub(self.breakpoint)
     }
 }
 
-fn beyond_breakpoint(curve: Curve, v: u64) -> u64
-    requires { Sized curve × (100 * v ≤ curve.capacity) }
-    ensures { result ≡ beyond_breakpoint curve v }
-{
-    let flow = 100 * v;
-    if flow < curve.breakpoint {
-        return 0;
+impl CurveTerms {
+    pub fn new(curve: Curve) -> CurveTerms
+        requires well_formed { WellFormed curve }
+        requires sized { Sized curve }
+        ensures { result.curve ≡ curve }
+    {
+        let span = curve.capacity - curve.breakpoint;
+        let share_denominator = curve.kind.share_denominator(span);
+        CurveTerms {
+            curve,
+            most_flow: curve.capacity / 100,
+            span,
+            share_denominator,
+            free_flow_term: 9 * curve.free_flow_speed * share_denominator,
+            fall_term: 9 * curve.free_flow_speed - 2 * curve.capacity,
+        }
     }
-    flow - curve.breakpoint
-}
 
-// The numerator of w, its denominator being in the terms.
-fn share_numerator(terms: CurveTerms, table: &[u32], v: u64) -> u64
-    requires { Ready terms table.now × (100 * v ≤ terms.curve.capacity) }
-    ensures { result ≡ (fall_share terms.curve v).numerator }
-{
-    let curve = terms.curve;
-    let kind = curve.kind;
-    let beyond = beyond_breakpoint(curve, v);
-    match kind {
-        Kind::Freeway => beyond * beyond,
-        Kind::Multilane => powers::power(table, numbers::div_up(1_000 * beyond, terms.span)),
+    // The numerator of w, its denominator being in the terms.
+    fn share_numerator(&self, v: u64) -> u64
+        requires { 100 * v ≤ self.now.curve.capacity }
+        ensures { result ≡ (fall_share self.now.curve v).numerator }
+    {
+        let beyond = self.curve.beyond_breakpoint(v);
+        match self.curve.kind {
+            Kind::Freeway => beyond * beyond,
+            Kind::Multilane => powers::power((1_000 * beyond).div_ceil(self.span)),
+        }
     }
-}
 
-// F - (F - 2c/9) x w, over 9 times the denominator of w.
-pub(crate) fn exact_speed(terms: CurveTerms, table: &[u32], v: u64) -> Fraction
-    requires { Ready terms table.now × (100 * v ≤ terms.curve.capacity) }
-    ensures { ExactSpeed terms.curve v result }
-{
-    Fraction {
-        numerator: terms.free_flow_term - terms.fall_term * share_numerator(terms, table, v),
-        denominator: 9 * terms.share_denominator,
+    // F - (F - 2c/9) x w, over 9 times the denominator of w.
+    pub(crate) fn exact_speed(&self, v: u64) -> Fraction
+        requires { 100 * v ≤ self.now.curve.capacity }
+        ensures { ExactSpeed self.now.curve v result }
+    {
+        Fraction {
+            numerator: self.free_flow_term - self.fall_term * self.share_numerator(v),
+            denominator: 9 * self.share_denominator,
+        }
     }
 }

@@ -4,12 +4,16 @@
 --   div_up-mono      it rises with a and falls with b
 --   div_up-zero      of 0 it is 0
 --   div_up-suc       of a number above 0: one more than the division of the number before
+--   div_ceil-eq      it is what std's div_ceil ensures
 -- Assumes nothing.
 use mathlib.Core.Path.{◌≡◌}
 use mathlib.Core.Logic.{◌↔◌}
 use Prim.Native.Nat.{ℕ, suc, ◌+◌, ◌*◌, ◌-◌, ◌/◌, ◌≤◌, ◌<◌}
 use native.Mathlib.Omega.{arith}
 use native.Mathlib.Nat.{mul-le-mul_left, div-lt_iff_lt-mul, add-div_right}
+use Rattle.std.specs.Int.{div_ceil}
+use Rattle.std.proofs.Math.Nat.{le_antisymm, lt_of_mul-lt-mul_right}
+use Rattle.std.proofs.lemmas.Grind.{div_ceil_times}
 use Rattle.numbers.specs.Division.{div_up}
 
 pub div_up-le-iff : (a b k : ℕ) → 0 < b → (div_up a b ≤ k) ↔ (a ≤ k * b)
@@ -35,3 +39,10 @@ unfolding div_up
 div_up-suc a b h p =
     let e : a + (b - 1) ≡ (a - 1) + b = omega arith in
     rw (e, add-div_right (a - 1) p)
+
+-- what std's u64::div_ceil ensures
+pub div_ceil-eq : (a b : ℕ) → 0 < b → div_ceil a b ≡ div_up a b
+div_ceil-eq a b p =
+    let k = div_ceil_times a b p in
+    le_antisymm (let l : div_ceil a b * b < suc (div_up a b) * b = omega (arith, k.1, le-div_up a b p) in
+    let m : div_ceil a b < suc (div_up a b) = lt_of_mul-lt-mul_right b l in omega arith) ((div_up-le-iff a b (div_ceil a b) p).1 k.0)

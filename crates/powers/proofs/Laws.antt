@@ -1,14 +1,16 @@
 -- The laws of T that specs/Laws states, proved.
---   power-is-least, power-never-falls
+--   power-is-least, power-never-falls, table-holds-powers
 -- Assumes nothing.
+use Rattle.std.proofs.Common.{refl, sym}
 use Prim.Native.Nat.{ℕ, ◌*◌, ◌^◌, ◌≤◌}
 use native.Mathlib.Omega.{arith}
 use native.Mathlib.Decide.{dec_le}
 use lib.Dec.{leb→le, le→leb}
 use Rattle.numbers.proofs.SearchLaws.{least-passes, least-le-of}
 use Rattle.powers.specs.Power.{reaches_power, power}
-use Rattle.powers.specs.Laws.{PowerIsLeast, PowerNeverFalls}
-use Rattle.powers.proofs.PowerLaws.{power-le, power-mono}
+use Rattle.powers.specs.Laws.{PowerIsLeast, PowerNeverFalls, TableHoldsPowers}
+use Rattle.powers.proofs.PowerTable.{power_table}
+use Rattle.powers.proofs.PowerLaws.{power_table-at, power-le, power-mono}
 
 pub power-is-least : PowerIsLeast
 unfolding power reaches_power
@@ -24,3 +26,7 @@ power-is-least i h =
 
 pub power-never-falls : PowerNeverFalls
 power-never-falls i j h k = (power-mono i j h k, power-le j k)
+
+pub table-holds-powers : TableHoldsPowers
+unfolding power_table
+table-holds-powers = (refl, λ i h. sym (power_table-at i h))

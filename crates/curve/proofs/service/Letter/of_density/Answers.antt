@@ -1,9 +1,9 @@
--- `curve::service::density_letter` meets its contract: the ranges are the definition's tests.
+-- `curve::service::Letter::of_density` meets its contract: the ranges are the definition's tests.
 -- Assumes nothing.
 use borrow.Author.Tests.{le-leb, lt-leb}
 use Rattle.curve.specs.Service.{density_limit, density_letter}
 use borrow.Author.Rules.{rules}
-use Rattle.curve.proofs.service.density_letter.Goals as goal
+use Rattle.curve.proofs.service.Letter.of_density.Goals as goal
 
 pub returns-in-0-to-110 : goal.returns-in-0-to-110
 unfolding density_limit density_letter
