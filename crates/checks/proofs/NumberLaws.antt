@@ -1,23 +1,26 @@
 -- The laws of the numbers of refusals (specs/Numbers).
 --   number-above, number-le       a refusal's number is from 1 to 22
---   numbered-number               the refusal of a refusal's number is that refusal
---   number-numbered               the number of the refusal of a number from 1 to 22 is that number
+--   refusal_of-number               the refusal of a refusal's number is that refusal
+--   number-refusal_of               the number of the refusal of a number from 1 to 22 is that number
 --   ok_unless-ok, ok_unless-err   the answer by its number, as code hands it back
 --   ok_unless-none                where the number is 0 it is the value
 --   refusal_number-ok_unless      its own number
+--   first_refusal-err, first_refusal-ok   of a joined list, by what the first part says
 -- Assumes nothing.
-use Rattle.std.proofs.Common.{◌≡◌, refl, sym, ℕ, suc, ◌-◌, ◌≤◌, ◌<◌, Result, Ok, Err, T, eqb, eqb→eq, subst, lit<, lit≤, arith, Bool}
+use Rattle.std.proofs.Common.{◌≡◌, refl, sym, ℕ, suc, ◌-◌, ◌≤◌, ◌<◌, Result, Ok, Err, T, eqb, eqb→eq, subst, lit<, lit≤, arith, Bool, ◌∙◌, List, ◌++◌}
 use borrow.Author.Tests.{ne_eqb}
 use mathlib.Core.Logic.{⊎_elim}
 use native.Mathlib.Nat.{eq-zero-or-pos}
 use Rattle.numbers.specs.Table.{every_up_to}
 use Rattle.numbers.proofs.TableLaws.{every_up_to-at}
 use Rattle.checks.specs.declared.Refusal.{Refusal}
-use Rattle.checks.specs.Numbers.{number, in_order, numbered, refusal_number, ok_unless}
+use Rattle.checks.specs.Refusals.{Refusal as Line, first_refusal}
+use Rattle.checks.specs.Numbers.{number, in_order, refusal_of, refusal_number, ok_unless}
+use Rattle.checks.proofs.RefusalLaws.{numbered, first_refusal-some, first_refusal-none}
 
 -- by each refusal
-number-fits : (r : Refusal) → (0 < number r) × (number r ≤ 22) × (numbered (number r) ≡ r)
-unfolding numbered in_order
+number-fits : (r : Refusal) → (0 < number r) × (number r ≤ 22) × (refusal_of (number r) ≡ r)
+unfolding refusal_of in_order
 number-fits Refusal.SpeedOutOfRange = (lit< tt, lit≤ tt, refl)
 number-fits Refusal.WidthOutOfRange = (lit< tt, lit≤ tt, refl)
 number-fits Refusal.ClearanceTooLarge = (lit< tt, lit≤ tt, refl)
@@ -47,23 +50,23 @@ number-above r = (number-fits r).0
 pub number-le : (r : Refusal) → number r ≤ 22
 number-le r = (number-fits r).1
 
-pub numbered-number : (r : Refusal) → numbered (number r) ≡ r
-numbered-number r = (number-fits r).2
+pub refusal_of-number : (r : Refusal) → refusal_of (number r) ≡ r
+refusal_of-number r = (number-fits r).2
 
 -- by each number
 numbers-agree : ℕ → Bool
-numbers-agree m = eqb (number (numbered (suc m))) (suc m)
+numbers-agree m = eqb (number (refusal_of (suc m))) (suc m)
 
 all-agree : T (every_up_to numbers-agree 21)
-unfolding numbered in_order numbers-agree
+unfolding refusal_of in_order numbers-agree
 all-agree = tt
 
-pub number-numbered : (n : ℕ) → 0 < n → n ≤ 22 → number (numbered n) ≡ n
+pub number-refusal_of : (n : ℕ) → 0 < n → n ≤ 22 → number (refusal_of n) ≡ n
 unfolding numbers-agree
-number-numbered n p q =
+number-refusal_of n p q =
     let e : suc (n - 1) ≡ n = omega (arith, p) in
-    let P : ℕ → Type 0 = λ m. number (numbered m) ≡ m in
-    subst P e (eqb→eq (number (numbered (suc (n - 1)))) (suc (n - 1)) (every_up_to-at numbers-agree 21 all-agree (n - 1) (omega (arith, q))))
+    let P : ℕ → Type 0 = λ m. number (refusal_of m) ≡ m in
+    subst P e (eqb→eq (number (refusal_of (suc (n - 1)))) (suc (n - 1)) (every_up_to-at numbers-agree 21 all-agree (n - 1) (omega (arith, q))))
 
 pub ok_unless-ok : {A : Type 0} (n : ℕ) (a b : A) → n ≡ 0 → a ≡ b → ◌≡◌ {A = Result A Refusal} (Ok a) (ok_unless n b)
 unfolding ok_unless
@@ -71,9 +74,16 @@ ok_unless-ok n a b z e = rw z (rw e refl)
 
 pub ok_unless-err : {A : Type 0} (r : Refusal) (n : ℕ) (b : A) → number r ≡ n → ◌≡◌ {A = Result A Refusal} (Err r) (ok_unless n b)
 unfolding ok_unless
-ok_unless-err r n b e = rw (sym e) (rw (ne_eqb (number r) 0 (λ z. omega (arith, number-above r))) (rw (numbered-number r) refl))
+ok_unless-err r n b e = rw (sym e) (rw (ne_eqb (number r) 0 (λ z. omega (arith, number-above r))) (rw (refusal_of-number r) refl))
 
 pub refusal_number-ok_unless : {A : Type 0} (n : ℕ) (a : A) → n ≤ 22 → refusal_number {A = A} (ok_unless n a) ≡ n
 unfolding ok_unless
 refusal_number-ok_unless n a le =
-    ⊎_elim (λ z. rw z refl) (λ p. rw (ne_eqb n 0 (λ z. omega (arith, p))) (number-numbered n p le)) (eq-zero-or-pos n)
+    ⊎_elim (λ z. rw z refl) (λ p. rw (ne_eqb n 0 (λ z. omega (arith, p))) (number-refusal_of n p le)) (eq-zero-or-pos n)
+
+-- ---- a list behind another
+pub first_refusal-err : (rs ss : List Line) (r : Refusal) → number r ≡ first_refusal rs → number r ≡ first_refusal (rs ++ ss)
+first_refusal-err rs ss r e = e ∙ sym (first_refusal-some rs ss (rw (sym e) (number-above r)))
+
+pub first_refusal-ok : (rs ss : List Line) (n : ℕ) → T (numbered rs) → 0 ≡ first_refusal rs → n ≡ first_refusal ss → n ≡ first_refusal (rs ++ ss)
+first_refusal-ok rs ss n t z e = e ∙ sym (first_refusal-none rs ss t (sym z))

@@ -1,7 +1,7 @@
 -- The documents' number of each refusal (document 01, "Refused, by who can cause it", and document 02), and an answer unless one is met.
 --   number r            the number of refusal r
 --   in_order            the refusals, in the order of their numbers
---   numbered n          the refusal of number n, from 1 to 22
+--   refusal_of n        the refusal of number n, from 1 to 22
 --   refusal_number a    the number of an answer's refusal, 0 where there is none
 --   ok_unless n a       a where the number n is 0, else the refusal of that number
 -- Assumes nothing.
@@ -42,8 +42,8 @@ in_order =
     ∷ Refusal.DailyTrafficTooLarge ∷ Refusal.EndsReversed ∷ []
 
 -- any other number has the last: no list of refusals has one
-unfoldable pub numbered : ℕ → Refusal
-numbered n = slice_index_or in_order (n - 1) Refusal.EndsReversed
+unfoldable pub refusal_of : ℕ → Refusal
+refusal_of n = slice_index_or in_order (n - 1) Refusal.EndsReversed
 
 abbrev pub refusal_number : {A : Type 0} → Result A Refusal → ℕ
 refusal_number (Ok a) = 0
@@ -51,4 +51,4 @@ refusal_number (Err r) = number r
 
 -- "Every refusal hands back its number and nothing else"
 unfoldable pub ok_unless : {A : Type 0} → ℕ → A → Result A Refusal
-ok_unless n a = unless_refused n (Ok a) (λ n. Err (numbered n))
+ok_unless n a = unless_refused n (Ok a) (λ n. Err (refusal_of n))

@@ -8,24 +8,14 @@ ghost use Rattle.road.specs.Adjustments.{lane_width_adjustment, per_missing_foot
 ghost use Rattle.road.specs.Adjustments.{total_clearance, total_clearance_row, total_clearance_adjustment};
 ghost use Rattle.road.specs.Adjustments.{median_adjustment, access_adjustment};
 
-use crate::Median;
-use numbers::{div_up, lesser};
+use crate::{Median, Road};
 
 // What total clearance takes off, for 12, 10, 8, 6, 4, 2 and 0 feet.
-const TWO_LANES: [u64; 7] = [0, 400, 900, 1_300, 1_800, 3_600, 5_400];
+static TWO_LANES: [u64; 7] = [0, 400, 900, 1_300, 1_800, 3_600, 5_400];
 
-const THREE_LANES: [u64; 7] = [0, 400, 900, 1_300, 1_700, 2_800, 3_900];
+static THREE_LANES: [u64; 7] = [0, 400, 900, 1_300, 1_700, 2_800, 3_900];
 
-pub(crate) fn lane_width_adjustment(width: u64) -> u64
-    ensures { result ≡ lane_width_adjustment width }
-{
-    match width {
-        0..=109 => 6_600,
-        110..=119 => 1_900,
-        _ => 0,
-    }
-}
-
+#[tactic(auto, unfolding(crate::specs::Adjustments::per_missing_foot))]
 fn per_missing_tenth(lanes: u64) -> u64
     ensures { 10 * result ≡ per_missing_foot lanes }
 {
@@ -37,32 +27,10 @@ fn per_missing_tenth(lanes: u64) -> u64
     }
 }
 
-pub(crate) fn right_clearance_adjustment(right: u64, lanes: u64) -> u64
-    ensures { result ≡ right_clearance_adjustment right lanes }
+fn total_clearance_row(lanes: u64) -> &'static [u64; 7]
+    ensures { result.now ≡ total_clearance_row lanes }
 {
-    (60 - lesser(60, right)) * per_missing_tenth(lanes)
-}
-
-fn counted_left_clearance(median: Median, left: u64) -> u64
-    ensures { result ≡ counted_left_clearance median left }
-{
-    match median {
-        Median::Divided => lesser(60, left),
-        Median::Undivided => 60,
-        Median::TwoWayLeftTurnLane => 60,
-    }
-}
-
-fn total_clearance(median: Median, right: u64, left: u64) -> u64
-    ensures { result ≡ total_clearance median right left }
-{
-    lesser(60, right) + counted_left_clearance(median, left)
-}
-
-fn total_clearance_row(lanes: u64) -> [u64; 7]
-    ensures { result ≡ total_clearance_row lanes }
-{
-    if lanes <= 2 { TWO_LANES } else { THREE_LANES }
+    if lanes <= 2 { &TWO_LANES } else { &THREE_LANES }
 }
 
 // For a total clearance that is so many tenths short of 12 feet: an entry of the row, and its part of the rise to the next.
@@ -72,29 +40,65 @@ fn missing_clearance_adjustment(lanes: u64, missing: u64) -> u64
 {
     let row = total_clearance_row(lanes);
     let before = row[(missing / 20) as usize];
-    let after = row[div_up(missing, 20) as usize];
+    let after = row[missing.div_ceil(20) as usize];
     before + (after - before) * (missing % 20) / 20
 }
 
-pub(crate) fn total_clearance_adjustment(lanes: u64, median: Median, right: u64, left: u64) -> u64
-    ensures { result ≡ total_clearance_adjustment lanes (total_clearance median right left) }
-{
-    missing_clearance_adjustment(lanes, 120 - total_clearance(median, right, left))
-}
-
-pub(crate) fn median_adjustment(median: Median) -> u64
-    ensures { result ≡ median_adjustment median }
-{
-    match median {
-        Median::Undivided => 1_600,
-        Median::Divided => 0,
-        Median::TwoWayLeftTurnLane => 0,
+impl Road {
+    #[tactic(auto, unfolding(crate::specs::Adjustments::lane_width_adjustment))]
+    pub(crate) fn lane_width_adjustment(&self) -> u64
+        ensures { result ≡ lane_width_adjustment self.now.lane_width }
+    {
+        match self.lane_width {
+            0..=109 => 6_600,
+            110..=119 => 1_900,
+            _ => 0,
+        }
     }
-}
 
-pub(crate) fn access_adjustment(points: u64) -> u64
-    requires { points ≤ 200 }
-    ensures { result ≡ access_adjustment points }
-{
-    lesser(10_000, 250 * points)
+    pub(crate) fn right_clearance_adjustment(&self, lanes: u64) -> u64
+        ensures { result ≡ right_clearance_adjustment self.now.right_clearance lanes }
+    {
+        (60 - self.right_clearance.min(60)) * per_missing_tenth(lanes)
+    }
+
+    fn counted_left_clearance(&self) -> u64
+        ensures { result ≡ counted_left_clearance self.now.median self.now.left_clearance }
+    {
+        match self.median {
+            Median::Divided => self.left_clearance.min(60),
+            Median::Undivided | Median::TwoWayLeftTurnLane => 60,
+        }
+    }
+
+    #[tactic(auto, unfolding(crate::specs::Adjustments::total_clearance))]
+    fn total_clearance(&self) -> u64
+        ensures { result ≡ total_clearance self.now.median self.now.right_clearance self.now.left_clearance }
+    {
+        self.right_clearance.min(60) + self.counted_left_clearance()
+    }
+
+    pub(crate) fn total_clearance_adjustment(&self, lanes: u64) -> u64
+        ensures { result ≡ total_clearance_adjustment lanes
+            (total_clearance self.now.median self.now.right_clearance self.now.left_clearance) }
+    {
+        missing_clearance_adjustment(lanes, 120 - self.total_clearance())
+    }
+
+    pub(crate) fn median_adjustment(&self) -> u64
+        ensures { result ≡ median_adjustment self.now.median }
+    {
+        match self.median {
+            Median::Undivided => 1_600,
+            Median::Divided | Median::TwoWayLeftTurnLane => 0,
+        }
+    }
+
+    #[tactic(auto, unfolding(crate::specs::Adjustments::access_adjustment))]
+    pub(crate) fn access_adjustment(&self) -> u64
+        requires { self.now.access ≤ 200 }
+        ensures { result ≡ access_adjustment self.now.access }
+    {
+        (250 * self.access).min(10_000)
+    }
 }

@@ -5,57 +5,51 @@ ghost use Rattle.curve.specs.declared.kind.Kind.TheVariants as Kind;
 ghost use Rattle.road.specs.FreeFlowSpeed.{estimated_by, uncapped_speed, free_flow_speed_of};
 ghost use Rattle.road.specs.Refusals.{RoadFits};
 
-use crate::{Road, Way, adjustment, ramp};
-use curve::kind;
+use crate::ramp::ramp_term;
+use crate::{Road, Way};
 use curve::kind::Kind;
-use numbers::lesser;
 
-fn freeway_estimate(road: Road, lanes: u64) -> u64
-    requires { (30000 ≤ road.speed) × (road.access ≤ 48) }
-    ensures { result ≡ estimated_by Kind.Freeway road lanes }
-{
-    road.speed
-        - adjustment::lane_width_adjustment(road.lane_width)
-        - adjustment::right_clearance_adjustment(road.right_clearance, lanes)
-        - ramp::ramp_term(road.access)
-}
-
-fn multilane_estimate(road: Road, lanes: u64) -> u64
-    requires { (30000 ≤ road.speed) × (road.access ≤ 200) }
-    ensures { result ≡ estimated_by Kind.Multilane road lanes }
-{
-    let median = road.median;
-    road.speed
-        - adjustment::lane_width_adjustment(road.lane_width)
-        - adjustment::total_clearance_adjustment(
-            lanes,
-            median,
-            road.right_clearance,
-            road.left_clearance,
-        )
-        - adjustment::median_adjustment(median)
-        - adjustment::access_adjustment(road.access)
-}
-
-fn uncapped_speed(road: Road, lanes: u64) -> u64
-    requires { RoadFits road }
-    ensures { result ≡ uncapped_speed road lanes }
-{
-    let way = road.way;
-    let kind = road.kind;
-    match way {
-        Way::Given => road.speed,
-        Way::Estimated => match kind {
-            Kind::Freeway => freeway_estimate(road, lanes),
-            Kind::Multilane => multilane_estimate(road, lanes),
-        },
+impl Road {
+    fn freeway_estimate(&self, lanes: u64) -> u64
+        requires speed_low { 30000 ≤ self.now.speed }
+        requires ramps_high { self.now.access ≤ 48 }
+        ensures { result ≡ estimated_by Kind.Freeway self.now lanes }
+    {
+        self.speed
+            - self.lane_width_adjustment()
+            - self.right_clearance_adjustment(lanes)
+            - ramp_term(self.access)
     }
-}
 
-pub fn free_flow_speed(road: Road, lanes: u64) -> u64
-    requires { RoadFits road }
-    ensures { result ≡ free_flow_speed_of road lanes }
-{
-    let kind = road.kind;
-    lesser(kind::highest_speed(kind), uncapped_speed(road, lanes))
+    fn multilane_estimate(&self, lanes: u64) -> u64
+        requires speed_low { 30000 ≤ self.now.speed }
+        requires access_high { self.now.access ≤ 200 }
+        ensures { result ≡ estimated_by Kind.Multilane self.now lanes }
+    {
+        self.speed
+            - self.lane_width_adjustment()
+            - self.total_clearance_adjustment(lanes)
+            - self.median_adjustment()
+            - self.access_adjustment()
+    }
+
+    #[tactic(auto, unfolding(crate::specs::FreeFlowSpeed::uncapped_by))]
+    fn uncapped_speed(&self, lanes: u64) -> u64
+        requires { RoadFits self.now }
+        ensures { result ≡ uncapped_speed self.now lanes }
+    {
+        match (self.way, self.kind) {
+            (Way::Given, _) => self.speed,
+            (Way::Estimated, Kind::Freeway) => self.freeway_estimate(lanes),
+            (Way::Estimated, Kind::Multilane) => self.multilane_estimate(lanes),
+        }
+    }
+
+    #[tactic(auto, unfolding(crate::specs::FreeFlowSpeed::free_flow_speed_of))]
+    pub fn free_flow_speed(&self, lanes: u64) -> u64
+        requires { RoadFits self.now }
+        ensures { result ≡ free_flow_speed_of self.now lanes }
+    {
+        self.uncapped_speed(lanes).min(self.kind.highest_speed())
+    }
 }

@@ -1,10 +1,9 @@
 // Road: a road and its load, from their fields to the free-flow speed, and refusals 1 to 9 and 19.
-//   Road, Case   a road, and a road with its load and weather; Way, Median, Terrain: the types of their fields
-//   with_demand  a case with another demand
+//   Road, Case   a road, and a road with its load and weather, with their methods; Way, Median, Terrain: the types of their fields
 //   adjustment   what lane width, clearances, median and access take off a base speed
 //   ramp         what ramps take off
 //   free_flow    free-flow speed
-//   refusal      refusals 1 to 9 and 19, and their numbers
+//   refusal      refusals 1 to 9 and 19
 #![tactic(auto)]
 
 mod adjustment;
@@ -20,14 +19,14 @@ use curve::Weather;
 use curve::kind::Kind;
 
 // How free-flow speed is had: E from a base speed, G as it is given.
-#[derive(Clone, Copy)]
+#[derive(Clone, Copy, Debug, PartialEq, Eq)]
 pub enum Way {
     Estimated,
     Given,
 }
 
 // U, D and T.
-#[derive(Clone, Copy)]
+#[derive(Clone, Copy, Debug, PartialEq, Eq)]
 pub enum Median {
     Undivided,
     Divided,
@@ -35,7 +34,7 @@ pub enum Median {
 }
 
 // L and R.
-#[derive(Clone, Copy)]
+#[derive(Clone, Copy, Debug, PartialEq, Eq)]
 pub enum Terrain {
     Level,
     Rolling,
@@ -43,7 +42,7 @@ pub enum Terrain {
 
 // What is the same on the same road. Lengths are tenths of a foot. Any number may stand in a number's field, here and in a case; refusals
 // say which are fit.
-#[derive(Clone, Copy)]
+#[derive(Clone, Copy, Debug, PartialEq, Eq)]
 pub struct Road {
     pub kind: Kind,
     pub way: Way,
@@ -57,7 +56,7 @@ pub struct Road {
     pub access: u64,
 }
 
-#[derive(Clone, Copy)]
+#[derive(Clone, Copy, Debug, PartialEq, Eq)]
 pub struct Case {
     pub road: Road,
     pub lanes: u64,
@@ -71,10 +70,10 @@ pub struct Case {
     pub weather: Weather,
 }
 
-pub fn with_demand(case: Case, demand: u64) -> Case
-    ensures { result ≡ with_demand case demand }
-{
-    let mut asked = case;
-    asked.demand = demand;
-    asked
+impl Case {
+    pub fn with_demand(self, demand: u64) -> Case
+        ensures { result ≡ with_demand self demand }
+    {
+        Case { demand, ..self }
+    }
 }

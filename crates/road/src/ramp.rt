@@ -9,6 +9,5 @@ pub(crate) fn ramp_term(ramps: u64) -> u64
     requires { ramps ≤ 48 }
     ensures { result ≡ ramp_term ramps }
 {
-    let place = ramps as usize;
-    RAMP_TERMS[place] as u64
+    u64::from(RAMP_TERMS[ramps as usize])
 }

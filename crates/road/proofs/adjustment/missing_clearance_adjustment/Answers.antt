@@ -1,11 +1,8 @@
 -- `road::adjustment::missing_clearance_adjustment` meets its contract: it reads the entries on both sides, which rise.
 -- Assumes nothing.
-use mathlib.Core.Path.{◌≡◌, sym}
-use mathlib.Core.List.{List}
-use Prim.Native.Nat.{ℕ, ◌+◌, ◌*◌, ◌-◌, ◌/◌, ◌%◌, ◌≤◌}
-use native.Mathlib.Omega.{arith}
-use lib.ListN.{get_or}
+use Rattle.std.proofs.Common.{◌≡◌, sym, ◌∙◌, List, ℕ, ◌+◌, ◌*◌, ◌-◌, ◌/◌, ◌%◌, ◌≤◌, get_or, lit<, arith}
 use Rattle.numbers.specs.Division.{div_up}
+use Rattle.numbers.proofs.DivisionLaws.{div_ceil-eq}
 use Rattle.numbers.proofs.ProductLaws.{product-fits}
 use Rattle.road.specs.Interpolation.{entry_before, entry_after, interpolated}
 use Rattle.road.specs.Adjustments.{total_clearance_row}
@@ -27,28 +24,18 @@ module _ (row : List ℕ) (n x k : ℕ) (own : row ≡ total_clearance_row n) (u
   unfolding entry_before entry_after
   line = rw (own, up) (sym (interpolated-rise (total_clearance_row n) 20 x (omega arith) (total_clearance_row-rises n x h)))
 
-pub offset_bounds-row-div_up : goal.offset_bounds-row-div_up
-unfolding div_up
-offset_bounds-row-div_up c =
-    omega arith
-
-pub bounds-row-div_up : goal.bounds-row-div_up
-unfolding div_up
-bounds-row-div_up c =
-    omega arith
-
 pub overflow_sub-result : goal.overflow_sub-result
 overflow_sub-result c =
-    rises _ _ _ _ c.total_clearance_row-row.ensures c.div_up.ensures c.requires
+    rises _ _ _ _ c.total_clearance_row-row.ensures (c.div_ceil.ensures ∙ div_ceil-eq c.args.missing 20 (lit< tt)) c.requires
 
 pub overflow_mul-result : goal.overflow_mul-result
 overflow_mul-result c =
-    let most = after-le _ _ _ _ c.total_clearance_row-row.ensures c.div_up.ensures c.requires in
+    let most = after-le _ _ _ _ c.total_clearance_row-row.ensures (c.div_ceil.ensures ∙ div_ceil-eq c.args.missing 20 (lit< tt)) c.requires in
     record { fits = product-fits 5400 20 (omega (arith, most)) (omega arith) tt }
 
 pub returns : goal.returns
 returns c =
-    line _ _ _ _ c.total_clearance_row-row.ensures c.div_up.ensures c.requires
+    line _ _ _ _ c.total_clearance_row-row.ensures (c.div_ceil.ensures ∙ div_ceil-eq c.args.missing 20 (lit< tt)) c.requires
 
 pub overflow_add-result : goal.overflow_add-result
 overflow_add-result c =

@@ -1,7 +1,7 @@
--- `road::adjustment::total_clearance_row` meets its contract: the constants are the table's rows.
+-- `road::adjustment::total_clearance_row` meets its contract, by the lanes.
 -- Assumes nothing.
-use borrow.Author.Tests.{le-leb, lt-leb}
-use Rattle.road.specs.Adjustments.{total_clearance_row, two_lane_row, three_lane_row}
+use Rattle.std.proofs.lemmas.Bool.{le-leb, lt-leb}
+use Rattle.road.specs.Adjustments.{two_lane_row, three_lane_row, total_clearance_row}
 use Rattle.road.proofs.adjustment.total_clearance_row.Goals as goal
 
 pub returns-then-lanes-le2 : goal.returns-then-lanes-le2

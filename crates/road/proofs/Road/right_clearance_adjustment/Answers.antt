@@ -1,4 +1,4 @@
--- `road::adjustment::right_clearance_adjustment` meets its contract: a missing tenth takes off a tenth of what a missing foot takes.
+-- `road::Road::right_clearance_adjustment` meets its contract: a missing tenth takes off a tenth of what a missing foot takes.
 -- Assumes nothing.
 use mathlib.Core.Path.{◌≡◌}
 use Prim.Native.Nat.{ℕ, ◌*◌, ◌-◌, min}
@@ -6,13 +6,14 @@ use native.Mathlib.Omega.{arith}
 use Rattle.numbers.proofs.ProductLaws.{product-fits}
 use Rattle.road.specs.Adjustments.{per_missing_foot, right_clearance_adjustment}
 use Rattle.road.proofs.AdjustmentLaws.{per_missing_foot-le, right_clearance_adjustment-tenths}
-use Rattle.road.proofs.adjustment.right_clearance_adjustment.Goals as goal
+use Rattle.road.proofs.Road.right_clearance_adjustment.Goals as goal
 
-by-tenths : (r n t : ℕ) → 10 * t ≡ per_missing_foot n → (60 - min 60 r) * t ≡ right_clearance_adjustment r n
+by-tenths : (r n t : ℕ) → 10 * t ≡ per_missing_foot n → (60 - min r 60) * t ≡ right_clearance_adjustment r n
 by-tenths r n t e =
     let x : ℕ = 60 - min 60 r in
+    let same : 60 - min r 60 ≡ x = omega arith in
     let tenfold : 10 * right_clearance_adjustment r n ≡ x * (10 * t) = rw e (right_clearance_adjustment-tenths r n) in
-    omega arith
+    rw same (omega arith)
 
 pub overflow_mul-result : goal.overflow_mul-result
 overflow_mul-result c =
@@ -20,6 +21,6 @@ overflow_mul-result c =
 
 pub returns : goal.returns
 returns c =
-    rw c.lesser.ensures
-    (by-tenths c.args.right c.args.lanes c.per_missing_tenth.result
+    rw c.min.ensures
+    (by-tenths c.args.self.now.right_clearance c.args.lanes c.per_missing_tenth.result
     c.per_missing_tenth.ensures)
