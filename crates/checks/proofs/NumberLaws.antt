@@ -3,11 +3,13 @@
 --   refusal_of-number               the refusal of a refusal's number is that refusal
 --   number-refusal_of               the number of the refusal of a number from 1 to 22 is that number
 --   ok_unless-ok, ok_unless-err   the answer by its number, as code hands it back
---   ok_unless-none                where the number is 0 it is the value
+--   ok_unless-found               a value is the answer's own, and its number 0
+--   ok_unless-above               a refusal's number is not 0
+--   ok_unless-refused             a refusal is that of any answer with the same number
 --   refusal_number-ok_unless      its own number
 --   first_refusal-err, first_refusal-ok   of a joined list, by what the first part says
 -- Assumes nothing.
-use Rattle.std.proofs.Common.{◌≡◌, refl, sym, ℕ, suc, ◌-◌, ◌≤◌, ◌<◌, Result, Ok, Err, T, eqb, eqb→eq, subst, lit<, lit≤, arith, Bool, ◌∙◌, List, ◌++◌}
+use Rattle.std.proofs.Common.{◌≡◌, refl, sym, ℕ, suc, ◌-◌, ◌≤◌, ◌<◌, Result, Ok, Err, T, eqb, eqb→eq, subst, lit<, lit≤, arith, Bool, true, false, cond, ◌∙◌, List, ◌++◌}
 use borrow.Author.Tests.{ne_eqb}
 use mathlib.Core.Logic.{⊎_elim}
 use native.Mathlib.Nat.{eq-zero-or-pos}
@@ -69,17 +71,40 @@ number-refusal_of n p q =
     subst P e (eqb→eq (number (refusal_of (suc (n - 1)))) (suc (n - 1)) (every_up_to-at numbers-agree 21 all-agree (n - 1) (omega (arith, q))))
 
 pub ok_unless-ok : {A : Type 0} (n : ℕ) (a b : A) → n ≡ 0 → a ≡ b → ◌≡◌ {A = Result A Refusal} (Ok a) (ok_unless n b)
-unfolding ok_unless
 ok_unless-ok n a b z e = rw z (rw e refl)
 
 pub ok_unless-err : {A : Type 0} (r : Refusal) (n : ℕ) (b : A) → number r ≡ n → ◌≡◌ {A = Result A Refusal} (Err r) (ok_unless n b)
-unfolding ok_unless
 ok_unless-err r n b e = rw (sym e) (rw (ne_eqb (number r) 0 (λ z. omega (arith, number-above r))) (rw (refusal_of-number r) refl))
 
 pub refusal_number-ok_unless : {A : Type 0} (n : ℕ) (a : A) → n ≤ 22 → refusal_number {A = A} (ok_unless n a) ≡ n
-unfolding ok_unless
 refusal_number-ok_unless n a le =
     ⊎_elim (λ z. rw z refl) (λ p. rw (ne_eqb n 0 (λ z. omega (arith, p))) (number-refusal_of n p le)) (eq-zero-or-pos n)
+
+-- what such an answer tells of the number, and of another with the same number
+ok-by : {A : Type 0} (n : ℕ) (a b : A) (t : Bool) → eqb n 0 ≡ t → ◌≡◌ {A = Result A Refusal} (cond t (Ok a) (Err (refusal_of n))) (Ok b)
+    → (n ≡ 0) × (b ≡ a)
+ok-by n a b true e found = (eqb→eq n 0 (rw e tt), cc found)
+ok-by n a b false e found = cc found
+
+pub ok_unless-found : {A : Type 0} (n : ℕ) (a b : A) → ◌≡◌ {A = Result A Refusal} (ok_unless n a) (Ok b) → (n ≡ 0) × (b ≡ a)
+ok_unless-found n a b found = ok-by n a b (eqb n 0) refl found
+
+above-by : {A : Type 0} (n : ℕ) (a : A) (r : Refusal) (t : Bool) → eqb n 0 ≡ t
+    → ◌≡◌ {A = Result A Refusal} (cond t (Ok a) (Err (refusal_of n))) (Err r) → 0 < n
+above-by n a r true e found = cc found
+above-by n a r false e found = ⊎_elim (λ z. let o : eqb n 0 ≡ true = rw z refl in cc (e, o)) (λ p. p) (eq-zero-or-pos n)
+
+pub ok_unless-above : {A : Type 0} (n : ℕ) (a : A) (r : Refusal) → ◌≡◌ {A = Result A Refusal} (ok_unless n a) (Err r) → 0 < n
+ok_unless-above n a r found = above-by n a r (eqb n 0) refl found
+
+err-by : {A B : Type 0} (n : ℕ) (a : A) (b : B) (r : Refusal) (t : Bool) → ◌≡◌ {A = Result A Refusal} (cond t (Ok a) (Err (refusal_of n))) (Err r)
+    → ◌≡◌ {A = Result B Refusal} (Err r) (cond t (Ok b) (Err (refusal_of n)))
+err-by n a b r true found = cc found
+err-by n a b r false found = let e : refusal_of n ≡ r = cc found in rw e refl
+
+pub ok_unless-refused : {A B : Type 0} (n : ℕ) (a : A) (b : B) (r : Refusal) → ◌≡◌ {A = Result A Refusal} (ok_unless n a) (Err r)
+    → ◌≡◌ {A = Result B Refusal} (Err r) (ok_unless n b)
+ok_unless-refused n a b r found = err-by n a b r (eqb n 0) found
 
 -- ---- a list behind another
 pub first_refusal-err : (rs ss : List Line) (r : Refusal) → number r ≡ first_refusal rs → number r ≡ first_refusal (rs ++ ss)

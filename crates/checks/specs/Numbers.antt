@@ -50,5 +50,5 @@ refusal_number (Ok a) = 0
 refusal_number (Err r) = number r
 
 -- "Every refusal hands back its number and nothing else"
-unfoldable pub ok_unless : {A : Type 0} → ℕ → A → Result A Refusal
+abbrev pub ok_unless : {A : Type 0} → ℕ → A → Result A Refusal
 ok_unless n a = unless_refused n (Ok a) (λ n. Err (refusal_of n))

@@ -7,6 +7,7 @@ use native.Mathlib.Omega.{arith}
 use Rattle.numbers.specs.Division.{div_up}
 use Rattle.numbers.specs.Search.{starts_at, ends_at}
 use Rattle.checks.specs.Figures.{Shown}
+use Rattle.checks.specs.Numbers.{in_order, refusal_of}
 use Rattle.powers.specs.Power.{reaches_power, power}
 use Rattle.powers.proofs.PowerLaws.{power-eq}
 use Rattle.curve.specs.Curves.{capacity, breakpoint, curve_at}
@@ -55,7 +56,7 @@ unfolding uncapped_by free_flow_speed_of weather_unfit road_refusals load_refusa
 order-shown = (refl, limits-shown)
 
 weather-shown : Shown weather_figures
-unfolding div_up uncapped_by free_flow_speed_of weather_unfit road_refusals load_refusals field_refusals adjusted_speed speed_refusals refusals capacity
+unfolding in_order refusal_of div_up uncapped_by free_flow_speed_of weather_unfit road_refusals load_refusals field_refusals adjusted_speed speed_refusals refusals capacity
     breakpoint adjusted_capacity adjusted_breakpoint curve_under curve_of heavy_factor_of flow_rate_of fall_share_by speed shown_speed density shown_density
     density_limit density_letter letter_at performance measures weather_figures
 weather-shown = (
@@ -90,7 +91,7 @@ unfolding div_up entry_before entry_after weighted_sum interpolated per_missing_
 clearances-shown = (refl, (refl, (refl, (refl, (refl, (refl, (refl, (refl, (refl, (refl, (refl, (refl, speeds-shown))))))))))))
 
 pub boundary-shown : Shown boundary_figures
-unfolding div_up entry_before entry_after weighted_sum interpolated lane_width_adjustment per_missing_foot right_clearance_row
+unfolding in_order refusal_of div_up entry_before entry_after weighted_sum interpolated lane_width_adjustment per_missing_foot right_clearance_row
     right_clearance_adjustment total_clearance two_lane_row total_clearance_row total_clearance_adjustment access_adjustment estimated_by uncapped_by
     free_flow_speed_of weather_unfit road_refusals load_refusals field_refusals adjusted_speed speed_refusals refusals capacity breakpoint curve_at
     adjusted_capacity adjusted_breakpoint curve_under curve_of heavy_factor_of flow_rate_of fall_share_by speed shown_speed density shown_density

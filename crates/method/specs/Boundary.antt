@@ -10,6 +10,7 @@
 -- Assumes nothing.
 use Rattle.std.specs.Prelude.{List, [], ◌∷◌, map, ℕ}
 use Rattle.checks.specs.Figures.{Figure, figure}
+use Rattle.checks.specs.Numbers.{refusal_number}
 use Rattle.powers.specs.Power.{power}
 use Rattle.curve.specs.declared.kind.Kind.{Kind}
 use Rattle.curve.specs.declared.Weather.{Weather}
@@ -27,7 +28,7 @@ use Rattle.road.specs.RampTerm.{ramp_term}
 use Rattle.road.specs.FreeFlowSpeed.{free_flow_speed_of}
 use Rattle.method.specs.Refusals.{refusal}
 use Rattle.method.specs.Checked as checked
-use Rattle.method.specs.Assess.{assessment, refusal_number, values}
+use Rattle.method.specs.Assess.{assessment, values}
 
 -- density and letter at v
 abbrev density_and_letter : Kind → ℕ → ℕ → List ℕ
@@ -65,7 +66,7 @@ assessed case = refusal_number (assessment case) ∷ values (assessment case)
 
 -- the same of the check of a case
 abbrev checked_as : Case → List ℕ
-checked_as case = checked.refusal_number (checked.checked case) ∷ checked.values (checked.checked case)
+checked_as case = refusal_number (checked.checked case) ∷ checked.values (checked.checked case)
 
 -- a case of kind F with these fields, level, with a speed factor
 abbrev faulty : (speed width right : ℕ) → Median → (access lanes demand factor share speed_factor : ℕ) → Case

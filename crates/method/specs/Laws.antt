@@ -2,6 +2,7 @@
 --   AcceptedCurveIsWellFormed, MultilaneIsInClearWeather, FlowRateNeverFallsWithLoad, NoDemandGetsA, RefusedByTheList, RefusalsInOrder
 -- Assumes nothing.
 use Rattle.std.specs.Prelude.{◌≡◌, [], ◌∷◌, map, ◌≤◌}
+use Rattle.checks.specs.Numbers.{refusal_number}
 use Rattle.curve.specs.declared.kind.Kind.TheVariants as Kind
 use Rattle.curve.specs.declared.service.Letter.TheVariants as Letter
 use Rattle.curve.specs.Curves.{WellFormed, Sized}
@@ -11,7 +12,7 @@ use Rattle.road.specs.Refusals.{FieldsFit}
 use Rattle.method.specs.Refusals.{refusals, refusal, Accepted}
 use Rattle.method.specs.Checked.{case_curve}
 use Rattle.method.specs.Flow.{truck_equivalent, case_flow_rate}
-use Rattle.method.specs.Assess.{measures, assessment, refusal_number}
+use Rattle.method.specs.Assess.{measures, assessment}
 
 -- The curve of an accepted case has its breakpoint below its capacity, the speed at capacity is at most F, and 64 bits hold its products.
 abbrev pub AcceptedCurveIsWellFormed : Type 0

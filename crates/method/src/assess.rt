@@ -1,92 +1,77 @@
 // From a case to what it gets, or to its refusal.
-//   CaseTerms       what the demands on a case have in common
+//   AcceptedCase    a case that none of 1 to 9, 19 and 10 refuses, with what its demands have in common worked out once
 //   Measures        the curve of an accepted case, its flow rate, and what that gets on the curve
-//   Assessment      measures or a refusal
-//   case_terms      the terms of an accepted case, worked out once
-//   measures_with   the measures of an accepted case, from its terms
-//   assess          for any case at all
-ghost use Rattle.std.specs.Prelude.{◌≡◌};
-ghost use Rattle.method.specs.declared.checked.Checked.TheVariants as Checked;
-ghost use Rattle.method.specs.Checked.{checked};
-ghost use Rattle.method.specs.Assess.{case_terms, CaseReady, measures, assessment};
+//   measures_at     the measures of an accepted case with a demand in the place of its own
+//   measures        with its own
+//   assess          measures or a refusal, for any case at all
+ghost use Rattle.std.specs.Prelude.{◌≡◌, ◌≤◌};
+ghost use Rattle.road.specs.Cases.{with_demand};
+ghost use Rattle.road.specs.Refusals.{greatest_demand};
+ghost use Rattle.method.specs.Refusals.{Accepted};
+ghost use Rattle.method.specs.Checked.{case_curve, checked};
+ghost use Rattle.method.specs.Flow.{load_of};
+ghost use Rattle.method.specs.Assess.{measures, assessment};
 
-use crate::checked::Checked;
+use crate::checked;
 use crate::flow::Load;
-use crate::{checked, flow};
-use curve::kind::Kind;
+use checks::Refusal;
+use curve::Curve;
 use curve::service::Performance;
 use curve::speed::CurveTerms;
-use curve::{Curve, service, speed};
 use road::Case;
 
-#[derive(Clone, Copy)]
-pub struct CaseTerms {
+#[derive(Clone, Copy, Debug, PartialEq, Eq)]
+pub struct AcceptedCase {
+    pub case: Case,
     pub load: Load,
     pub curve_terms: CurveTerms,
+    pub ghost accepted: { Accepted case },
+    pub ghost own_load: { load ≡ load_of case case.lanes },
+    pub ghost own_curve: { curve_terms.curve ≡ case_curve case },
 }
 
-#[derive(Clone, Copy)]
+#[derive(Clone, Copy, Debug, PartialEq, Eq)]
 pub struct Measures {
     pub curve: Curve,
     pub flow_rate: u64,
     pub performance: Performance,
 }
 
-#[derive(Clone, Copy)]
-pub enum Assessment {
-    Measured(Measures),
-    Refused(u64),
-}
-
-// From the case's curve.
-pub fn case_terms(case: Case, curve: Curve) -> CaseTerms
-    requires { checked case ≡ Checked.Accepted curve }
-    ensures { result ≡ case_terms case }
-{
-    CaseTerms {
-        load: flow::load_of(case, case.lanes),
-        curve_terms: speed::curve_terms(curve),
-    }
-}
-
-// From the case's terms and the table of powers that its kind reads.
-pub fn measures_with(case: Case, terms: CaseTerms, table: &[u32]) -> Measures
-    requires { CaseReady case terms table.now }
-    ensures { result ≡ measures case }
-{
-    let load = terms.load;
-    let curve_terms = terms.curve_terms;
-    let curve = curve_terms.curve;
-    let flow_rate = flow::flow_rate(load, case.demand);
-    Measures {
-        curve,
-        flow_rate,
-        performance: service::performance_at(curve_terms, table, flow_rate),
-    }
-}
-
-// From the case's curve.
-fn measures_of(case: Case, curve: Curve) -> Measures
-    requires { checked case ≡ Checked.Accepted curve }
-    ensures { result ≡ measures case }
-{
-    let terms = case_terms(case, curve);
-    let kind = curve.kind;
-    match kind {
-        Kind::Freeway => measures_with(case, terms, &[]),
-        Kind::Multilane => {
-            let table = powers::power_table();
-            measures_with(case, terms, &table)
+impl AcceptedCase {
+    // From the case's curve.
+    pub fn new(case: Case, curve: Curve) -> AcceptedCase
+        requires { checked case ≡ Ok curve }
+        ensures { result.case ≡ case }
+    {
+        AcceptedCase {
+            case,
+            load: Load::of(&case, case.lanes),
+            curve_terms: CurveTerms::new(curve),
         }
     }
+
+    pub fn measures_at(&self, demand: u64) -> Measures
+        requires { demand ≤ greatest_demand }
+        ensures { result ≡ measures (with_demand self.now.case demand) }
+    {
+        let flow_rate = self.load.flow_rate(demand);
+        Measures {
+            curve: self.curve_terms.curve,
+            flow_rate,
+            performance: self.curve_terms.performance_at(flow_rate),
+        }
+    }
+
+    pub fn measures(&self) -> Measures
+        ensures { result ≡ measures self.now.case }
+    {
+        self.measures_at(self.case.demand)
+    }
 }
 
-pub fn assess(case: Case) -> Assessment
+pub fn assess(case: Case) -> Result<Measures, Refusal>
     ensures { result ≡ assessment case }
 {
-    let checked = checked::check(case);
-    match checked {
-        Checked::Accepted(curve) => Assessment::Measured(measures_of(case, curve)),
-        Checked::Refused(number) => Assessment::Refused(number),
-    }
+    let curve = checked::check(&case)?;
+    Ok(AcceptedCase::new(case, curve).measures())
 }

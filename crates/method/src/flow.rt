@@ -1,6 +1,5 @@
 // Flow rate, in whole passenger cars per hour per lane.
-//   Load        what a demand is worked with
-//   load_of     the load of a case with a lane count
+//   Load        what a demand is worked with; Load::of: the load of a case with a lane count
 //   flow_rate   of a demand
 ghost use Rattle.std.specs.Prelude.{◌≡◌, ◌≤◌};
 ghost use Rattle.road.specs.Cases.{with_lanes};
@@ -9,7 +8,7 @@ ghost use Rattle.method.specs.Flow.{truck_equivalent, load_of, flow_rate_of, Loa
 
 use road::{Case, Terrain};
 
-#[derive(Clone, Copy)]
+#[derive(Clone, Copy, Debug, PartialEq, Eq)]
 pub struct Load {
     // what a vehicle counts for, thousandths of a passenger car
     pub heavy_factor: u64,
@@ -26,20 +25,22 @@ fn truck_equivalent(terrain: Terrain) -> u64
     }
 }
 
-pub fn load_of(case: Case, lanes: u64) -> Load
-    requires { FieldsFit (with_lanes case lanes) }
-    ensures { result ≡ load_of case lanes }
-{
-    let terrain = case.terrain;
-    Load {
-        heavy_factor: 1_000 + case.heavy_share * (truck_equivalent(terrain) - 1),
-        divisor: case.peak_hour_factor * lanes,
+impl Load {
+    pub fn of(case: &Case, lanes: u64) -> Load
+        requires { FieldsFit (with_lanes case.now lanes) }
+        ensures { result ≡ load_of case.now lanes }
+    {
+        Load {
+            heavy_factor: 1_000 + case.heavy_share * (truck_equivalent(case.terrain) - 1),
+            divisor: case.peak_hour_factor * lanes,
+        }
     }
-}
 
-pub fn flow_rate(load: Load, demand: u64) -> u64
-    requires { LoadFits load × (demand ≤ greatest_demand) }
-    ensures { result ≡ flow_rate_of load demand }
-{
-    numbers::div_up(demand * load.heavy_factor, load.divisor)
+    pub fn flow_rate(&self, demand: u64) -> u64
+        requires load_fits { LoadFits self.now }
+        requires demand_high { demand ≤ greatest_demand }
+        ensures { result ≡ flow_rate_of self.now demand }
+    {
+        (demand * self.heavy_factor).div_ceil(self.divisor)
+    }
 }

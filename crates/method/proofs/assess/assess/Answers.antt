@@ -1,21 +1,20 @@
--- `method::assess::assess` meets its contract: a check that finds a curve has accepted the case; one that refuses has its number.
+-- `method::assess::assess` meets its contract: what the check found is measured, or refused.
 -- Assumes nothing.
-use mathlib.Core.Path.{sym, ap, ◌∙◌}
-use Rattle.method.specs.declared.assess.Assessment.TheVariants as Assessment
+use Rattle.std.proofs.Common.{sym, ◌∙◌}
+use Rattle.std.proofs.lemmas.Result.{err_from_is_err_and}
+use Rattle.method.specs.Assess.{measures}
 use Rattle.method.proofs.CheckedLaws.{by-accepted, by-refused}
 use Rattle.method.proofs.assess.assess.Goals as goal
 
-pub measures_of-requires : goal.measures_of-requires
-measures_of-requires c =
-    sym c.check-checked.ensures ∙ c.in-Accepted.is
+pub new-requires : goal.new-requires
+new-requires c = sym c.check.ensures ∙ c.in_ok-curve.was
 
-pub returns-in-Accepted : goal.returns-in-Accepted
-returns-in-Accepted c =
-    ap Assessment.Measured c.measures_of.ensures
-    ∙ by-accepted c.args.case _ Assessment.Refused _
-    (sym c.check-checked.ensures ∙ c.in-Accepted.is)
+pub returns-in_err-curve : goal.returns-in_err-curve
+returns-in_err-curve c =
+    let p = err_from_is_err_and c.from_residual.result c.from_residual.ensures.1 in
+    rw (p.1, p.2) (by-refused c.args.case (measures c.args.case) c.in_err-curve.field-0.0 (sym c.check.ensures ∙ c.in_err-curve.was))
 
-pub returns-in-Refused : goal.returns-in-Refused
-returns-in-Refused c =
-    by-refused c.args.case _ Assessment.Refused _
-    (sym c.check-checked.ensures ∙ c.in-Refused.is)
+pub returns : goal.returns
+returns c =
+    rw (c.measures.ensures, c.new.ensures)
+    (by-accepted c.args.case (measures c.args.case) c.in_ok-curve.curve (sym c.check.ensures ∙ c.in_ok-curve.was))
