@@ -23,6 +23,7 @@ use Rattle.numbers.proofs.SearchLaws.{greatest-last}
 use Rattle.numbers.proofs.BoolLaws.{and-left, and-right}
 use Rattle.checks.specs.Refusals.{refuses}
 use Rattle.checks.specs.Figures.{Shown}
+use Rattle.checks.specs.Numbers.{in_order, refusal_of}
 use Rattle.checks.proofs.FigureLaws.{Shown-append}
 use Rattle.curve.specs.declared.kind.Kind.TheVariants as Kind
 use Rattle.curve.specs.declared.Curve.{Curve}
@@ -43,9 +44,6 @@ use Rattle.method.specs.Flow.{heavy_factor_of, load_of, flow_rate_of}
 use Rattle.method.specs.Assess.{measures}
 use Rattle.method.specs.Boundary as specs-method
 use Rattle.method.specs.Boundary.{example, refused_by_all}
-use Rattle.method.proofs.RefusalLaws.{accepted-fields}
-use Rattle.method.proofs.CheckedLaws.{case_curve-well_formed}
-use Rattle.method.proofs.FlowLaws.{case_load-fits}
 use Rattle.method.proofs.Boundary as method
 use Rattle.method.proofs.Boundary.{ramp-6, ramp-24}
 use Rattle.answer.specs.Volumes.{meets, service_volume}
@@ -118,17 +116,20 @@ VolumesOf case s₁ s₂ s₃ s₄ s₅ =
 
 -- the service volumes of an accepted case with this curve, by where the search's tests end
 module _ (case : Case) (curve : Curve) (a : Accepted case) (own : case_curve case ≡ curve) where
+  -- the test on a curve
+  keeps : Curve → ℕ → ℕ → Bool
+  keeps on l demand = meets_limit on (flow_rate_of (load_of case case.lanes) demand) (density_limit l)
+
   ends : ℕ → ℕ → Bool
-  ends l s = leb s greatest_demand && ends_at (demand_meets curve (load_of case case.lanes) (density_limit l)) s
+  ends l s = leb s greatest_demand && ends_at (keeps curve l) s
 
   volume : (l s : ℕ) → 1 ≤ l → l ≤ 5 → T (ends l s) → service_volume case l ≡ s
-  unfolding ends
+  unfolding demand_meets ends keeps
   volume l s h k t =
+      let last : T (ends_at (keeps (case_curve case) l) s) = rw own (and-right (leb s greatest_demand) _ t) in
       service_volume-eq case l a h k
-      ∙ greatest-last (demand_meets (case_curve case) (load_of case case.lanes) (density_limit l)) greatest_demand s
-      (demand_meets-down (case_curve case) (load_of case case.lanes) (density_limit l) (case_curve-well_formed case a)
-      (case_load-fits case (accepted-fields case a)).divisor-pos)
-      (leb→le s greatest_demand (and-left (leb s greatest_demand) _ t)) (rw own (and-right (leb s greatest_demand) _ t))
+      ∙ greatest-last (demand_meets case (density_limit l)) greatest_demand s (demand_meets-down case (density_limit l) a)
+      (leb→le s greatest_demand (and-left (leb s greatest_demand) _ t)) last
 
   five : (s₁ s₂ s₃ s₄ s₅ : ℕ) → T (ends 1 s₁) → T (ends 2 s₂) → T (ends 3 s₃) → T (ends 4 s₄) → T (ends 5 s₅)
       → VolumesOf case s₁ s₂ s₃ s₄ s₅
@@ -141,17 +142,17 @@ module _ (case : Case) (curve : Curve) (a : Accepted case) (own : case_curve cas
   )
 
 pub volumes : VolumesOf example 1117 1829 2642 3360 3858
-unfolding div_up ends_at heavy_factor_of flow_rate_of fall_share_by speed density meets_limit density_limit demand_meets ends
+unfolding div_up ends_at heavy_factor_of flow_rate_of fall_share_by speed density meets_limit density_limit keeps ends
 volumes = five example (freeway 60783 230783 156868) example-accepted example-curves.0.0 1117 1829 2642 3360 3858 tt tt tt tt tt
 
 pub given-volumes : VolumesOf (given_in_snow 2 3000) 1566 2506 3294 3884 4320
-unfolding div_up ends_at heavy_factor_of flow_rate_of fall_share_by speed density meets_limit density_limit demand_meets ends
+unfolding div_up ends_at heavy_factor_of flow_rate_of fall_share_by speed density meets_limit density_limit keeps ends
 given-volumes =
     five (given_in_snow 2 3000) (freeway 71250 216000 93150) snow-accepted.0 snow-curves.0.0 1566 2506 3294 3884 4320 tt tt tt tt
     tt
 
 pub snow-volumes : VolumesOf (example_in_snow 2000) 961 1572 2221 2636 2898
-unfolding div_up ends_at heavy_factor_of flow_rate_of fall_share_by speed density meets_limit density_limit demand_meets ends
+unfolding div_up ends_at heavy_factor_of flow_rate_of fall_share_by speed density meets_limit density_limit keeps ends
 snow-volumes =
     five (example_in_snow 2000) (freeway 52273 173372 116148) snow-accepted.1 snow-curves.1.0 961 1572 2221 2636 2898 tt tt tt tt
     tt
@@ -166,7 +167,7 @@ unfolding uncapped_by free_flow_speed_of capacity breakpoint adjusted_speed adju
 eight-lanes-curve = refl
 
 pub eight-lanes-volumes : VolumesOf eight_lanes 6178 10054 13620 16449 18604
-unfolding div_up ends_at heavy_factor_of flow_rate_of fall_share_by speed density meets_limit density_limit demand_meets ends
+unfolding div_up ends_at heavy_factor_of flow_rate_of fall_share_by speed density meets_limit density_limit keeps ends
 eight-lanes-volumes =
     five eight_lanes (freeway 72500 240000 110000) eight-lanes-accepted eight-lanes-curve 6178 10054 13620 16449 18604 tt tt tt tt tt
 
@@ -176,8 +177,8 @@ answers-shown : (answered example ≡ 0 ∷ 3 ∷ 60783 ∷ 230783 ∷ 1196 ∷ 
     × (answered estimated ≡ 10 ∷ [])
     × (answered (given_in_snow 2 3000) ≡ 0 ∷ 3 ∷ 71250 ∷ 216000 ∷ 1500 ∷ 66271 ∷ 227 ∷ 1566 ∷ 2506 ∷ 3294 ∷ 3884 ∷ 4320 ∷ [])
     × (answered (example_in_snow 2000) ≡ 0 ∷ 3 ∷ 52273 ∷ 173372 ∷ 1196 ∷ 52222 ∷ 230 ∷ 961 ∷ 1572 ∷ 2221 ∷ 2636 ∷ 2898 ∷ [])
-unfolding div_up uncapped_by free_flow_speed_of weather_unfit road_refusals load_refusals field_refusals adjusted_speed speed_refusals refusals capacity
-    breakpoint adjusted_capacity adjusted_breakpoint curve_under curve_of heavy_factor_of flow_rate_of fall_share_by speed shown_speed density shown_density
+unfolding in_order refusal_of div_up uncapped_by free_flow_speed_of weather_unfit road_refusals load_refusals field_refusals adjusted_speed
+    speed_refusals refusals capacity breakpoint adjusted_capacity adjusted_breakpoint curve_under curve_of heavy_factor_of flow_rate_of fall_share_by speed shown_speed density shown_density
     density_limit density_letter letter_at performance measures graded
 answers-shown =
     let given = given-volumes in
@@ -209,7 +210,7 @@ example-figures = ap (drop 1) example-answer
 lanes-shown : (counted example 3 ≡ 0 ∷ 2 ∷ []) × (counted (example_with 2643) 3 ≡ 0 ∷ 3 ∷ []) × (counted (example_with 99999) 3 ≡ 14 ∷ [])
     × (counted example 6 ≡ 16 ∷ []) × (counted (example_in_snow 2222) 3 ≡ 0 ∷ 3 ∷ [])
     × (counted refused_by19 1 ++ (counted refused_by19 6 ++ (counted refused_by_all 1 ++ counted refused_by_all 0)) ≡ 19 ∷ 16 ∷ 1 ∷ 16 ∷ [])
-unfolding div_up least_from least weather_unfit road_refusals load_refusals field_refusals refusals heavy_factor_of flow_rate_of fall_share_by speed
+unfolding in_order refusal_of div_up least_from least weather_unfit road_refusals load_refusals field_refusals refusals heavy_factor_of flow_rate_of fall_share_by speed
     shown_speed density shown_density density_limit density_letter letter_at performance measures meets lanes_found lanes_refusals
 lanes-shown =
     let c = example-curves in
@@ -239,7 +240,7 @@ lanes-shown =
 
 -- the lanes of the case that 10 refuses
 estimated-shown : counted estimated 1 ≡ 0 ∷ 4 ∷ []
-unfolding div_up least_from least weather_unfit road_refusals load_refusals field_refusals adjusted_speed speed_refusals refusals capacity
+unfolding in_order refusal_of div_up least_from least weather_unfit road_refusals load_refusals field_refusals adjusted_speed speed_refusals refusals capacity
     breakpoint adjusted_capacity adjusted_breakpoint curve_under curve_of heavy_factor_of flow_rate_of fall_share_by speed shown_speed density
     shown_density density_limit density_letter letter_at performance measures meets lanes_found lanes_refusals
 estimated-shown = simp (estimated-speeds.0, estimated-speeds.1, estimated-speeds.2)

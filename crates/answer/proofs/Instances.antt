@@ -12,6 +12,7 @@ use native.Mathlib.Omega.{arith}
 use lib.Dec.{T, leb, le→leb}
 use lib.ListN.{get_or}
 use Rattle.numbers.specs.Division.{div_up}
+use Rattle.checks.specs.Numbers.{refusal_number}
 use Rattle.curve.specs.Curves.{capacity, breakpoint}
 use Rattle.curve.specs.Weather.{adjusted_speed, adjusted_capacity, adjusted_breakpoint, curve_under}
 use Rattle.curve.specs.Speed.{fall_share_by, speed, shown_speed}
@@ -29,7 +30,7 @@ use Rattle.method.specs.Boundary.{example}
 use Rattle.method.proofs.RefusalLaws.{accepted-with_demand}
 use Rattle.method.proofs.Boundary.{power-500}
 use Rattle.answer.specs.Volumes.{meets, service_volume}
-use Rattle.answer.specs.Answers.{graded, answer_to, refusal_number}
+use Rattle.answer.specs.Answers.{graded, answer_to}
 use Rattle.answer.specs.Lanes.{lanes_answer, values}
 use Rattle.answer.specs.Promises.{letter_in, Meets, AcceptedCount, volume_in}
 use Rattle.answer.specs.Boundary.{example_with, example_in_snow, estimated, given_in_snow}
@@ -39,7 +40,7 @@ use Rattle.answer.specs.Instances.{ServiceVolumeOfTheExample, ServiceVolumeInSno
 use Rattle.answer.specs.Instances.{FourLanesForEveryLetter, NoLanesForTheGreatestDemand, ThreeLanesOnAMultilane}
 use Rattle.answer.specs.Instances.{lighter_in_snow, narrow_in_snow, ThreeLanesInSnow}
 use Rattle.answer.proofs.VolumeLaws.{meets-only-accepted}
-use Rattle.answer.proofs.AnswerLaws.{Meets-iff}
+use Rattle.answer.proofs.AnswerLaws.{answer_to-number, Meets-iff}
 use Rattle.answer.proofs.Promises.{volume_in-accepted, no-better-under-more-load, meets-up-to-the-service-volume}
 use Rattle.answer.proofs.Promises.{least-accepted-count}
 use Rattle.answer.proofs.Boundary.{example-speeds, estimated-speeds, example-accepted, snow-accepted, volumes, snow-volumes}
@@ -179,7 +180,7 @@ pub four-lanes-for-every-letter : FourLanesForEveryLetter
 four-lanes-for-every-letter = (refused, needed)
   where
     refused : refusal_number (answer_to estimated) ≡ 10
-    refused = simp counts.0
+    refused = answer_to-number estimated ∙ counts.0
 
     needed : (n : ℕ) → 1 ≤ n → n ≤ 5 → values (lanes_answer estimated n) ≡ 4 ∷ []
     needed n h k =
@@ -241,7 +242,7 @@ narrow-meet = rw example-speeds.1 tt
 
 pub three-lanes-in-snow : ThreeLanesInSnow
 three-lanes-in-snow = (
-  simp narrow-counts.0,
+  answer_to-number narrow_in_snow ∙ narrow-counts.0,
   ((least-accepted-count narrow_in_snow 3 (omega arith) (omega arith) narrow-fits).0 3).1 (
     (omega arith, omega arith, narrow-counts.1),
     (Meets-iff (with_lanes narrow_in_snow 3) 3).1 narrow-meet,

@@ -3,28 +3,26 @@
 --   lanes_found-meets, lanes_found-le   a count that is found meets the letter, and is at most every count that does
 --   lanes_found-none      it is one more than the most where no count meets the letter
 --   meets-of-kind         a case that meets a letter has a lane count of the kind
---   lanes_answer-letter   a letter number that is not 1 to 5: 16
---   lanes_answer-fields   a case that 1 to 9 or 19 refuse: that number
---   lanes_answer-none     no count: 14
---   lanes_answer-found    a count: that count
+--   lanes_number          the number of its refusal
+--   lanes-letter          a letter number that is not 1 to 5: 16
+--   lanes-fields          a case that 1 to 9 or 19 refuse: that number
+--   lanes-none, lanes_answer-none     no count: 14
+--   lanes-found, lanes_answer-found   a count: that count
 -- Assumes nothing.
-use mathlib.Core.Path.{◌≡◌, ap, ◌∙◌}
-use mathlib.Core.Bool.{true, cond}
-use mathlib.Core.List.{List, [], ◌∷◌, ◌++◌}
-use Prim.Native.Nat.{ℕ, suc, ◌≤◌, ◌<◌}
-use native.Mathlib.Omega.{arith}
-use borrow.Author.Tests.{lt-ltb, le-ltb}
-use lib.Dec.{T, ltb}
+use Rattle.std.proofs.Common.{◌≡◌, refl, sym, ◌∙◌, true, cond, List, [], ◌∷◌, ◌++◌, ℕ, suc, ◌≤◌, ◌<◌, T, ltb, Ok, Err, arith}
+use Rattle.std.proofs.lemmas.Bool.{lt-ltb, le-ltb}
 use Rattle.numbers.proofs.SearchLaws.{least-passes, least-le-of, least-eq, least-none}
-use Rattle.checks.specs.Refusals.{Refusal, refuses, first_refusal, outside}
-use Rattle.checks.proofs.RefusalLaws.{first_refusal-none, first_refusal-some, inside, unless_refused-none, unless_refused-some}
+use Rattle.checks.specs.declared.Refusal.{Refusal}
+use Rattle.checks.specs.Refusals.{Refusal as Condition, refuses, first_refusal, outside}
+use Rattle.checks.specs.Numbers.{number}
+use Rattle.checks.proofs.RefusalLaws.{first_refusal-none, inside}
+use Rattle.checks.proofs.NumberLaws.{ok_unless-err, ok_unless-none, first_refusal-err}
 use Rattle.curve.specs.Kinds.{fewest_lanes, most_lanes}
 use Rattle.road.specs.declared.Case.{Case}
 use Rattle.road.specs.Cases.{with_lanes}
 use Rattle.road.specs.Refusals.{field_refusals, FieldsFit}
 use Rattle.road.proofs.RefusalLaws.{fields-numbered, load-ends}
 use Rattle.method.proofs.RefusalLaws.{accepted-fields}
-use Rattle.answer.specs.declared.lanes.LanesAnswer.TheVariants as LanesAnswer
 use Rattle.answer.specs.Volumes.{meets}
 use Rattle.answer.specs.Lanes.{lanes_meet, lanes_found, lanes_refusals, lanes_answer}
 use Rattle.answer.proofs.VolumeLaws.{meets-only-accepted}
@@ -55,42 +53,39 @@ module _ (case : Case) (l : ℕ) where
   unfolding lanes_found
   lanes_found-none none = least-none (lanes_meet case l) (suc (most_lanes case.road.kind)) (λ k h. none k (omega arith))
 
-  -- ---- the answer, by the number of its refusal
-  number : ℕ
-  number = first_refusal (lanes_refusals case l)
+  -- ---- the number of its refusal
+  abbrev pub lanes_number : ℕ
+  lanes_number = first_refusal (lanes_refusals case l)
 
-  refused : (n : ℕ) → 0 < n → number ≡ n → lanes_answer case l ≡ LanesAnswer.Refused n
-  unfolding number
-  refused n p e = unless_refused-some number (LanesAnswer.Lanes (lanes_found case l)) LanesAnswer.Refused (omega arith)
-      ∙ ap LanesAnswer.Refused e
+  pub lanes-letter : outside 1 5 l ≡ true → 16 ≡ lanes_number
+  unfolding lanes_refusals
+  lanes-letter o = rw o refl
 
-  pub lanes_answer-letter : outside 1 5 l ≡ true → lanes_answer case l ≡ LanesAnswer.Refused 16
-  unfolding number lanes_refusals
-  lanes_answer-letter o = refused 16 (omega arith) (rw o)
-
-  last : List Refusal
+  last : List Condition
   last = refuses 14 (ltb (most_lanes case.road.kind) (lanes_found case l)) ∷ []
 
   module _ (low : 1 ≤ l) (high : l ≤ 5) where
     -- the refusal after 16
-    number-eq : number ≡ first_refusal (field_refusals case ++ last)
-    unfolding number lanes_refusals last
+    number-eq : lanes_number ≡ first_refusal (field_refusals case ++ last)
+    unfolding lanes_refusals last
     number-eq = simp (inside 1 5 l low high)
 
-    pub lanes_answer-fields : 0 < first_refusal (field_refusals case)
-        → lanes_answer case l ≡ LanesAnswer.Refused (first_refusal (field_refusals case))
-    lanes_answer-fields p = refused (first_refusal (field_refusals case)) p (number-eq ∙ first_refusal-some (field_refusals case) last p)
+    pub lanes-fields : (r : Refusal) → number r ≡ first_refusal (field_refusals case) → number r ≡ lanes_number
+    lanes-fields r e = first_refusal-err (field_refusals case) last r e ∙ sym number-eq
 
     module _ (z : FieldsFit case) where
-      number-last : number ≡ cond (ltb (most_lanes case.road.kind) (lanes_found case l)) 14 0
+      number-last : lanes_number ≡ cond (ltb (most_lanes case.road.kind) (lanes_found case l)) 14 0
       unfolding last
       number-last = number-eq ∙ first_refusal-none (field_refusals case) last (fields-numbered case) z
 
-      pub lanes_answer-none : most_lanes case.road.kind < lanes_found case l → lanes_answer case l ≡ LanesAnswer.Refused 14
-      lanes_answer-none h = refused 14 (omega arith) (number-last ∙ simp (lt-ltb (most_lanes case.road.kind) (lanes_found case l) h))
+      pub lanes-none : most_lanes case.road.kind < lanes_found case l → 14 ≡ lanes_number
+      lanes-none h = sym (number-last ∙ simp (lt-ltb (most_lanes case.road.kind) (lanes_found case l) h))
 
-      pub lanes_answer-found : lanes_found case l ≤ most_lanes case.road.kind → lanes_answer case l ≡ LanesAnswer.Lanes (lanes_found case l)
-      unfolding number
-      lanes_answer-found h =
-          unless_refused-none number (LanesAnswer.Lanes (lanes_found case l)) LanesAnswer.Refused
-          (number-last ∙ simp (le-ltb (most_lanes case.road.kind) (lanes_found case l) h))
+      pub lanes-found : lanes_found case l ≤ most_lanes case.road.kind → lanes_number ≡ 0
+      lanes-found h = number-last ∙ simp (le-ltb (most_lanes case.road.kind) (lanes_found case l) h)
+
+      pub lanes_answer-none : most_lanes case.road.kind < lanes_found case l → lanes_answer case l ≡ Err Refusal.NoLaneCount
+      lanes_answer-none h = sym (ok_unless-err Refusal.NoLaneCount lanes_number (lanes_found case l) (lanes-none h))
+
+      pub lanes_answer-found : lanes_found case l ≤ most_lanes case.road.kind → lanes_answer case l ≡ Ok (lanes_found case l)
+      lanes_answer-found h = ok_unless-none lanes_number (lanes_found case l) (lanes-found h)

@@ -4,6 +4,8 @@
 --   figures-within-ends, refusals-within-ends, refusals-reach-ends, lanes-refusals-in-order, lanes-refused-as-the-case, counts-are-digits
 --   found-digit          the same of a count that is answered
 -- Assumes nothing.
+use Rattle.std.proofs.Common.{lit≤, Ok, Bool}
+use Rattle.std.proofs.Math.Nat.{le_trans}
 use mathlib.Core.Path.{◌≡◌, refl, sym, ap, ◌∙◌}
 use mathlib.Core.Logic.{⊎_elim}
 use mathlib.Core.List.{[], ◌∷◌}
@@ -17,7 +19,9 @@ use Rattle.numbers.proofs.DivisionLaws.{div_up-le-iff, le-div_up}
 use Rattle.numbers.proofs.SearchLaws.{greatest-passes, least-le}
 use Rattle.numbers.proofs.BoolLaws.{and-left}
 use Rattle.checks.specs.Refusals.{first_refusal}
-use Rattle.checks.proofs.RefusalLaws.{first_refusal-some, first_refusal-le, first_refusal-ge, inside, unless_refused-by, unless_refused-number}
+use Rattle.checks.proofs.RefusalLaws.{first_refusal-some, first_refusal-le, first_refusal-ge, inside}
+use Rattle.checks.specs.Numbers.{in_order, refusal_of, refusal_number}
+use Rattle.checks.proofs.NumberLaws.{refusal_number-ok_unless, ok_unless-by}
 use Rattle.curve.specs.declared.Curve.{Curve}
 use Rattle.curve.specs.Kinds.{most_lanes}
 use Rattle.curve.specs.Service.{density, meets_limit, density_limit, performance}
@@ -34,10 +38,9 @@ use Rattle.method.specs.Assess.{measures}
 use Rattle.method.proofs.RefusalLaws.{refusals-fields, accepted-fields, refusal-le}
 use Rattle.method.proofs.CheckedLaws.{case_curve-well_formed, case_curve-sized}
 use Rattle.method.proofs.FlowLaws.{case_load-fits}
-use Rattle.answer.specs.declared.lanes.LanesAnswer.TheVariants as LanesAnswer
 use Rattle.answer.specs.Volumes.{service_volume}
 use Rattle.answer.specs.Answers.{graded}
-use Rattle.answer.specs.Lanes.{lanes_meet, lanes_found, lanes_refusals, lanes_answer, refusal_number, values}
+use Rattle.answer.specs.Lanes.{lanes_meet, lanes_found, lanes_refusals, lanes_answer, values}
 use Rattle.answer.specs.Search.{demand_meets}
 use Rattle.answer.specs.Laws.{FiguresWithinEnds, RefusalsWithinEnds, RefusalsReachEnds, LanesRefusalsInOrder}
 use Rattle.answer.specs.Laws.{LanesRefusedAsTheCase, CountsAreDigits}
@@ -46,28 +49,28 @@ use Rattle.answer.proofs.AnswerLaws.{answer_to-accepted, answer_to-number}
 
 -- ---- figures
 -- what keeps to a capacity of at most 240,000 is at most 19,200 vehicles, each at least a passenger car, on at most 8 lanes
-demand_meets-le : (curve : Curve) (load : Load) (limit demand : ℕ) → curve.capacity ≤ 240000 → LoadFits load
-    → T (demand_meets curve load limit demand) → demand ≤ 19200
+demand_meets-le : (case : Case) (limit demand : ℕ) → Accepted case → T (demand_meets case limit demand) → demand ≤ 19200
 unfolding demand_meets meets_limit flow_rate_of
-demand_meets-le curve load limit demand c fits t =
+demand_meets-le case limit demand a t =
+    let curve : Curve = case_curve case in
+    let load : Load = load_of case case.lanes in
+    let fits : LoadFits load = case_load-fits case (accepted-fields case a) in
     let v : ℕ = flow_rate_of load demand in
     let within : 100 * flow_rate_of load demand ≤ curve.capacity =
     leb→le (100 * v) curve.capacity (and-left (leb (100 * v) curve.capacity) (leb (density curve v) limit) t) in
     let cars : demand * load.heavy_factor ≤ flow_rate_of load demand * load.divisor =
     le-div_up (demand * load.heavy_factor) load.divisor fits.divisor-pos in
+    let high : curve.capacity ≤ 240000 = (case_curve-sized case a).capacity-le in
     let most : flow_rate_of load demand * load.divisor ≤ 2400 * 8000 = mul-le-mul {n₂ = 2400} {m₂ = 8000} (omega arith) fits.divisor-le in
     let least : demand * 1000 ≤ demand * load.heavy_factor = mul-le-mul_left demand fits.heavy-ge in
     omega arith
 
 pub service_volume-le : (case : Case) (n : ℕ) → Accepted case → 1 ≤ n → n ≤ 5 → service_volume case n ≤ 19200
 service_volume-le case n a h k =
-    let fits : LoadFits (load_of case case.lanes) = case_load-fits case (accepted-fields case a) in
-    let load : Load = load_of case case.lanes in
+    let test : ℕ → Bool = demand_meets case (density_limit n) in
     rw (service_volume-eq case n a h k)
-    (demand_meets-le (case_curve case) load (density_limit n) (greatest (demand_meets (case_curve case) load (density_limit n)) greatest_demand)
-    (case_curve-sized case a).capacity-le fits
-    (greatest-passes (demand_meets (case_curve case) load (density_limit n)) greatest_demand
-    (demand_meets-zero (case_curve case) load (density_limit n) (case_curve-well_formed case a) fits.divisor-pos)))
+    (demand_meets-le case (density_limit n) (greatest test greatest_demand) a
+    (greatest-passes test greatest_demand (demand_meets-zero case (density_limit n) a)))
 
 -- H is at least 250, and there are at least 2 lanes
 flow_rate_of-le : (case : Case) → Accepted case → case_flow_rate case ≤ 6 * greatest_demand
@@ -117,20 +120,22 @@ figures-within-ends case a =
     )
 
 -- ---- refusals and counts
+lanes_refusals-le : (case : Case) (n : ℕ) → first_refusal (lanes_refusals case n) ≤ 19
+unfolding road_refusals load_refusals field_refusals lanes_refusals
+lanes_refusals-le case n = first_refusal-le 19 (lanes_refusals case n) tt
+
 pub lanes_answer-number : (case : Case) (n : ℕ) → refusal_number (lanes_answer case n) ≡ first_refusal (lanes_refusals case n)
 lanes_answer-number case n =
-    unless_refused-number (first_refusal (lanes_refusals case n))
-    (LanesAnswer.Lanes (lanes_found case n)) LanesAnswer.Refused refusal_number refl (λ k. refl)
+    refusal_number-ok_unless (first_refusal (lanes_refusals case n)) (lanes_found case n) (le_trans (lanes_refusals-le case n) (lit≤ tt))
 
 pub refusals-within-ends : RefusalsWithinEnds
-unfolding road_refusals load_refusals field_refusals lanes_refusals
 refusals-within-ends case n = (
   omega (arith, answer_to-number case, refusal-le case),
-  omega (arith, lanes_answer-number case n, first_refusal-le 19 (lanes_refusals case n) tt),
+  omega (arith, lanes_answer-number case n, lanes_refusals-le case n),
 )
 
 pub refusals-reach-ends : RefusalsReachEnds
-unfolding weather_unfit road_refusals load_refusals field_refusals refusals lanes_refusals
+unfolding in_order refusal_of weather_unfit road_refusals load_refusals field_refusals refusals lanes_refusals
 refusals-reach-ends = (refl, refl)
 
 pub lanes-refusals-in-order : LanesRefusalsInOrder
@@ -162,7 +167,7 @@ lanes-refused-as-the-case case n h k some not_ten =
 pub counts-are-digits : CountsAreDigits
 unfolding lanes_found
 counts-are-digits case n count e =
-    unless_refused-by (first_refusal (lanes_refusals case n)) (LanesAnswer.Lanes (lanes_found case n)) LanesAnswer.Refused
+    ok_unless-by (first_refusal (lanes_refusals case n)) (lanes_found case n)
     (λ a. values a ≡ count ∷ [] → count ≤ 9)
     (λ z l. omega (
       arith,
@@ -173,5 +178,5 @@ counts-are-digits case n count e =
     (λ p l. absurd (omega (arith, ap length l)))
     e
 
-pub found-digit : (case : Case) (n count : ℕ) → lanes_answer case n ≡ LanesAnswer.Lanes count → count ≤ 9
+pub found-digit : (case : Case) (n count : ℕ) → lanes_answer case n ≡ Ok count → count ≤ 9
 found-digit case n count e = counts-are-digits case n count (ap values e)

@@ -14,6 +14,9 @@ use native.Mathlib.Omega.{arith}
 use native.Mathlib.Decide.{dec_le}
 use lib.Dec.{T}
 use lib.ListN.{length, get_or}
+use Rattle.std.proofs.Common.{Ok, Err}
+use Rattle.checks.specs.declared.Refusal.{Refusal}
+use Rattle.checks.specs.Numbers.{refusal_number}
 use Rattle.curve.specs.Kinds.{most_lanes}
 use Rattle.curve.specs.Curves.{curve_at}
 use Rattle.curve.specs.Weather.{clear}
@@ -33,11 +36,9 @@ use Rattle.method.specs.Assess.{measures}
 use Rattle.method.proofs.RefusalLaws.{accepted-fields, accepted-speed}
 use Rattle.method.proofs.CheckedLaws.{case_curve-well_formed}
 use Rattle.method.proofs.FlowLaws.{case_flow_rate-mono}
-use Rattle.answer.specs.declared.evaluate.Answer.TheVariants as Answer
-use Rattle.answer.specs.declared.lanes.LanesAnswer.TheVariants as LanesAnswer
 use Rattle.answer.specs.Volumes.{meets, service_volume}
 use Rattle.answer.specs.Answers.{graded, answer_to}
-use Rattle.answer.specs.Lanes.{lanes_found, lanes_answer, refusal_number, values}
+use Rattle.answer.specs.Lanes.{lanes_found, lanes_answer, values}
 use Rattle.answer.specs.Promises.{letter_in, volume_in, Meets, AcceptedCount, hardness, NoBetterUnderMoreLoad}
 use Rattle.answer.specs.Promises.{NoBetterInClearWeather, MeetsUpToTheServiceVolume, LeastAcceptedCount, DemandThree}
 use Rattle.answer.proofs.VolumeLaws.{meets-only-accepted, service_volume-iff}
@@ -105,7 +106,7 @@ pub volume_in-accepted : (case : Case) (n : ℕ) → Accepted case → 1 ≤ n �
 unfolding graded
 volume_in-accepted case n a h k = ap (λ answer. volume_in answer n) (answer_to-accepted case a) ∙ by n h k
   where
-    by : (n : ℕ) → 1 ≤ n → n ≤ 5 → volume_in (Answer.Graded (graded case)) n ≡ service_volume case n
+    by : (n : ℕ) → 1 ≤ n → n ≤ 5 → volume_in (Ok (graded case)) n ≡ service_volume case n
     by zero h k = absurd (omega arith)
     by (suc zero) h k = refl
     by (suc (suc zero)) h k = refl
@@ -151,10 +152,10 @@ module _ (case : Case) (n : ℕ) (h : 1 ≤ n) (k : n ≤ 5) (z : FieldsFit case
       (λ fewer f t. least.2 fewer (counted case n fewer t) f ((Meets-iff (with_lanes case fewer) n).1 t))
 
   -- what is answered: a count, or 14
-  found : lanes_found case n ≤ most_lanes case.road.kind → lanes_answer case n ≡ LanesAnswer.Lanes (lanes_found case n)
+  found : lanes_found case n ≤ most_lanes case.road.kind → lanes_answer case n ≡ Ok (lanes_found case n)
   found l = lanes_answer-found case n h k z l
 
-  none : (lanes_found case n ≤ most_lanes case.road.kind → ⊥) → lanes_answer case n ≡ LanesAnswer.Refused 14
+  none : (lanes_found case n ≤ most_lanes case.road.kind → ⊥) → lanes_answer case n ≡ Err Refusal.NoLaneCount
   none l = lanes_answer-none case n h k z (omega arith)
 
   answers : (count : ℕ) → (values (lanes_answer case n) ≡ count ∷ []) ↔ Least count

@@ -21,6 +21,7 @@ use Rattle.checks.specs.Figures.{Figure, figure}
 use Rattle.method.specs.Boundary.{example, given, two_lanes_under, refused_by_all}
 use Rattle.road.specs.Cases.{road, loaded, with_demand, with_lanes, with_weather}
 use Rattle.answer.specs.Answers as answers
+use Rattle.checks.specs.Numbers.{refusal_number}
 use Rattle.answer.specs.Answers.{answer_to}
 use Rattle.answer.specs.Lanes as lanes
 use Rattle.answer.specs.Lanes.{lanes_answer}
@@ -41,10 +42,10 @@ abbrev pub refused_by19 : Case
 refused_by19 = two_lanes_under (factors 499 1000) (given Kind.Freeway 75000 120) 0
 
 abbrev pub answered : Case → List ℕ
-answered case = answers.refusal_number (answer_to case) ∷ answers.values (answer_to case)
+answered case = refusal_number (answer_to case) ∷ answers.values (answer_to case)
 
 abbrev pub counted : Case → ℕ → List ℕ
-counted case n = lanes.refusal_number (lanes_answer case n) ∷ lanes.values (lanes_answer case n)
+counted case n = refusal_number (lanes_answer case n) ∷ lanes.values (lanes_answer case n)
 
 -- Of what is accepted 0 and its values, of what is refused its number. Starred: the printed line. Not starred: the lanes question at the
 -- printed case with letter C, with V = 2,643 and with 99,999; a letter number past E; a case that 10 refuses, and its lanes; answers in

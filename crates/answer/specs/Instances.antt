@@ -25,7 +25,8 @@ use Rattle.road.specs.declared.Terrain.TheVariants as Terrain
 use Rattle.road.specs.declared.Case.{Case}
 use Rattle.method.specs.Boundary.{example, given, two_lanes}
 use Rattle.road.specs.Cases.{loaded, with_lanes, with_weather}
-use Rattle.answer.specs.Answers.{answer_to, refusal_number}
+use Rattle.checks.specs.Numbers.{refusal_number}
+use Rattle.answer.specs.Answers.{answer_to}
 use Rattle.answer.specs.Lanes.{lanes_answer, values}
 use Rattle.answer.specs.Promises.{letter_in, Meets, AcceptedCount}
 use Rattle.answer.specs.Boundary.{example_with, example_in_snow, estimated, given_in_snow}

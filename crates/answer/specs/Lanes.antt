@@ -2,17 +2,17 @@
 --   lanes_meet case n lanes  the case with this lane count meets letter number n
 --   lanes_found case n       the least lane count with which the case meets letter number n; one more than the kind's most where none does
 --   lanes_refusals case n    what refuses the question, in its order: 16, 1 to 9, 19, 14
---   lanes_answer case n      the count, or the refusal's number
---   refusal_number a         the number of the refusal, 0 where there is none
+--   lanes_answer case n      the count, or the refusal
 --   values a                 the count; of a refusal no value
 -- Assumes nothing.
-use Rattle.std.specs.Prelude.{ℕ, suc, Bool, List, [], ◌∷◌, ◌++◌, ltb}
+use Rattle.std.specs.Prelude.{ℕ, suc, Bool, List, [], ◌∷◌, ◌++◌, ltb, Result, Ok, Err}
 use Rattle.numbers.specs.Search.{least}
 use Rattle.road.specs.declared.Case.{Case}
 use Rattle.curve.specs.Kinds.{most_lanes}
-use Rattle.checks.specs.Refusals.{Refusal, refuses, first_refusal, unless_refused, outside}
+use Rattle.checks.specs.declared.Refusal.{Refusal}
+use Rattle.checks.specs.Refusals.{Refusal as Condition, refuses, first_refusal, outside}
+use Rattle.checks.specs.Numbers.{ok_unless}
 use Rattle.road.specs.Refusals.{field_refusals}
-use Rattle.answer.specs.declared.lanes.LanesAnswer.{LanesAnswer}
 use Rattle.road.specs.Cases.{with_lanes}
 use Rattle.answer.specs.Volumes.{meets}
 
@@ -26,18 +26,14 @@ lanes_found case n = least (lanes_meet case n) (suc (most_lanes case.road.kind))
 
 -- "16 letter number not 1 to 5 (A is 1), after 15 and before 1", "It checks 1 to 9, not 10", "19 .. after 9, in the lanes question too",
 -- "14 no lane count meets the letter"
-unfoldable pub lanes_refusals : Case → ℕ → List Refusal
+unfoldable pub lanes_refusals : Case → ℕ → List Condition
 lanes_refusals case n =
     refuses 16 (outside 1 5 n)
     ∷ (field_refusals case ++ (refuses 14 (ltb (most_lanes case.road.kind) (lanes_found case n)) ∷ []))
 
-abbrev pub lanes_answer : Case → ℕ → LanesAnswer
-lanes_answer case n = unless_refused (first_refusal (lanes_refusals case n)) (LanesAnswer.Lanes (lanes_found case n)) LanesAnswer.Refused
+abbrev pub lanes_answer : Case → ℕ → Result ℕ Refusal
+lanes_answer case n = ok_unless (first_refusal (lanes_refusals case n)) (lanes_found case n)
 
-abbrev pub refusal_number : LanesAnswer → ℕ
-refusal_number (LanesAnswer.Lanes n) = 0
-refusal_number (LanesAnswer.Refused n) = n
-
-abbrev pub values : LanesAnswer → List ℕ
-values (LanesAnswer.Lanes n) = n ∷ []
-values (LanesAnswer.Refused n) = []
+abbrev pub values : Result ℕ Refusal → List ℕ
+values (Ok n) = n ∷ []
+values (Err r) = []

@@ -14,6 +14,7 @@ use Rattle.road.specs.declared.Case.{Case}
 use Rattle.road.specs.Refusals.{greatest_demand}
 use Rattle.method.specs.Refusals.{Accepted}
 use Rattle.answer.specs.Answers as answers
+use Rattle.checks.specs.Numbers.{refusal_number}
 use Rattle.answer.specs.Answers.{answer_to}
 use Rattle.answer.specs.Lanes as lanes
 use Rattle.answer.specs.Lanes.{lanes_refusals, lanes_answer}
@@ -34,11 +35,11 @@ last_refusal = 19
 abbrev pub RefusalsWithinEnds : Type 0
 RefusalsWithinEnds =
     (case : Case) (n : ℕ)
-    → (answers.refusal_number (answer_to case) ≤ last_refusal) × (lanes.refusal_number (lanes_answer case n) ≤ last_refusal)
+    → (refusal_number (answer_to case) ≤ last_refusal) × (refusal_number (lanes_answer case n) ≤ last_refusal)
 
 abbrev pub RefusalsReachEnds : Type 0
 RefusalsReachEnds =
-    (answers.refusal_number (answer_to refused_by19) ≡ last_refusal) × (lanes.refusal_number (lanes_answer refused_by19 1) ≡ last_refusal)
+    (refusal_number (answer_to refused_by19) ≡ last_refusal) × (refusal_number (lanes_answer refused_by19 1) ≡ last_refusal)
 
 abbrev pub LanesRefusalsInOrder : Type 0
 LanesRefusalsInOrder =
@@ -49,8 +50,8 @@ LanesRefusalsInOrder =
 abbrev pub LanesRefusedAsTheCase : Type 0
 LanesRefusedAsTheCase =
     (case : Case) (n : ℕ) → 1 ≤ n → n ≤ 5
-    → let number = answers.refusal_number (answer_to case) in
-    (number ≡ 0 → ⊥) → (number ≡ 10 → ⊥) → lanes.refusal_number (lanes_answer case n) ≡ number
+    → let number = refusal_number (answer_to case) in
+    (number ≡ 0 → ⊥) → (number ≡ 10 → ⊥) → refusal_number (lanes_answer case n) ≡ number
 
 abbrev pub CountsAreDigits : Type 0
 CountsAreDigits = (case : Case) (n count : ℕ) → lanes.values (lanes_answer case n) ≡ count ∷ [] → count ≤ 9

@@ -12,7 +12,7 @@
 --   LeastAcceptedCount              part 3
 --   DemandThree                     the three together
 -- Assumes nothing.
-use Rattle.std.specs.Prelude.{◌≡◌, ◌↔◌, ◌⊎◌, [], ◌∷◌, ℕ, ◌+◌, ◌≤◌, ◌<◌, get_or}
+use Rattle.std.specs.Prelude.{◌≡◌, ◌↔◌, ◌⊎◌, [], ◌∷◌, ℕ, ◌+◌, ◌≤◌, ◌<◌, get_or, Result}
 use Rattle.road.specs.declared.Way.TheVariants as Way
 use Rattle.road.specs.declared.Terrain.{Terrain}
 use Rattle.road.specs.declared.Case.{Case}
@@ -20,23 +20,25 @@ use Rattle.curve.specs.Kinds.{fewest_lanes, most_lanes}
 use Rattle.curve.specs.Weather.{clear}
 use Rattle.road.specs.Refusals.{greatest_demand, FieldsFit}
 use Rattle.method.specs.Refusals.{Accepted}
-use Rattle.answer.specs.declared.evaluate.Answer.{Answer}
+use Rattle.checks.specs.declared.Refusal.{Refusal}
+use Rattle.answer.specs.declared.evaluate.Grade.{Grade}
 use Rattle.road.specs.Cases.{with_demand, with_lanes, SameRoad}
 use Rattle.answer.specs.Answers as answers
+use Rattle.checks.specs.Numbers.{refusal_number}
 use Rattle.answer.specs.Answers.{answer_to}
 use Rattle.answer.specs.Lanes as lanes
 use Rattle.answer.specs.Lanes.{lanes_answer}
 
 -- of the eleven figures of an answer the first is the letter, and the last five are the service volumes A to E
-abbrev pub letter_in : Answer → ℕ
+abbrev pub letter_in : Result Grade Refusal → ℕ
 letter_in answer = get_or (answers.values answer) 0 0
 
-abbrev pub volume_in : Answer → ℕ → ℕ
+abbrev pub volume_in : Result Grade Refusal → ℕ → ℕ
 volume_in answer n = get_or (answers.values answer) (5 + n) 0
 
 -- "meets it, that is, gets it or a better one"
 abbrev pub Meets : Case → ℕ → Type 0
-Meets case n = (answers.refusal_number (answer_to case) ≡ 0) × (letter_in (answer_to case) ≤ n)
+Meets case n = (refusal_number (answer_to case) ≡ 0) × (letter_in (answer_to case) ≤ n)
 
 -- "A lane count is accepted when it is one of the kind's and the case with that count, all other fields kept, is accepted"
 abbrev pub AcceptedCount : Case → ℕ → Type 0
@@ -89,7 +91,7 @@ LeastAcceptedCount =
     ↔ (AcceptedCount case count
     × Meets (with_lanes case count) n
     × ((fewer : ℕ) → AcceptedCount case fewer → fewer < count → Meets (with_lanes case fewer) n → ⊥)))
-    × ((lanes.refusal_number (lanes_answer case n) ≡ 14)
+    × ((refusal_number (lanes_answer case n) ≡ 14)
     ↔ ((count : ℕ) → AcceptedCount case count → Meets (with_lanes case count) n → ⊥))
 
 abbrev pub DemandThree : Type 0

@@ -3,6 +3,8 @@
 --   refusal_of-number               the refusal of a refusal's number is that refusal
 --   number-refusal_of               the number of the refusal of a number from 1 to 22 is that number
 --   ok_unless-ok, ok_unless-err   the answer by its number, as code hands it back
+--   ok_unless-none, ok_unless-some   the same by the number alone
+--   ok_unless-by                  what holds of the value and of the refusal holds of it
 --   ok_unless-found               a value is the answer's own, and its number 0
 --   ok_unless-above               a refusal's number is not 0
 --   ok_unless-refused             a refusal is that of any answer with the same number
@@ -76,9 +78,20 @@ ok_unless-ok n a b z e = rw z (rw e refl)
 pub ok_unless-err : {A : Type 0} (r : Refusal) (n : ℕ) (b : A) → number r ≡ n → ◌≡◌ {A = Result A Refusal} (Err r) (ok_unless n b)
 ok_unless-err r n b e = rw (sym e) (rw (ne_eqb (number r) 0 (λ z. omega (arith, number-above r))) (rw (refusal_of-number r) refl))
 
+pub ok_unless-none : {A : Type 0} (n : ℕ) (a : A) → n ≡ 0 → ok_unless n a ≡ Ok a
+ok_unless-none n a z = rw z refl
+
+pub ok_unless-some : {A : Type 0} (n : ℕ) (a : A) → 0 < n → ok_unless n a ≡ Err (refusal_of n)
+ok_unless-some n a p = rw (ne_eqb n 0 (λ z. omega (arith, p))) refl
+
 pub refusal_number-ok_unless : {A : Type 0} (n : ℕ) (a : A) → n ≤ 22 → refusal_number {A = A} (ok_unless n a) ≡ n
 refusal_number-ok_unless n a le =
     ⊎_elim (λ z. rw z refl) (λ p. rw (ne_eqb n 0 (λ z. omega (arith, p))) (number-refusal_of n p le)) (eq-zero-or-pos n)
+
+pub ok_unless-by : {A : Type 0} (n : ℕ) (a : A) (P : Result A Refusal → Type 0) → (n ≡ 0 → P (Ok a)) → (0 < n → P (Err (refusal_of n)))
+    → P (ok_unless n a)
+ok_unless-by n a P none some =
+    ⊎_elim (λ z. rw (ok_unless-none n a z) (none z)) (λ p. rw (ok_unless-some n a p) (some p)) (eq-zero-or-pos n)
 
 -- what such an answer tells of the number, and of another with the same number
 ok-by : {A : Type 0} (n : ℕ) (a b : A) (t : Bool) → eqb n 0 ≡ t → ◌≡◌ {A = Result A Refusal} (cond t (Ok a) (Err (refusal_of n))) (Ok b)

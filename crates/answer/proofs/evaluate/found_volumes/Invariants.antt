@@ -4,8 +4,5 @@
 use Rattle.answer.proofs.TriesLaws.{Done}
 use Rattle.answer.proofs.evaluate.found_volumes.Given as goal
 
-abbrev pub invariant-loop-letter : goal.invariant-loop-letter
-invariant-loop-letter l = Done l.terms l.volumes l.end l.tries l.letter
-
-abbrev pub decreases-loop-letter : goal.decreases-loop-letter
-decreases-loop-letter l = l.letter
+abbrev pub invariant-loop-place : goal.invariant-loop-place
+invariant-loop-place l = Done l.accepted.case l.volumes l.end l.tries l.place

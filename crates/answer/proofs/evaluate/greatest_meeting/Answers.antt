@@ -1,31 +1,19 @@
 -- `answer::evaluate::greatest_meeting` meets its contract: the halving keeps a demand that passes below one that fails or is past the
 -- end, until they are neighbours, and counts what it tries.
 -- Assumes nothing.
-use mathlib.Core.Path.{sym, ◌∙◌}
-use native.Mathlib.Omega.{arith}
+use Rattle.std.proofs.Common.{sym, ◌∙◌, arith}
 use Rattle.numbers.specs.Halving.{middle}
 use Rattle.numbers.proofs.HalvingLaws.{halved-start, halved-passes, halved-fails, halved-done}
 use Rattle.answer.proofs.VolumeLaws.{demand_meets-zero, demand_meets-down}
 use Rattle.answer.proofs.evaluate.greatest_meeting.Goals as goal
 
-pub overflow_add-high : goal.overflow_add-high
-overflow_add-high c =
-    omega (arith, c.requires.demand-le)
-
 pub loop-high-init : goal.loop-high-init
 loop-high-init c =
-    halved-start _ c.args.end
-    (demand_meets-zero c.args.terms.curve c.args.load c.args.limit c.requires.ready.prepared.well-formed
-    c.requires.load-fits.divisor-pos)
+    let own = c.args.accepted.now in halved-start _ c.args.end (demand_meets-zero own.case c.args.limit own.accepted)
 
 pub overflow_add-tries : goal.overflow_add-tries
 overflow_add-tries c =
-    omega (arith, c.loop-high.invariant.near, c.requires.demand-le)
-
-pub demand_meets-requires : goal.demand_meets-requires
-demand_meets-requires c =
-    let p = c.requires in
-    record { ready = p.ready; load-fits = p.load-fits; limit-le = p.limit-le; demand-le = omega (arith, p.demand-le) }
+    omega (arith, c.loop-high.invariant.near, c.requires.end_high)
 
 pub loop-high-preserved-then-demand_meets : goal.loop-high-preserved-then-demand_meets
 unfolding middle
@@ -41,8 +29,6 @@ loop-high-preserved c =
 
 pub returns : goal.returns
 returns c =
-    let found = halved-done _ _ _ _ _ c.loop-high.invariant
-    (demand_meets-down c.args.terms.curve c.args.load c.args.limit c.requires.ready.prepared.well-formed
-    c.requires.load-fits.divisor-pos)
-    (omega arith) in
+    let own = c.args.accepted.now in
+    let found = halved-done _ _ _ _ _ c.loop-high.invariant (demand_meets-down own.case c.args.limit own.accepted) (omega arith) in
     simp (found.0, found.1)

@@ -1,54 +1,67 @@
 -- `answer::lanes::lanes_needed` meets its contract: 16 first, then 1 to 9 and 19, then the count or 14.
 -- Assumes nothing.
-use mathlib.Core.Path.{sym, ap, ◌∙◌}
-use native.Mathlib.Omega.{arith}
-use Rattle.checks.proofs.RefusalLaws.{within}
-use Rattle.answer.specs.declared.lanes.LanesAnswer.TheVariants as LanesAnswer
-use Rattle.answer.proofs.LanesLaws.{lanes_answer-letter, lanes_answer-fields, lanes_answer-none, lanes_answer-found}
+use Rattle.std.proofs.Common.{ap, Ok, T, ◌+◌, ◌<◌, sym, ◌∙◌, ℕ, ◌≤◌, rules, arith}
+use Rattle.std.proofs.lemmas.Result.{err_from_is_err_and}
+use borrow.Author.Count.{below_more}
+use Rattle.numbers.proofs.BoolLaws.{T-true, T-false}
+use Rattle.checks.specs.declared.Refusal.{Refusal}
+use Rattle.checks.proofs.NumberLaws.{ok_unless-err}
+use Rattle.curve.specs.Kinds.{most_lanes}
+use Rattle.road.specs.Cases.{with_lanes}
+use Rattle.road.proofs.RefusalLaws.{fields-with_lanes}
+use Rattle.answer.specs.Lanes.{lanes_meet, lanes_found}
+use Rattle.answer.proofs.LanesLaws.{meets-of-kind, lanes_found-eq, lanes_found-none, lanes_number, lanes-letter, lanes-fields, lanes_answer-none}
+use Rattle.answer.proofs.LanesLaws.{lanes_answer-found}
 use Rattle.answer.proofs.lanes.lanes_needed.Goals as goal
 
-pub returns-then-outside : goal.returns-then-outside
-returns-then-outside c =
+pub returns-then-not-contains : goal.returns-then-not-contains
+returns-then-not-contains c =
     let a = c.args in
-    sym (lanes_answer-letter a.case a.letter (sym c.outside.ensures ∙ c.if-outside.true))
+    ok_unless-err Refusal.LetterUnknown (lanes_number a.case a.letter) (lanes_found a.case a.letter) (lanes-letter a.case a.letter (search rules))
 
-pub returns-then-number-gt0 : goal.returns-then-number-gt0
-returns-then-number-gt0 c =
+pub returns-in_err-check_fields : goal.returns-in_err-check_fields
+returns-in_err-check_fields c =
     let a = c.args in
-    let ends = within 1 5 a.letter (sym c.outside.ensures ∙ c.if-outside.false) in
-    let number = c.field_refusal-number.ensures in
-    ap LanesAnswer.Refused number ∙ sym
-    (lanes_answer-fields a.case a.letter ends.0 ends.1 (omega (arith, number, c.if-number-gt0.true)))
+    let refused = c.in_err-check_fields.field-0.0 in
+    let p = err_from_is_err_and c.from_residual.result c.from_residual.ensures.1 in
+    rw (p.1, p.2)
+    (ok_unless-err refused (lanes_number a.case a.letter) (lanes_found a.case a.letter)
+    (lanes-fields a.case a.letter (search rules) (search rules) refused c.in_err-check_fields.ensures))
 
-pub lanes_found-found-requires : goal.lanes_found-found-requires
-lanes_found-found-requires c =
+pub loop-lanes-init : goal.loop-lanes-init
+loop-lanes-init c =
     let a = c.args in
-    let ends = within 1 5 a.letter (sym c.outside.ensures ∙ c.if-outside.false) in
+    let low = c.fewest_lanes-lanes.ensures in
+    (omega (arith, low), λ k h t. absurd (omega (arith, low, meets-of-kind (with_lanes a.case k) a.letter t)))
+
+pub lanes_meet-requires : goal.lanes_meet-requires
+lanes_meet-requires c =
+    let l = c.loop-lanes in
     record {
-      fields = omega (arith, c.field_refusal-number.ensures, c.if-number-gt0.false);
-      letter-low = ends.0;
-      letter-high = ends.1;
+      fields = fields-with_lanes c.args.case l.lanes (sym c.in_ok-check_fields.ensures) l.invariant.0
+          (omega (arith, c.loop-lanes-test.true, c.most_lanes-lanes-end.ensures));
+      letter-low = search rules;
+      letter-high = search rules;
     }
 
-pub returns-then-most_lanes-found : goal.returns-then-most_lanes-found
-returns-then-most_lanes-found c =
+pub returns-then-lanes_meet : goal.returns-then-lanes_meet
+returns-then-lanes_meet c =
     let a = c.args in
-    let ends = within 1 5 a.letter
-    (sym c.outside.ensures
-    ∙ c.if-outside.false) in
-    sym
-    (lanes_answer-none a.case a.letter ends.0 ends.1
-    (omega (arith, c.field_refusal-number.ensures, c.if-number-gt0.false))
-    (omega (arith, c.lanes_found-found.ensures, c.most_lanes.ensures, c.if-most_lanes-found.true)))
+    let l = c.loop-lanes in
+    let within : l.lanes ≤ most_lanes a.case.road.kind = omega (arith, c.loop-lanes-test.true, c.most_lanes-lanes-end.ensures) in
+    let own = lanes_found-eq a.case a.letter l.lanes within (T-true _ (sym c.lanes_meet.ensures ∙ c.if-lanes_meet.true)) l.invariant.1 in
+    sym (lanes_answer-found a.case a.letter (search rules) (search rules) (sym c.in_ok-check_fields.ensures) (omega (arith, own, within)) ∙ ap Ok own)
 
-pub returns : goal.returns
-returns c =
+pub loop-lanes-preserved : goal.loop-lanes-preserved
+loop-lanes-preserved c =
+    let inv = c.loop-lanes.invariant in
+    (omega (arith, inv.0), below_more _ _ inv.1 (T-false _ (sym c.lanes_meet.ensures ∙ c.if-lanes_meet.false)))
+
+pub returns-else-lanes_meet : goal.returns-else-lanes_meet
+returns-else-lanes_meet c =
     let a = c.args in
-    let ends = within 1 5 a.letter
-    (sym c.outside.ensures
-    ∙ c.if-outside.false) in
-    ap LanesAnswer.Lanes c.lanes_found-found.ensures
-    ∙ sym
-    (lanes_answer-found a.case a.letter ends.0 ends.1
-    (omega (arith, c.field_refusal-number.ensures, c.if-number-gt0.false))
-    (omega (arith, c.lanes_found-found.ensures, c.most_lanes.ensures, c.if-most_lanes-found.false)))
+    let l = c.loop-lanes in
+    let none : (k : ℕ) → k < l.lanes + 1 → T (lanes_meet a.case a.letter k) → ⊥ =
+    below_more _ _ l.invariant.1 (T-false _ (sym c.lanes_meet.ensures ∙ c.if-lanes_meet.false)) in
+    sym (lanes_answer-none a.case a.letter (search rules) (search rules) (sym c.in_ok-check_fields.ensures)
+    (omega (arith, lanes_found-none a.case a.letter (λ k h. none k (omega (arith, h, c.most_lanes-lanes-end.ensures))))))
