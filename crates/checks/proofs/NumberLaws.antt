@@ -114,3 +114,5 @@ first_refusal-err rs ss r e = e ∙ sym (first_refusal-some rs ss (rw (sym e) (n
 
 pub first_refusal-ok : (rs ss : List Condition) (n : ℕ) → T (numbered rs) → 0 ≡ first_refusal rs → n ≡ first_refusal ss → n ≡ first_refusal (rs ++ ss)
 first_refusal-ok rs ss n t z e = e ∙ sym (first_refusal-none rs ss t (sym z))
+
+pub ruleset in_turn = (first_refusal-err, first_refusal-ok)
