@@ -27,8 +27,10 @@
 --   result_of n vs          the value of an answer with number n and values vs, or minus the number
 --   survey_result a         what a survey call hands back
 -- Assumes nothing.
-use Rattle.std.specs.Prelude.{ℕ, ◌/◌, List, [], ◌∷◌, ◌++◌, ℤ, pos, neg_ℤ, ltb, length}
+use Rattle.std.specs.Prelude.{ℕ, ◌/◌, List, [], ◌∷◌, ◌++◌, ℤ, pos, neg_ℤ, ltb, length, Result}
+use Rattle.checks.specs.declared.Refusal as checks
 use Rattle.checks.specs.Refusals.{Refusal, refuses, first_refusal, unless_refused}
+use Rattle.checks.specs.Numbers.{refusal_number}
 use Rattle.text.specs.Bytes.{newline}
 use Rattle.text.specs.Decimal.{decimal}
 use Rattle.text.specs.Buffer.{written}
@@ -46,7 +48,6 @@ use Rattle.daily.specs.Daily.{daily_answer}
 use Rattle.forecast.specs.declared.Forecast.{Forecast}
 use Rattle.forecast.specs.Forecasts as forecasts
 use Rattle.forecast.specs.Forecasts.{forecast_answer}
-use Rattle.survey.specs.declared.SurveyAnswer.{SurveyAnswer}
 use Rattle.survey.specs.Survey as survey
 use Rattle.lines.specs.declared.read.LineRead.{LineRead}
 use Rattle.lines.specs.Reading.{read_line}
@@ -148,5 +149,5 @@ result_of number [] = neg_ℤ (pos number)
 result_of number (v ∷ vs) = pos v
 
 -- the speed, or minus the refusal number
-abbrev pub survey_result : SurveyAnswer → ℤ
-survey_result a = result_of (survey.refusal_number a) (survey.values a)
+abbrev pub survey_result : Result ℕ checks.Refusal → ℤ
+survey_result a = result_of (refusal_number a) (survey.values a)
