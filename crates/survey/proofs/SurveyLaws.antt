@@ -33,15 +33,15 @@ speed_refused-negative (suc n) = refl
 
 pub survey_answer-cars : (survey : Survey) → survey.cars < 100 → Err Refusal.CarsTooFew ≡ survey_answer survey
 unfolding survey_refusals
-survey_answer-cars survey h = simp (lt-ltb survey.cars 100 h) (ok_unless-err Refusal.CarsTooFew 11 _ refl)
+survey_answer-cars survey h = simp (lt-ltb survey.cars 100 h) (ok_unless-err Refusal.CarsTooFew 11 (thousandths_in (rounded_speed survey.speed)) refl)
 
 pub survey_answer-flow : (survey : Survey) → 100 ≤ survey.cars → 1000 ≤ survey.flow → Err Refusal.FlowTooLarge ≡ survey_answer survey
 unfolding survey_refusals
-survey_answer-flow survey c h = simp (le-ltb survey.cars 100 c, le-leb 1000 survey.flow h) (ok_unless-err Refusal.FlowTooLarge 12 _ refl)
+survey_answer-flow survey c h = simp (le-ltb survey.cars 100 c, le-leb 1000 survey.flow h) (ok_unless-err Refusal.FlowTooLarge 12 (thousandths_in (rounded_speed survey.speed)) refl)
 
 pub survey_answer-speed : (survey : Survey) → 100 ≤ survey.cars → survey.flow < 1000
     → speed_answer (rounded_speed survey.speed) ≡ survey_answer survey
-unfolding survey_refusals ok_unless
+unfolding survey_refusals
 survey_answer-speed survey c h =
     simp (le-ltb survey.cars 100 c, lt-leb 1000 survey.flow h) (by-test (speed_refused (rounded_speed survey.speed)))
   where
