@@ -10,18 +10,12 @@
 --   FiguresFit, figures-written, figures-refused   an answer in figures: so many, or a refusal
 --   count-length, count-written   the two bytes of a lane count
 -- Assumes nothing.
-use mathlib.Core.Path.{◌≡◌, refl, sym, ap, ◌∙◌}
-use mathlib.Core.List.{List, [], ◌∷◌}
-use Prim.Native.Nat.{ℕ, zero, suc, ◌+◌, ◌≤◌, ◌<◌}
-use native.Mathlib.Nat.{lt_of_le_of_lt}
-use native.Mathlib.Omega.{arith}
-use borrow.Author.Tests.{lt-ltb, le-ltb}
-use lib.Dec.{lit<}
-use lib.IntN.{ℤ, pos, neg_ℤ, ◌-ℤ◌, +ℤ_idl}
-use lib.ListN.{length, set}
-use mir.Syntax.{w32}
-use mir.Val.{to_z, of_z, SFits}
+use Rattle.std.proofs.Common.{◌≡◌, ℕ, zero, suc, ◌+◌, ◌≤◌, ◌<◌, Result, Ok, Err, List, [], ◌∷◌, length, set, ℤ, pos, neg_ℤ, ◌-ℤ◌}
+use Rattle.std.proofs.Common.{refl, sym, ap, ◌∙◌, arith, lt_of_le_of_lt, lt-ltb, le-ltb, lit<, w32, to_z, of_z, SFits}
+use lib.IntN.{+ℤ_idl}
 use mir.ValLaws.{to_z_pos, to_z-of_z}
+use Rattle.checks.specs.declared.Refusal as checks
+use Rattle.checks.specs.declared.Refusal.TheVariants.{LineMalformed}
 use Rattle.checks.specs.Refusals.{Refusal, first_refusal}
 use Rattle.checks.proofs.RefusalLaws.{unless_refused-none, unless_refused-some}
 use Rattle.text.specs.Bytes.{newline}
@@ -29,7 +23,6 @@ use Rattle.text.specs.Buffer.{written, Wrote}
 use Rattle.text.proofs.DigitLaws.{decimal-small}
 use Rattle.text.proofs.BufferLaws.{first-byte, then-byte}
 use Rattle.road.specs.declared.Case.{Case}
-use Rattle.lines.specs.declared.read.LineRead.{LineRead}
 use Rattle.lines.specs.Reading.{read_line}
 use Rattle.lines.proofs.ReadingLaws.{read_line-refused}
 use Rattle.marehour.specs.Calls.{Reply, writes, refusal, count_text, figures_reply, line_reply, line_call, buffer_refusals}
@@ -73,7 +66,7 @@ module _ (count : List ℕ → ℕ) where
   refused-reply z n r old h e k = (handed-back z n h e ∙ sym (ap (handed_back count) k), sym (ap (λ x. content x old) k))
 
   -- a call over a line that was read, whatever the reply to a case and what refuses the lent memory
-  module _ (reply : Case → Reply) (r : LineRead) (lent : List Refusal) (old : List ℕ) where
+  module _ (reply : Case → Reply) (r : Result Case checks.Refusal) (lent : List Refusal) (old : List ℕ) where
     pub call-lent : (z : ℤ) (n : ℕ) → n ≡ first_refusal lent → 0 < n → n ≤ 99 → z ≡ neg_ℤ (pos n)
         → Replied (to_z w32 (of_z w32 z)) old (line_call reply r lent) old
     call-lent z n k p h e =
@@ -84,18 +77,18 @@ module _ (count : List ℕ → ℕ) where
       read : line_call reply r lent ≡ line_reply reply r
       read = unless_refused-none (first_refusal lent) (line_reply reply r) refusal fits
 
-      pub call-refused : (z : ℤ) (n : ℕ) → n ≤ 99 → r ≡ LineRead.Refused n → z ≡ neg_ℤ (pos n)
+      pub call-refused : (z : ℤ) → r ≡ Err LineMalformed → z ≡ neg_ℤ (pos 15)
           → Replied (to_z w32 (of_z w32 z)) old (line_call reply r lent) old
-      call-refused z n k is e = refused-reply z n _ old k e (read ∙ ap (line_reply reply) is)
+      call-refused z is e = refused-reply z 15 _ old (omega arith) e (read ∙ ap (line_reply reply) is)
 
       -- the result and the lent memory are those that another function left
-      call-case : (z : ℤ) (case : Case) (new : List ℕ) → r ≡ LineRead.Case case → SFits w32 z
+      call-case : (z : ℤ) (case : Case) (new : List ℕ) → r ≡ Ok case → SFits w32 z
           → Replied z new (reply case) old → Replied (to_z w32 (of_z w32 z)) new (line_call reply r lent) old
       call-case z case new is f (e, k) =
           let same = read ∙ ap (line_reply reply) is in
           (to_z-of_z w32 z f ∙ e ∙ sym (ap (handed_back count) same), k ∙ sym (ap (λ x. content x old) same))
 
-      pub call-wrote : (n : ℕ) (case : Case) (ns new : List ℕ) → r ≡ LineRead.Case case → reply case ≡ writes ns → n ≡ count ns → n ≤ 90000
+      pub call-wrote : (n : ℕ) (case : Case) (ns new : List ℕ) → r ≡ Ok case → reply case ≡ writes ns → n ≡ count ns → n ≤ 90000
           → new ≡ written ns 0 old → Replied (to_z w32 n) new (line_call reply r lent) old
       call-wrote n case ns new is w k h e = wrote ns old new n (line_call reply r lent) k h e (read ∙ ap (line_reply reply) is ∙ w)
 
@@ -122,13 +115,12 @@ module _ (least : ℕ) (reply : Case → Reply) (line old : List ℕ) where
   call-short z h e = call-lent length reply (read_line line) lent old z 17 (buffer-short least (length old) h) (omega arith) (omega arith) e
 
   module _ (h : least ≤ length old) (z : ℤ) where
-    pub call-malformed : (n : ℕ) → read_line line ≡ LineRead.Refused n → z ≡ neg_ℤ (pos 15)
+    pub call-malformed : (r : checks.Refusal) → read_line line ≡ Err r → z ≡ neg_ℤ (pos 15)
         → Replied length (to_z w32 (of_z w32 z)) old (line_call reply (read_line line) lent) old
-    call-malformed n e k =
-        call-refused length reply (read_line line) lent old (buffer-fits least (length old) h) z 15 (omega arith)
-        (e ∙ ap LineRead.Refused (read_line-refused line n e)) k
+    call-malformed r e =
+        call-refused length reply (read_line line) lent old (buffer-fits least (length old) h) z (read_line-refused line r e)
 
-    pub call-read : (case : Case) (new : List ℕ) → read_line line ≡ LineRead.Case case → SFits w32 z
+    pub call-read : (case : Case) (new : List ℕ) → read_line line ≡ Ok case → SFits w32 z
         → Replied length z new (reply case) old → Replied length (to_z w32 (of_z w32 z)) new (line_call reply (read_line line) lent) old
     call-read case new = call-case length reply (read_line line) lent old (buffer-fits least (length old) h) z case new
 

@@ -2,14 +2,8 @@
 --   replies-within-ends, buffer-too-short, no-demand-is-refused, last-refusal-is-reached, day-hands-back, day-call-is-the-day,
 --   position-is-the-lines-answer, daily-hands-back, forecast-hands-back
 -- Assumes nothing.
-use mathlib.Core.List.{List}
-use mathlib.Core.Logic.{⊎_elim}
-use mathlib.Core.Path.{◌≡◌, refl, sym, ap, subst, ◌∙◌}
-use Prim.Native.Nat.{ℕ, ◌*◌, ◌≤◌, ◌<◌}
-use native.Mathlib.Nat.{eq-zero-or-pos, zero-add}
-use native.Mathlib.Omega.{arith}
-use lib.IntN.{pos, neg_ℤ}
-use lib.ListN.{length}
+use Rattle.std.proofs.Common.{◌≡◌, ℕ, ◌*◌, ◌≤◌, ◌<◌, Ok, List, length, pos, neg_ℤ, refl, sym, ap, subst, ◌∙◌, ⊎_elim, arith}
+use Rattle.std.proofs.Common.{eq-zero-or-pos, zero-add}
 use Rattle.checks.specs.Refusals.{Refusal, first_refusal}
 use Rattle.checks.proofs.RefusalLaws.{unless_refused-none, unless_refused-some, unless_refused-by, first_refusal-le}
 use Rattle.text.specs.Buffer.{written}
@@ -40,8 +34,7 @@ use Rattle.forecast.specs.Forecasts.{range_refusals, forecast_refusals, forecast
 use Rattle.forecast.proofs.ForecastLaws as forecast-laws
 use Rattle.forecast.proofs.ForecastLaws.{refused-values}
 use Rattle.forecast.proofs.Promises.{shown}
-use Rattle.lines.specs.declared.read.LineRead.TheVariants as LineRead
-use Rattle.lines.specs.Fields.{layout, completed, spelled, number, one_of, letter, field_as, values_of}
+use Rattle.lines.specs.Fields.{layout, completed, spelled, number, letter, field_as, values_of}
 use Rattle.lines.specs.Reading.{case_of, read_values, read_line}
 use Rattle.lines.proofs.ReadingLaws.{read_line-by, read_line-refused}
 use Rattle.replies.specs.Texts.{longest_answer}
@@ -142,7 +135,7 @@ unfolding lent_unfit lent_refusals
 no-demand-is-refused line room = refl
 
 pub last-refusal-is-reached : LastRefusalIsReached
-unfolding on_first parts layout completed spelled number one_of letter field_as values_of case_of read_values read_line weather_unfit road_refusals
+unfolding on_first parts layout completed spelled number letter field_as values_of case_of read_values read_line weather_unfit road_refusals
     load_refusals field_refusals refusals lanes_refusals buffer_refusals shares_unfit traffic_refusals range_refusals forecast_refusals
 last-refusal-is-reached = (refl, refl, refl, refl)
 
@@ -159,15 +152,14 @@ day-unfit line demands room p =
     unless_refused-some _ (line_reply (day_reply demands) (read_line line)) refusal_reply p
     ∙ ap refusal_reply (lent-number (length demands) room _ refl p)
 
-day-case : (line demands : List ℕ) (room : ℕ) (case : Case) → LentFits (length demands) room → read_line line ≡ LineRead.Case case
+day-case : (line demands : List ℕ) (room : ℕ) (case : Case) → LentFits (length demands) room → read_line line ≡ Ok case
     → day_call line demands room ≡ day_reply demands case
 day-case line demands room case z e = day-read line demands room z ∙ ap (line_reply (day_reply demands)) e
 
 pub day-hands-back : DayHandsBack
 day-hands-back line demands room = (
   λ unfit. ⊎_elim (λ z. absurd (unfit z)) (λ p. ap day_result (day-unfit line demands room p)) (eq-zero-or-pos _),
-  λ z n e. ap day_result
-      (day-read line demands room z ∙ ap (line_reply (day_reply demands)) (e ∙ ap LineRead.Refused (read_line-refused line n e))),
+  λ z r e. ap day_result (day-read line demands room z ∙ ap (line_reply (day_reply demands)) (read_line-refused line r e)),
   λ z case e. ap day_result (day-case line demands room case z e) ∙ ap pos (day_figures-count case demands),
 )
 
@@ -210,7 +202,7 @@ module _ (count last : ℕ) (h : 1 ≤ count) (number : Case → ℕ) (values : 
     λ short.
         let own = buffer-short count (length old) short in
         back (unless_refused-some _ on_line refusal_reply (omega (arith, own)) ∙ ap refusal_reply (sym own)),
-    λ room n e. back (read room ∙ ap (line_reply reply) (e ∙ ap LineRead.Refused (read_line-refused line n e))),
+    λ room r e. back (read room ∙ ap (line_reply reply) (read_line-refused line r e)),
     λ room case e. (
       λ n k p. back (read room ∙ ap (line_reply reply) e ∙ figures-refused _ _ ((fit case).none (omega (arith, k))) ∙ ap refusal_reply k),
       λ z.

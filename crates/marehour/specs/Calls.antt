@@ -27,10 +27,10 @@
 --   result_of n vs          the value of an answer with number n and values vs, or minus the number
 --   survey_result a         what a survey call hands back
 -- Assumes nothing.
-use Rattle.std.specs.Prelude.{ℕ, ◌/◌, List, [], ◌∷◌, ◌++◌, ℤ, pos, neg_ℤ, ltb, length, Result}
+use Rattle.std.specs.Prelude.{ℕ, ◌/◌, Result, Ok, Err, List, [], ◌∷◌, ◌++◌, ℤ, pos, neg_ℤ, ltb, length}
 use Rattle.checks.specs.declared.Refusal as checks
 use Rattle.checks.specs.Refusals.{Refusal, refuses, first_refusal, unless_refused}
-use Rattle.checks.specs.Numbers.{refusal_number}
+use Rattle.checks.specs.Numbers.{number, refusal_number}
 use Rattle.text.specs.Bytes.{newline}
 use Rattle.text.specs.Decimal.{decimal}
 use Rattle.text.specs.Buffer.{written}
@@ -49,7 +49,6 @@ use Rattle.forecast.specs.declared.Forecast.{Forecast}
 use Rattle.forecast.specs.Forecasts as forecasts
 use Rattle.forecast.specs.Forecasts.{forecast_answer}
 use Rattle.survey.specs.Survey as survey
-use Rattle.lines.specs.declared.read.LineRead.{LineRead}
 use Rattle.lines.specs.Reading.{read_line}
 use Rattle.replies.specs.Texts.{answer_text, longest_answer}
 
@@ -95,12 +94,12 @@ forecast_reply forecast case =
     let answer = forecast_answer case forecast in figures_reply (forecasts.refusal_number answer) (forecasts.values answer)
 
 -- "15 malformed line", before 16, 20 and 1
-abbrev pub line_reply : (Case → Reply) → LineRead → Reply
-line_reply reply (LineRead.Case case) = reply case
-line_reply reply (LineRead.Refused number) = refusal number
+abbrev pub line_reply : (Case → Reply) → Result Case checks.Refusal → Reply
+line_reply reply (Ok case) = reply case
+line_reply reply (Err r) = refusal (number r)
 
 -- what refuses the lent memory comes first of all
-abbrev pub line_call : (Case → Reply) → LineRead → List Refusal → Reply
+abbrev pub line_call : (Case → Reply) → Result Case checks.Refusal → List Refusal → Reply
 line_call reply r lent = unless_refused (first_refusal lent) (line_reply reply r) refusal
 
 -- "17 answer buffer under 64 bytes, first of all", and fewer numbers than there are figures

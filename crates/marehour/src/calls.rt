@@ -10,8 +10,8 @@ ghost use Rattle.marehour.specs.Calls.{case_reply, lanes_reply, answer_call, lan
 use answer::evaluate::Answer;
 use answer::lanes::LanesAnswer;
 use answer::{evaluate, lanes};
+use checks::Refusal;
 use lines::read;
-use lines::read::LineRead;
 use replies::write;
 use replies::write::LONGEST_ANSWER;
 use road::Case;
@@ -67,9 +67,8 @@ pub fn marehour_answer(line: &[u8], answer: &mut [u8]) -> i32
     if answer.len() < ANSWER_SIZE {
         return refused(BUFFER_TOO_SHORT);
     }
-    let reading = read::read_line(line);
-    let LineRead::Case(case) = reading else {
-        return refused(read::LINE_MALFORMED);
+    let Ok(case) = read::read_line(line) else {
+        return refused(Refusal::LineMalformed.number());
     };
     answer_case(case, answer)
 }
@@ -82,9 +81,8 @@ pub fn marehour_lanes(line: &[u8], letter: u32, answer: &mut [u8]) -> i32
     if answer.len() < ANSWER_SIZE {
         return refused(BUFFER_TOO_SHORT);
     }
-    let asked = read::read_line(line);
-    let LineRead::Case(case) = asked else {
-        return refused(read::LINE_MALFORMED);
+    let Ok(asked) = read::read_line(line) else {
+        return refused(Refusal::LineMalformed.number());
     };
-    lanes_case(case, letter as u64, answer)
+    lanes_case(asked, letter as u64, answer)
 }

@@ -5,9 +5,9 @@ ghost use Rattle.daily.specs.Daily.{shares_of, figure_count};
 ghost use Rattle.marehour.specs.Calls.{daily_reply, daily_call, call_result, content};
 
 use crate::calls::{BUFFER_TOO_SHORT, refused};
+use checks::Refusal;
 use daily::{DailyAnswer, FIGURES, Shares};
 use lines::read;
-use lines::read::LineRead;
 use road::Case;
 
 fn daily_case(case: Case, shares: Shares, daily_traffic: u64, figures: &mut [u64]) -> i32
@@ -40,9 +40,8 @@ pub fn marehour_daily(
     if figures.len() < FIGURES {
         return refused(BUFFER_TOO_SHORT);
     }
-    let reading = read::read_line(line);
-    let LineRead::Case(case) = reading else {
-        return refused(read::LINE_MALFORMED);
+    let Ok(case) = read::read_line(line) else {
+        return refused(Refusal::LineMalformed.number());
     };
     let shares = Shares {
         peak: peak_share as u64,

@@ -4,8 +4,8 @@ ghost use Rattle.std.specs.Prelude.{◌≡◌, length};
 ghost use Rattle.marehour.specs.Calls.{day_call, day_result, content};
 
 use crate::calls::refused;
+use checks::Refusal;
 use lines::read;
-use lines::read::LineRead;
 
 pub fn marehour_day(line: &[u8], demands: &[u64], answers: &mut [u64]) -> i32
     ensures result { result ≡ day_result (day_call line.now demands.now (length answers.old)) }
@@ -16,9 +16,8 @@ pub fn marehour_day(line: &[u8], demands: &[u64], answers: &mut [u64]) -> i32
     if 0 < number {
         return refused(number);
     }
-    let reading = read::read_line(line);
-    let LineRead::Case(case) = reading else {
-        return refused(read::LINE_MALFORMED);
+    let Ok(case) = read::read_line(line) else {
+        return refused(Refusal::LineMalformed.number());
     };
     day::put_day(case, demands, answers);
     demands.len() as i32

@@ -5,9 +5,9 @@ ghost use Rattle.forecast.specs.Forecasts.{forecast_of, figure_count};
 ghost use Rattle.marehour.specs.Calls.{forecast_reply, forecast_call, call_result, content};
 
 use crate::calls::{BUFFER_TOO_SHORT, refused};
+use checks::Refusal;
 use forecast::{FIGURES, Forecast, ForecastAnswer, Range};
 use lines::read;
-use lines::read::LineRead;
 use road::Case;
 
 fn forecast_case(case: Case, forecast: Forecast, figures: &mut [u64]) -> i32
@@ -44,9 +44,8 @@ pub fn marehour_forecast(
     if figures.len() < FIGURES {
         return refused(BUFFER_TOO_SHORT);
     }
-    let reading = read::read_line(line);
-    let LineRead::Case(case) = reading else {
-        return refused(read::LINE_MALFORMED);
+    let Ok(case) = read::read_line(line) else {
+        return refused(Refusal::LineMalformed.number());
     };
     let forecast = Forecast {
         demand: Range {

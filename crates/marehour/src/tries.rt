@@ -8,8 +8,8 @@ ghost use Rattle.marehour.specs.Tries.{tries_result, tries_call};
 use crate::calls::refused;
 use answer::evaluate;
 use answer::evaluate::Answer;
+use checks::Refusal;
 use lines::read;
-use lines::read::LineRead;
 use road::Case;
 
 fn tries_case(case: Case) -> i32
@@ -26,9 +26,8 @@ fn tries_case(case: Case) -> i32
 pub fn marehour_tries(line: &[u8]) -> i32
     ensures { result ≡ tries_call line.now }
 {
-    let reading = read::read_line(line);
-    let LineRead::Case(case) = reading else {
-        return refused(read::LINE_MALFORMED);
+    let Ok(case) = read::read_line(line) else {
+        return refused(Refusal::LineMalformed.number());
     };
     tries_case(case)
 }

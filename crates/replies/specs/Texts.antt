@@ -8,12 +8,14 @@
 --   line_answer bs      the answer to a line
 --   line_text bs        what `los` prints for a line
 -- Assumes nothing.
-use Rattle.std.specs.Prelude.{ℕ, ◌+◌, ◌-◌, List, [], ◌∷◌}
+use Rattle.std.specs.Prelude.{ℕ, ◌+◌, ◌-◌, Result, Ok, Err, List, [], ◌∷◌}
 use Prim.Native.Char.{code}
 use Rattle.text.specs.Decimal.{row_text}
 use Rattle.answer.specs.declared.evaluate.Answer.{Answer}
 use Rattle.answer.specs.Answers.{answer_to, refusal_number, values}
-use Rattle.lines.specs.declared.read.LineRead.{LineRead}
+use Rattle.road.specs.declared.Case.{Case}
+use Rattle.checks.specs.declared.Refusal.{Refusal}
+use Rattle.checks.specs.Numbers.{number}
 use Rattle.lines.specs.Reading.{read_line}
 
 abbrev pub letter_byte : ℕ → ℕ
@@ -35,9 +37,9 @@ abbrev pub longest_answer : ℕ
 longest_answer = 64
 
 -- "An answer read from a line is either a case or its refusal"
-abbrev pub answer_of : LineRead → Answer
-answer_of (LineRead.Case c) = answer_to c
-answer_of (LineRead.Refused n) = Answer.Refused n
+abbrev pub answer_of : Result Case Refusal → Answer
+answer_of (Ok c) = answer_to c
+answer_of (Err r) = Answer.Refused (number r)
 
 abbrev pub line_answer : List ℕ → Answer
 line_answer bs = answer_of (read_line bs)

@@ -11,9 +11,9 @@ ghost use Rattle.replies.specs.Texts.{letter_byte, answer_text, refusal_text, lo
 
 use answer::evaluate;
 use answer::evaluate::{Answer, Grade};
+use checks::Refusal;
 use curve::service::Letter;
 use lines::read;
-use lines::read::LineRead;
 
 pub const LONGEST_ANSWER: usize = 64;
 
@@ -60,9 +60,8 @@ pub fn answer_line(line: &[u8], out: &mut [u8], at: usize) -> usize
     requires { at + longest_answer ≤ length out.old }
     ensures { Wrote (line_text line.now) at out.old out.new result }
 {
-    let reading = read::read_line(line);
-    let LineRead::Case(case) = reading else {
-        return write_refusal(read::LINE_MALFORMED, out, at);
+    let Ok(case) = read::read_line(line) else {
+        return write_refusal(Refusal::LineMalformed.number(), out, at);
     };
     write_answer(evaluate::evaluate(case), out, at)
 }

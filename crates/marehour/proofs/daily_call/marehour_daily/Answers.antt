@@ -1,11 +1,9 @@
 -- `marehour::daily_call::marehour_daily` meets its contract: 17, then 15, then the reply to the case that was read, which asks 20 first.
 -- Assumes nothing.
-use mathlib.Core.Path.{sym, ◌∙◌}
-use native.Mathlib.Omega.{arith}
+use Rattle.std.proofs.Common.{sym, arith, rules}
 use Rattle.daily.specs.Daily.{figure_count}
 use Rattle.marehour.specs.Calls.{daily_reply}
 use Rattle.marehour.proofs.CallLaws.{call-short, call-malformed, call-read}
-use borrow.Author.Rules.{rules}
 use Rattle.marehour.proofs.daily_call.marehour_daily.Goals as goal
 
 pub returns-then-figures-lt-FIGURES : goal.returns-then-figures-lt-FIGURES
@@ -21,7 +19,7 @@ returns-in_default c =
     let a = c.args in
     let both =
     call-malformed figure_count (daily_reply _ a.daily_traffic) a.line.now a.figures.now c.if-figures-lt-FIGURES.false _ _
-    (sym c.read_line-reading.ensures ∙ c.in_default.is) c.refused-in_default.ensures in
+    (sym c.in_default.ensures) (rw c.number.ensures at c.refused-in_default.ensures) in
     record { result = both.0; figures = both.1 }
 
 pub returns : goal.returns
@@ -30,5 +28,5 @@ returns c =
     let s = c.daily_case in
     let both =
     call-read figure_count (daily_reply _ a.daily_traffic) a.line.now a.figures.now c.if-figures-lt-FIGURES.false _ _ _
-    (sym c.read_line-reading.ensures ∙ c.in-Case.is) (search rules) (s.ensures.result, s.ensures.figures) in
+    (sym c.in-Ok.ensures) (search rules) (s.ensures.result, s.ensures.figures) in
     record { result = both.0; figures = both.1 }

@@ -1,11 +1,9 @@
 -- `marehour::day_call::marehour_day` meets its contract: 18, then 15, then the answers to the case that was read.
 -- Assumes nothing.
-use mathlib.Core.Path.{refl, sym, ap, ◌∙◌}
-use native.Mathlib.Omega.{arith}
+use Rattle.std.proofs.Common.{refl, sym, arith}
 use Rattle.day.specs.Days.{lent_refusals}
 use Rattle.day.proofs.DayLaws.{lent-number, lent-passed, day_figures-count}
 use Rattle.day.proofs.Promises.{lent-fits-exactly}
-use Rattle.lines.specs.declared.read.LineRead.TheVariants as LineRead
 use Rattle.lines.specs.Reading.{read_line}
 use Rattle.lines.proofs.ReadingLaws.{read_line-refused}
 use Rattle.marehour.specs.Calls.{day_reply, answer_count}
@@ -28,11 +26,10 @@ returns-then-number-gt0 c =
 pub returns-in_default : goal.returns-in_default
 returns-in_default c =
     let a = c.args in
-    let e = sym c.read_line-reading.ensures ∙ c.in_default.is in
     let both =
     call-refused answer_count (day_reply a.demands.now) _ (lent_refusals _ _) a.answers.now
-    (lent-passed _ _ _ c.lent_refusal-number.ensures c.if-number-gt0.false) c.refused-in_default.result 15
-    (omega arith) (e ∙ ap LineRead.Refused (read_line-refused a.line.now _ e)) c.refused-in_default.ensures in
+    (lent-passed _ _ _ c.lent_refusal-number.ensures c.if-number-gt0.false) c.refused-in_default.result
+    (read_line-refused a.line.now _ (sym c.in_default.ensures)) (rw c.number.ensures at c.refused-in_default.ensures) in
     record { result = both.0; answers = both.1 }
 
 -- 32 bits hold the count of the demands
@@ -47,7 +44,6 @@ returns c =
     let fits = lent-passed _ _ _ c.lent_refusal-number.ensures c.if-number-gt0.false in
     let both =
     call-wrote answer_count (day_reply a.demands.now) _ (lent_refusals _ _) a.answers.now fits _ _ _ _
-    (sym c.read_line-reading.ensures
-    ∙ c.in-Case.is) refl
+    (sym c.in-Ok.ensures) refl
     (sym (day_figures-count _ a.demands.now)) (omega (arith, (lent-fits-exactly _ _).0 fits)) c.put_day.ensures in
     record { result = both.0; answers = both.1 }
