@@ -4,17 +4,18 @@
 --   line_text-le, line_text-pos   so has what is printed for a line, and it is not empty
 --   line_text-long        lines of more than 80 bytes all get the same
 -- Assumes nothing.
-use Rattle.std.proofs.Common.{◌≡◌, ℕ, ◌≤◌, ◌<◌, Ok, Err, List, [], ◌∷◌, length, ap, arith}
+use Rattle.std.proofs.Common.{◌≡◌, ℕ, ◌≤◌, ◌<◌, Result, Ok, Err, List, [], ◌∷◌, length, ap, arith}
 use mathlib.Core.List.{flat_map}
 use Prim.Native.Char.{code}
 use Rattle.numbers.specs.Bounds.{AllAtMost}
 use Rattle.checks.specs.declared.Refusal.{Refusal}
-use Rattle.checks.proofs.RefusalLaws.{unless_refused-by}
+use Rattle.checks.specs.Numbers.{number, refusal_of}
+use Rattle.checks.proofs.NumberLaws.{ok_unless-by}
 use Rattle.text.specs.Decimal.{decimal_up_to, decimal, figures_text}
 use Rattle.text.proofs.RowLaws.{row_text-length, row_text-one, figures_text-mono}
 use Rattle.road.specs.declared.Case.{Case}
 use Rattle.method.specs.Refusals.{refusal}
-use Rattle.answer.specs.declared.evaluate.Answer.{Answer}
+use Rattle.answer.specs.declared.evaluate.Grade.{Grade}
 use Rattle.answer.specs.Answers.{graded, answer_to, values}
 use Rattle.answer.specs.Laws.{figure_ends}
 use Rattle.answer.proofs.Laws.{figures-within-ends}
@@ -49,9 +50,9 @@ figures-le number (letter ∷ figures) h = omega (arith, row_text-length (letter
 pub answer_text-le : (case : Case) → length (answer_text (answer_to case)) ≤ longest_answer
 unfolding text_of
 answer_text-le case =
-    unless_refused-by (refusal case) (Answer.Graded (graded case)) Answer.Refused (λ a. length (answer_text a) ≤ longest_answer)
-    (λ a. figures-le 0 (values (Answer.Graded (graded case))) (rw (answer_to-accepted case a) at (figures-within-ends case a)))
-    (λ p. refusal_text-le (refusal case))
+    ok_unless-by (refusal case) (graded case) (λ a. length (answer_text a) ≤ longest_answer)
+    (λ a. figures-le 0 (values (Ok (graded case))) (rw (answer_to-accepted case a) at (figures-within-ends case a)))
+    (λ p. refusal_text-le (number (refusal_of (refusal case))))
 
 pub line_text-le : (bs : List ℕ) → length (line_text bs) ≤ longest_answer
 unfolding text_of line_text
@@ -62,7 +63,7 @@ unfolding refusal_text text_of
 text-pos number [] = omega (arith, row_text-length (code "X") (number ∷ []))
 text-pos number (letter ∷ figures) = omega (arith, row_text-length (letter_byte letter) figures)
 
-pub answer_text-pos : (a : Answer) → 0 < length (answer_text a)
+pub answer_text-pos : (a : Result Grade Refusal) → 0 < length (answer_text a)
 answer_text-pos a = text-pos _ _
 
 pub line_text-pos : (bs : List ℕ) → 0 < length (line_text bs)

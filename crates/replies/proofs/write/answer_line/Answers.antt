@@ -5,10 +5,10 @@ use Rattle.replies.proofs.TextsLaws.{refusal_text-le, answer_text-le, line_text-
 use Rattle.replies.proofs.write.answer_line.Goals as goal
 
 pub write_refusal-requires : goal.write_refusal-requires
-write_refusal-requires c = rw c.number.ensures (omega (arith, refusal_text-le 15))
+write_refusal-requires c = omega (arith, refusal_text-le 15)
 
 pub returns-in_default : goal.returns-in_default
-returns-in_default c = rw (line_text-refused _ _ (sym c.in_default.ensures)) (rw c.number.ensures at c.write_refusal.ensures)
+returns-in_default c = rw (line_text-refused _ _ (sym c.in_default.ensures)) c.write_refusal.ensures
 
 pub write_answer-requires : goal.write_answer-requires
 write_answer-requires c = rw c.evaluate.ensures (omega (arith, answer_text-le c.in-Ok.case))
