@@ -19,6 +19,8 @@
 --   day_call line demands room   the same for a day of demands, with room for so many numbers
 --   daily_call line shares traffic room   the same for a daily traffic and its shares, with room for so many numbers
 --   forecast_call line forecast room   the same for a forecast, with room for so many numbers
+--   line_case lent r        the case of a line that was read, or what refuses the lent memory or the line
+--   hands_back a            what a call hands back where a count is found, or a refusal
 --   handed_back count r     what a call hands back, by how it counts what is written
 --   call_result r           the same in bytes, or in numbers where numbers are written
 --   answer_count ns         how many answers so many numbers are
@@ -35,8 +37,7 @@ use Rattle.text.specs.Bytes.{newline}
 use Rattle.text.specs.Decimal.{decimal}
 use Rattle.text.specs.Buffer.{written}
 use Rattle.road.specs.declared.Case.{Case}
-use Rattle.answer.specs.declared.evaluate.Answer.{Answer}
-use Rattle.answer.specs.declared.lanes.LanesAnswer.{LanesAnswer}
+use Rattle.answer.specs.declared.evaluate.Grade.{Grade}
 use Rattle.answer.specs.Answers as answers
 use Rattle.answer.specs.Answers.{answer_to}
 use Rattle.answer.specs.Lanes as lanes
@@ -60,16 +61,16 @@ abbrev pub reply_of : ℕ → List ℕ → List ℕ → Reply
 reply_of number [] text = refusal number
 reply_of number (v ∷ vs) text = writes text
 
-abbrev pub answer_reply : Answer → Reply
-answer_reply a = reply_of (answers.refusal_number a) (answers.values a) (answer_text a)
+abbrev pub answer_reply : Result Grade checks.Refusal → Reply
+answer_reply a = reply_of (refusal_number a) (answers.values a) (answer_text a)
 
 -- "For the lanes question the answer is the one digit of the count and a newline"
 unfoldable pub count_text : List ℕ → List ℕ
 count_text [] = []
 count_text (count ∷ vs) = decimal count ++ (newline ∷ [])
 
-abbrev pub count_reply : LanesAnswer → Reply
-count_reply a = reply_of (lanes.refusal_number a) (lanes.values a) (count_text (lanes.values a))
+abbrev pub count_reply : Result ℕ checks.Refusal → Reply
+count_reply a = reply_of (refusal_number a) (lanes.values a) (count_text (lanes.values a))
 
 abbrev pub case_reply : Case → Reply
 case_reply case = answer_reply (answer_to case)
@@ -87,16 +88,21 @@ figures_reply number values = reply_of number values values
 
 abbrev pub daily_reply : Shares → ℕ → Case → Reply
 daily_reply shares traffic case =
-    let answer = daily_answer case shares traffic in figures_reply (daily.refusal_number answer) (daily.values answer)
+    let answer = daily_answer case shares traffic in figures_reply (refusal_number answer) (daily.values answer)
 
 abbrev pub forecast_reply : Forecast → Case → Reply
 forecast_reply forecast case =
-    let answer = forecast_answer case forecast in figures_reply (forecasts.refusal_number answer) (forecasts.values answer)
+    let answer = forecast_answer case forecast in figures_reply (refusal_number answer) (forecasts.values answer)
 
 -- "15 malformed line", before 16, 20 and 1
 abbrev pub line_reply : (Case → Reply) → Result Case checks.Refusal → Reply
 line_reply reply (Ok case) = reply case
 line_reply reply (Err r) = refusal (number r)
+
+-- what the code finds of them: the case, or the first that refuses
+abbrev pub line_case : Result (Unit {0}) checks.Refusal → Result Case checks.Refusal → Result Case checks.Refusal
+line_case (Ok u) r = r
+line_case (Err refused) r = Err refused
 
 -- what refuses the lent memory comes first of all
 abbrev pub line_call : (Case → Reply) → Result Case checks.Refusal → List Refusal → Reply
@@ -123,6 +129,11 @@ daily_call line shares traffic room = line_call (daily_reply shares traffic) (re
 -- 1 to 6 and 22 behind 17 and 15
 abbrev pub forecast_call : List ℕ → Forecast → ℕ → Reply
 forecast_call line forecast room = line_call (forecast_reply forecast) (read_line line) (buffer_refusals forecasts.figure_count room)
+
+-- a count, or minus a refusal's number
+abbrev pub hands_back : Result ℕ checks.Refusal → ℤ
+hands_back (Ok n) = pos n
+hands_back (Err r) = neg_ℤ (pos (number r))
 
 abbrev pub handed_back : (List ℕ → ℕ) → Reply → ℤ
 handed_back count (writes ns) = pos (count ns)

@@ -22,7 +22,7 @@ use Rattle.text.specs.Bytes.{bytes_of}
 use Rattle.road.specs.declared.Case.{Case}
 use Rattle.road.specs.Cases.{with_demand}
 use Rattle.answer.specs.Answers.{answer_to}
-use Rattle.day.specs.Days.{most_demands, figure_count, answer_figures, LentFits, day_answer, day_content, refusal_number, values}
+use Rattle.day.specs.Days.{most_demands, figure_count, answer_figures, LentFits, day_answer, day_content, values}
 use Rattle.day.specs.Promises.{position}
 use Rattle.daily.specs.declared.Shares.{Shares}
 use Rattle.daily.specs.Daily as daily
@@ -32,6 +32,7 @@ use Rattle.forecast.specs.declared.Forecast.{Forecast}
 use Rattle.forecast.specs.Forecasts as forecasts
 use Rattle.forecast.specs.Forecasts.{forecast_of, forecast_answer}
 use Rattle.checks.specs.declared.Refusal.{Refusal}
+use Rattle.checks.specs.Numbers.{refusal_number}
 use Rattle.lines.specs.Reading.{read_line}
 use Rattle.replies.specs.Texts.{longest_answer}
 use Rattle.marehour.specs.Calls.{Reply, writes, refusal, answer_reply, answer_call, lanes_call, day_call, daily_call}
@@ -112,11 +113,11 @@ HandsBackFigures count number values call =
 abbrev pub DailyHandsBack : Type 0
 DailyHandsBack =
     (shares : Shares) (traffic : ℕ)
-    → HandsBackFigures daily.figure_count (λ case. daily.refusal_number (daily_answer case shares traffic))
+    → HandsBackFigures daily.figure_count (λ case. refusal_number (daily_answer case shares traffic))
     (λ case. daily.values (daily_answer case shares traffic)) (λ line room. daily_call line shares traffic room)
 
 abbrev pub ForecastHandsBack : Type 0
 ForecastHandsBack =
     (forecast : Forecast)
-    → HandsBackFigures forecasts.figure_count (λ case. forecasts.refusal_number (forecast_answer case forecast))
+    → HandsBackFigures forecasts.figure_count (λ case. refusal_number (forecast_answer case forecast))
     (λ case. forecasts.values (forecast_answer case forecast)) (λ line room. forecast_call line forecast room)

@@ -11,7 +11,7 @@ use Rattle.std.specs.Prelude.{◌≡◌, Result, Ok, Err, List, ℕ, ◌≤◌, 
 use Rattle.text.specs.Bytes.{bytes_of}
 use Rattle.road.specs.declared.Case.{Case}
 use Rattle.method.specs.Refusals.{refusal, Accepted}
-use Rattle.answer.specs.declared.evaluate.Answer.{Answer}
+use Rattle.answer.specs.declared.evaluate.Grade.{Grade}
 use Rattle.answer.specs.Answers.{answer_to}
 use Rattle.answer.specs.Tries.{demands_tried, counted_answer}
 use Rattle.checks.specs.declared.Refusal.{Refusal}
@@ -19,9 +19,9 @@ use Rattle.checks.specs.Numbers.{number}
 use Rattle.lines.specs.Reading.{read_line}
 use Rattle.marehour.specs.Boundary.{printed_line}
 
-abbrev pub tries_result : Answer → ℕ → ℤ
-tries_result (Answer.Graded grade) tries = pos tries
-tries_result (Answer.Refused number) tries = neg_ℤ (pos number)
+abbrev pub tries_result : Result Grade Refusal → ℕ → ℤ
+tries_result (Ok grade) tries = pos tries
+tries_result (Err r) tries = neg_ℤ (pos (number r))
 
 -- "15 malformed line", before 1
 abbrev pub line_tries : Result Case Refusal → ℤ

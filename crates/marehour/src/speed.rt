@@ -6,7 +6,7 @@ ghost use Rattle.survey.specs.Survey.{survey_answer};
 ghost use Rattle.survey.specs.declared.SurveyedSpeed.TheVariants.{MilesPerHour, KilometresPerHour};
 ghost use Rattle.marehour.specs.Calls.{survey_result};
 
-use crate::calls::refused;
+use crate::calls::handed_back;
 use survey::{Survey, SurveyedSpeed};
 
 fn survey_speed(speed: SurveyedSpeed, cars: u32, flow: u32) -> i32
@@ -17,10 +17,7 @@ fn survey_speed(speed: SurveyedSpeed, cars: u32, flow: u32) -> i32
         cars: u64::from(cars),
         flow: u64::from(flow),
     };
-    match survey::surveyed_speed(survey) {
-        Ok(thousandths) => thousandths as i32,
-        Err(refusal) => refused(refusal.number()),
-    }
+    handed_back(survey::surveyed_speed(survey))
 }
 
 pub fn marehour_survey_mph(speed: f32, cars: u32, flow: u32) -> i32
