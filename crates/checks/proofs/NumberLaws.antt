@@ -1,5 +1,5 @@
 -- The laws of the numbers of refusals (specs/Numbers).
---   number-above, number-le       a refusal's number is from 1 to 22
+--   number-above, number-le       a refusal's number is from 1 to 22; number_ends: the two, for tactics
 --   refusal_of-number               the refusal of a refusal's number is that refusal
 --   number-refusal_of               the number of the refusal of a number from 1 to 22 is that number
 --   ok_unless-ok, ok_unless-err   the answer by its number, as code hands it back
@@ -18,7 +18,7 @@ use native.Mathlib.Nat.{eq-zero-or-pos}
 use Rattle.numbers.specs.Table.{every_up_to}
 use Rattle.numbers.proofs.TableLaws.{every_up_to-at}
 use Rattle.checks.specs.declared.Refusal.{Refusal}
-use Rattle.checks.specs.Refusals.{Refusal as Line, first_refusal}
+use Rattle.checks.specs.Refusals.{Condition, first_refusal}
 use Rattle.checks.specs.Numbers.{number, in_order, refusal_of, refusal_number, ok_unless}
 use Rattle.checks.proofs.RefusalLaws.{numbered, first_refusal-some, first_refusal-none}
 
@@ -53,6 +53,8 @@ number-above r = (number-fits r).0
 
 pub number-le : (r : Refusal) → number r ≤ 22
 number-le r = (number-fits r).1
+
+pub ruleset number_ends = (number-above, number-le)
 
 pub refusal_of-number : (r : Refusal) → refusal_of (number r) ≡ r
 refusal_of-number r = (number-fits r).2
@@ -120,8 +122,10 @@ pub ok_unless-refused : {A B : Type 0} (n : ℕ) (a : A) (b : B) (r : Refusal) �
 ok_unless-refused n a b r found = err-by n a b r (eqb n 0) found
 
 -- ---- a list behind another
-pub first_refusal-err : (rs ss : List Line) (r : Refusal) → number r ≡ first_refusal rs → number r ≡ first_refusal (rs ++ ss)
+pub first_refusal-err : (rs ss : List Condition) (r : Refusal) → number r ≡ first_refusal rs → number r ≡ first_refusal (rs ++ ss)
 first_refusal-err rs ss r e = e ∙ sym (first_refusal-some rs ss (rw (sym e) (number-above r)))
 
-pub first_refusal-ok : (rs ss : List Line) (n : ℕ) → T (numbered rs) → 0 ≡ first_refusal rs → n ≡ first_refusal ss → n ≡ first_refusal (rs ++ ss)
+pub first_refusal-ok : (rs ss : List Condition) (n : ℕ) → T (numbered rs) → 0 ≡ first_refusal rs → n ≡ first_refusal ss → n ≡ first_refusal (rs ++ ss)
 first_refusal-ok rs ss n t z e = e ∙ sym (first_refusal-none rs ss t (sym z))
+
+pub ruleset in_turn = (first_refusal-err, first_refusal-ok)

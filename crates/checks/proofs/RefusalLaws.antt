@@ -28,15 +28,15 @@ use native.Mathlib.Omega.{arith}
 use borrow.Author.Tests.{ltb-false, lt-ltb, le-ltb, ne_eqb}
 use lib.Dec.{T, leb, ltb, eqb, leb→le, ltb→lt, eqb→eq}
 use Rattle.numbers.proofs.BoolLaws.{and-left, and-right, or-false, cond-le}
-use Rattle.checks.specs.Refusals.{Refusal, refuses, first_refusal, found, by_turns, lesser_refusal, unless_refused, outside}
+use Rattle.checks.specs.Refusals.{Condition, refuses, first_refusal, found, by_turns, lesser_refusal, unless_refused, outside}
 
 -- ---- the first of a list
-abbrev pub numbered : List Refusal → Bool
+abbrev pub numbered : List Condition → Bool
 numbered [] = true
 numbered (r ∷ rs) = ltb 0 r.number && numbered rs
 
 -- a list that refuses nothing: neither its first refusal does, nor the rest
-head-none : (r : Refusal) (rs : List Refusal) (rest : ℕ) → T (numbered (r ∷ rs)) → cond r.met r.number rest ≡ 0
+head-none : (r : Condition) (rs : List Condition) (rest : ℕ) → T (numbered (r ∷ rs)) → cond r.met r.number rest ≡ 0
     → (r.met ≡ false) × (rest ≡ 0) × T (numbered rs)
 head-none r rs rest t z = go r.met refl z
   where
@@ -51,17 +51,17 @@ some-head : (n f g : ℕ) (b : Bool) → 0 < cond b n f → (0 < f → g ≡ f) 
 some-head n f g true p k = refl
 some-head n f g false p k = k p
 
-pub first_refusal-some : (rs ss : List Refusal) → 0 < first_refusal rs → first_refusal (rs ++ ss) ≡ first_refusal rs
+pub first_refusal-some : (rs ss : List Condition) → 0 < first_refusal rs → first_refusal (rs ++ ss) ≡ first_refusal rs
 first_refusal-some [] ss p = absurd (omega arith)
 first_refusal-some (r ∷ rs) ss p =
     some-head r.number (first_refusal rs) (first_refusal (rs ++ ss)) r.met p (λ q. first_refusal-some rs ss q)
 
-pub first_refusal-none : (rs ss : List Refusal) → T (numbered rs) → first_refusal rs ≡ 0 → first_refusal (rs ++ ss) ≡ first_refusal ss
+pub first_refusal-none : (rs ss : List Condition) → T (numbered rs) → first_refusal rs ≡ 0 → first_refusal (rs ++ ss) ≡ first_refusal ss
 first_refusal-none [] ss t z = refl
 first_refusal-none (r ∷ rs) ss t z =
     let p = head-none r rs (first_refusal rs) t z in rw p.0 (first_refusal-none rs ss p.2 p.1)
 
-pub first_refusal-join : (rs ss : List Refusal) → T (numbered rs) → first_refusal (rs ++ ss) ≡ 0
+pub first_refusal-join : (rs ss : List Condition) → T (numbered rs) → first_refusal (rs ++ ss) ≡ 0
     → (first_refusal rs ≡ 0) × (first_refusal ss ≡ 0)
 first_refusal-join [] ss t z = (refl, z)
 first_refusal-join (r ∷ rs) ss t z =
@@ -70,34 +70,34 @@ first_refusal-join (r ∷ rs) ss t z =
     (rw p.0 q.0, q.1)
 
 -- ---- no refusal of a list
-abbrev pub NoneMet : List Refusal → Type 0
+abbrev pub NoneMet : List Condition → Type 0
 NoneMet [] = Unit {0}
 NoneMet (r ∷ rs) = (r.met ≡ false) × NoneMet rs
 
-pub none-met : (rs : List Refusal) → T (numbered rs) → first_refusal rs ≡ 0 → NoneMet rs
+pub none-met : (rs : List Condition) → T (numbered rs) → first_refusal rs ≡ 0 → NoneMet rs
 none-met [] t z = tt
 none-met (r ∷ rs) t z = let p = head-none r rs (first_refusal rs) t z in (p.0, none-met rs p.2 p.1)
 
-pub none-of : (rs : List Refusal) → NoneMet rs → first_refusal rs ≡ 0
+pub none-of : (rs : List Condition) → NoneMet rs → first_refusal rs ≡ 0
 none-of [] n = refl
 none-of (r ∷ rs) n = rw n.0 (none-of rs n.1)
 
 -- ---- the numbers of a list
-abbrev pub up_to : ℕ → List Refusal → Bool
+abbrev pub up_to : ℕ → List Condition → Bool
 up_to m [] = true
 up_to m (r ∷ rs) = leb r.number m && up_to m rs
 
-pub first_refusal-le : (m : ℕ) (rs : List Refusal) → T (up_to m rs) → first_refusal rs ≤ m
+pub first_refusal-le : (m : ℕ) (rs : List Condition) → T (up_to m rs) → first_refusal rs ≤ m
 first_refusal-le m [] t = omega arith
 first_refusal-le m (r ∷ rs) t =
     cond-le r.met (leb→le r.number m (and-left (leb r.number m) (up_to m rs) t))
     (first_refusal-le m rs (and-right (leb r.number m) (up_to m rs) t))
 
-abbrev pub at_least : ℕ → List Refusal → Bool
+abbrev pub at_least : ℕ → List Condition → Bool
 at_least m [] = true
 at_least m (r ∷ rs) = leb m r.number && at_least m rs
 
-pub first_refusal-ge : (m : ℕ) (rs : List Refusal) → T (at_least m rs) → 0 < first_refusal rs → m ≤ first_refusal rs
+pub first_refusal-ge : (m : ℕ) (rs : List Condition) → T (at_least m rs) → 0 < first_refusal rs → m ≤ first_refusal rs
 first_refusal-ge m [] t p = absurd (omega arith)
 first_refusal-ge m (r ∷ rs) t p = go r.met p (first_refusal-ge m rs (and-right (leb m r.number) (at_least m rs) t))
   where
@@ -107,19 +107,19 @@ first_refusal-ge m (r ∷ rs) t p = go r.met p (first_refusal-ge m rs (and-right
     go false q rest = rest q
 
 -- ---- a number in the place of a list
-pub first_refusal-found : (rs ls ss : List Refusal) → T (numbered ls)
+pub first_refusal-found : (rs ls ss : List Condition) → T (numbered ls)
     → first_refusal (rs ++ (found (first_refusal ls) ++ ss)) ≡ first_refusal (rs ++ (ls ++ ss))
 first_refusal-found [] ls ss t =
     ⊎_elim (λ z. rw z (sym (first_refusal-none ls ss t z)))
     (λ p. rw (lt-ltb 0 (first_refusal ls) p) (sym (first_refusal-some ls ss p))) (eq-zero-or-pos (first_refusal ls))
 first_refusal-found (r ∷ rs) ls ss t = ap (cond r.met r.number) (first_refusal-found rs ls ss t)
 
-pub found-none : (n : ℕ) (ss : List Refusal) → first_refusal (found n ++ ss) ≡ 0 → (n ≡ 0) × (first_refusal ss ≡ 0)
+pub found-none : (n : ℕ) (ss : List Condition) → first_refusal (found n ++ ss) ≡ 0 → (n ≡ 0) × (first_refusal ss ≡ 0)
 found-none n ss z =
     ⊎_elim (λ e. (e, rw e at z)) (λ p. absurd (let e : n ≡ 0 = rw (lt-ltb 0 n p) at z in omega arith)) (eq-zero-or-pos n)
 
 -- ---- two lists by turns
-abbrev pub rises_with : List Refusal → List Refusal → Bool
+abbrev pub rises_with : List Condition → List Condition → Bool
 rises_with [] [] = true
 rises_with [] (s ∷ ss) = false
 rises_with (r ∷ rs) [] = false
@@ -144,7 +144,7 @@ lesser-head n f g false true p h k =
     ⊎_elim (λ z. rw z)
     (λ q. simp (ne_eqb f 0 (λ e. omega arith), ne_eqb n 0 (λ e. omega arith)) (omega (arith, h q))) (eq-zero-or-pos f)
 
-pub first_refusal-by_turns : (rs ss : List Refusal) → T (rises_with rs ss)
+pub first_refusal-by_turns : (rs ss : List Condition) → T (rises_with rs ss)
     → first_refusal (by_turns rs ss) ≡ lesser_refusal (first_refusal rs) (first_refusal ss)
 unfolding lesser_refusal
 first_refusal-by_turns [] [] t = refl
@@ -196,7 +196,7 @@ module _ {A : Type 0} (n : ℕ) (answer : A) (refused : ℕ → A) where
         let zero : n ≡ 0 = sym unless_refused-number ∙ ap number e ∙ z in (zero, sym e ∙ unless_refused-none zero)
 
 -- ---- a refusal in the middle of a list
-pub first_refusal-met : (n : ℕ) (rs ss : List Refusal) → T (numbered rs) → T (up_to n rs) → T (at_least n ss)
+pub first_refusal-met : (n : ℕ) (rs ss : List Condition) → T (numbered rs) → T (up_to n rs) → T (at_least n ss)
     → first_refusal (rs ++ (refuses n true ∷ ss)) ≡ unless_refused (first_refusal (rs ++ (refuses n false ∷ ss))) n (λ k. min k n)
 first_refusal-met n [] ss t u a =
     unless_refused-by (first_refusal ss) n (λ k. min k n) (λ m. n ≡ m) (λ e. refl) (λ p. omega (arith, first_refusal-ge n ss a p))

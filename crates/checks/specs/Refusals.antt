@@ -1,5 +1,5 @@
 -- Numbered refusals in an order, and an answer unless one is met (document 01, "Refused, by who can cause it").
---   Refusal              a refusal's number, and whether it is met
+--   Condition            a refusal's number, and whether it is met
 --   refuses n b          refusal n, met where b is
 --   first_refusal rs     the number of the first of rs that is met, 0 where none is
 --   found n              a number that was found, 0 for none, as a list of one refusal
@@ -10,21 +10,21 @@
 -- Assumes nothing.
 use Rattle.std.specs.Prelude.{ℕ, min, Bool, cond, ◌||◌, List, [], ◌∷◌, ltb, eqb}
 
-pub record Refusal : Type 0 where
+pub record Condition : Type 0 where
   pub number : ℕ
   pub met : Bool
 
-abbrev pub refuses : ℕ → Bool → Refusal
+abbrev pub refuses : ℕ → Bool → Condition
 refuses n b = record { number = n; met = b }
 
-abbrev pub first_refusal : List Refusal → ℕ
+abbrev pub first_refusal : List Condition → ℕ
 first_refusal [] = 0
 first_refusal (r ∷ rs) = cond r.met r.number (first_refusal rs)
 
-abbrev pub found : ℕ → List Refusal
+abbrev pub found : ℕ → List Condition
 found n = refuses n (ltb 0 n) ∷ []
 
-abbrev pub by_turns : List Refusal → List Refusal → List Refusal
+abbrev pub by_turns : List Condition → List Condition → List Condition
 by_turns [] ss = ss
 by_turns (r ∷ rs) [] = r ∷ rs
 by_turns (r ∷ rs) (s ∷ ss) = r ∷ s ∷ by_turns rs ss

@@ -1,13 +1,11 @@
 // Checks: numbered refusals, the first that is met first.
-//   Refusal      why a line, a case or a call is refused, each with the documents' number
-//   outside      whether a number is out of a range
-//   refused_if   one line of a list of refusals
-//   lesser_refusal   the first of two lists with the same rising numbers that are asked by turns
+//   Refusal          why a line, a case or a call is refused; number: the documents' number of each
+//   lesser_refusal   of two checks that are asked by turns: the refusal with the lesser number
 #![tactic(auto)]
 
-ghost use Rattle.std.specs.Prelude.{◌≡◌, cond};
-ghost use Rattle.checks.specs.Refusals.{outside, lesser_refusal};
-ghost use Rattle.checks.specs.Numbers.{number};
+ghost use Rattle.std.specs.Prelude.{◌≡◌};
+ghost use Rattle.checks.specs.Refusals.{lesser_refusal};
+ghost use Rattle.checks.specs.Numbers.{number, refusal_number};
 
 #[derive(Clone, Copy, Debug, PartialEq, Eq)]
 pub enum Refusal {
@@ -43,28 +41,14 @@ impl Refusal {
     }
 }
 
-pub fn outside(low: u64, high: u64, n: u64) -> bool
-    ensures { result ≡ outside low high n }
+// What two checks answer that are asked by turns: the refusal with the lesser number, where either refuses.
+#[tactic(auto, using(crate::proofs::NumberLaws::number_ends), unfolding(crate::specs::Refusals::lesser_refusal))]
+pub fn lesser_refusal(one: Result<(), Refusal>, other: Result<(), Refusal>) -> Result<(), Refusal>
+    ensures { refusal_number result ≡ lesser_refusal (refusal_number one) (refusal_number other) }
 {
-    n < low || high < n
-}
-
-// The number where its test is met, else what the lines after it say.
-pub fn refused_if(met: bool, number: u64, otherwise: u64) -> u64
-    ensures { result ≡ cond met number otherwise }
-{
-    if met { number } else { otherwise }
-}
-
-// The lesser of two numbers, of which 0 is none.
-pub fn lesser_refusal(one: u64, other: u64) -> u64
-    ensures { result ≡ lesser_refusal one other }
-{
-    if one == 0 {
-        return other;
+    match (one, other) {
+        (Err(first), Err(second)) if second.number() < first.number() => other,
+        (Err(_), _) => one,
+        (Ok(()), _) => other,
     }
-    if other == 0 {
-        return one;
-    }
-    numbers::lesser(one, other)
 }

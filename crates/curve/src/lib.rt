@@ -38,6 +38,7 @@ pub struct Weather {
 }
 
 impl Kind {
+    #[tactic(auto, unfolding(crate::specs::Curves::capacity))]
     fn capacity(self, speed: u64) -> u64
         requires { speed ≤ highest_speed self }
         ensures { result ≡ capacity self speed }
@@ -54,6 +55,7 @@ impl Kind {
         }
     }
 
+    #[tactic(auto, unfolding(crate::specs::Curves::breakpoint))]
     fn breakpoint(self, speed: u64) -> u64
         requires { speed ≤ highest_speed self }
         ensures { result ≡ breakpoint self speed }

@@ -19,7 +19,7 @@ use Prim.Native.Nat.{ℕ, ◌≤◌, ◌<◌, min}
 use borrow.Author.Tests.{ltb-false, le-ltb, lt-ltb}
 use lib.Dec.{T}
 use lib.ListN.{take, drop}
-use Rattle.checks.specs.Refusals.{Refusal, first_refusal, found, unless_refused}
+use Rattle.checks.specs.Refusals.{Condition, first_refusal, found, unless_refused}
 use Rattle.checks.proofs.RefusalLaws.{numbered, first_refusal-none, first_refusal-join, first_refusal-le}
 use Rattle.checks.proofs.RefusalLaws.{first_refusal-met, first_refusal-found, none-met}
 use Rattle.curve.specs.Kinds.{lowest_speed, lowest_adjusted_speed}
@@ -32,27 +32,27 @@ use Rattle.road.specs.Refusals.{field_refusals, SectionFits, FieldsFit}
 use Rattle.road.proofs.RefusalLaws.{section-numbered, load-numbered, fields-numbered, with-parts, load-ends}
 use Rattle.method.specs.Refusals.{speed_refusals, refusals_with, refusals, refusal, Accepted}
 
-abbrev own_speed : Case → List Refusal
+abbrev own_speed : Case → List Condition
 own_speed case = speed_refusals case.road case.weather case.lanes
 
 pub refusal-le : (case : Case) → refusal case ≤ 19
 unfolding road_refusals load_refusals field_refusals speed_refusals refusals
 refusal-le case = first_refusal-le 19 (refusals case) tt
 
-pub refusals_with-joined : (loads : List Refusal) (case : Case)
+pub refusals_with-joined : (loads : List Condition) (case : Case)
     → refusals_with loads case ≡ section_refusals case ++ (loads ++ (weather_refusals case ++ own_speed case))
 refusals_with-joined loads case =
     append_assoc (section_refusals case) (loads ++ weather_refusals case) (own_speed case)
     ∙ ap (λ rest. section_refusals case ++ rest) (append_assoc loads (weather_refusals case) (own_speed case))
 
-pub refusals_with-found : (loads : List Refusal) (case : Case) → T (numbered loads)
+pub refusals_with-found : (loads : List Condition) (case : Case) → T (numbered loads)
     → first_refusal (refusals_with (found (first_refusal loads)) case) ≡ first_refusal (refusals_with loads case)
 refusals_with-found loads case t =
     ap first_refusal (refusals_with-joined (found (first_refusal loads)) case)
     ∙ first_refusal-found (section_refusals case) loads (weather_refusals case ++ own_speed case) t
     ∙ sym (ap first_refusal (refusals_with-joined loads case))
 
-pub with-accepted : (loads : List Refusal) (case : Case) → T (numbered loads) → first_refusal (refusals_with loads case) ≡ 0
+pub with-accepted : (loads : List Condition) (case : Case) → T (numbered loads) → first_refusal (refusals_with loads case) ≡ 0
     → SectionFits case × (first_refusal loads ≡ 0) × (first_refusal (weather_refusals case) ≡ 0) × (first_refusal (own_speed case) ≡ 0)
 with-accepted loads case t z =
     let p = first_refusal-join (section_refusals case) (loads ++ (weather_refusals case ++ own_speed case)) (section-numbered case)
@@ -61,7 +61,7 @@ with-accepted loads case t z =
     let r = first_refusal-join (weather_refusals case) (own_speed case) tt q.1 in
     (p.0, q.0, r.0, r.1)
 
-pub with-of : (loads : List Refusal) (case : Case) → T (numbered loads) → SectionFits case → first_refusal loads ≡ 0
+pub with-of : (loads : List Condition) (case : Case) → T (numbered loads) → SectionFits case → first_refusal loads ≡ 0
     → first_refusal (refusals_with loads case) ≡ first_refusal (weather_refusals case ++ own_speed case)
 with-of loads case t section none =
     ap first_refusal (refusals_with-joined loads case)

@@ -8,7 +8,7 @@
 -- Assumes nothing.
 use Rattle.std.specs.Prelude.{ℕ, List, [], ◌∷◌, Result, Ok, Err}
 use Rattle.checks.specs.declared.Refusal.{Refusal}
-use Rattle.checks.specs.Refusals.{Refusal as Condition, first_refusal}
+use Rattle.checks.specs.Refusals.{Condition, first_refusal}
 use Rattle.checks.specs.Numbers.{ok_unless}
 use Rattle.curve.specs.declared.Curve.{Curve}
 use Rattle.curve.specs.declared.Weather.{Weather}

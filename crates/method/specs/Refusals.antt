@@ -6,7 +6,7 @@
 --   Accepted case                   none of them refuses the case
 -- Assumes nothing.
 use Rattle.std.specs.Prelude.{ℕ, ◌≡◌, List, [], ◌∷◌, ◌++◌, ltb}
-use Rattle.checks.specs.Refusals.{Refusal, refuses, first_refusal}
+use Rattle.checks.specs.Refusals.{Condition, refuses, first_refusal}
 use Rattle.curve.specs.declared.Weather.{Weather}
 use Rattle.curve.specs.Kinds.{lowest_speed, lowest_adjusted_speed}
 use Rattle.curve.specs.Weather.{adjusted_speed}
@@ -17,16 +17,16 @@ use Rattle.road.specs.Refusals.{field_refusals_with, field_refusals}
 
 -- "10 F below the lower end", before the weather's factor and after it: "On kind F, free-flow speed after the factors must be at least
 -- 50,000, or refusal 10; the limit of 55,000 holds before them. Kind M keeps its lower end."
-unfoldable pub speed_refusals : Road → Weather → ℕ → List Refusal
+unfoldable pub speed_refusals : Road → Weather → ℕ → List Condition
 speed_refusals road weather n =
     refuses 10 (ltb (free_flow_speed_of road n) (lowest_speed road.kind))
     ∷ refuses 10 (ltb (adjusted_speed weather (free_flow_speed_of road n)) (lowest_adjusted_speed road.kind))
     ∷ []
 
-unfoldable pub refusals : Case → List Refusal
+unfoldable pub refusals : Case → List Condition
 refusals case = field_refusals case ++ speed_refusals case.road case.weather case.lanes
 
-abbrev pub refusals_with : List Refusal → Case → List Refusal
+abbrev pub refusals_with : List Condition → Case → List Condition
 refusals_with loads case = field_refusals_with loads case ++ speed_refusals case.road case.weather case.lanes
 
 abbrev pub refusal : Case → ℕ

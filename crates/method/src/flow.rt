@@ -36,6 +36,7 @@ impl Load {
         }
     }
 
+    #[tactic(auto, using(numbers::proofs::DivisionLaws::divisions), unfolding(crate::specs::Flow::flow_rate_of))]
     pub fn flow_rate(&self, demand: u64) -> u64
         requires load_fits { LoadFits self.now }
         requires demand_high { demand ≤ greatest_demand }

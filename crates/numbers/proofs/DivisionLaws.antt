@@ -4,7 +4,7 @@
 --   div_up-mono      it rises with a and falls with b
 --   div_up-zero      of 0 it is 0
 --   div_up-suc       of a number above 0: one more than the division of the number before
---   div_ceil-eq      it is what std's div_ceil ensures
+--   div_ceil-eq      it is what std's div_ceil ensures; divisions: this law, for tactics
 -- Assumes nothing.
 use mathlib.Core.Path.{◌≡◌}
 use mathlib.Core.Logic.{◌↔◌}
@@ -46,3 +46,5 @@ div_ceil-eq a b p =
     let k = div_ceil_times a b p in
     le_antisymm (let l : div_ceil a b * b < suc (div_up a b) * b = omega (arith, k.1, le-div_up a b p) in
     let m : div_ceil a b < suc (div_up a b) = lt_of_mul-lt-mul_right b l in omega arith) ((div_up-le-iff a b (div_ceil a b) p).1 k.0)
+
+pub ruleset divisions = (div_ceil-eq)

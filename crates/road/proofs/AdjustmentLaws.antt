@@ -146,3 +146,6 @@ median_adjustment-le Median.TwoWayLeftTurnLane = omega arith
 pub access_adjustment-le : (p : ℕ) → access_adjustment p ≤ 10000
 unfolding access_adjustment
 access_adjustment-le p = omega arith
+
+-- the most that each is, for tactics
+pub ruleset adjustment_ends = (lane_width_adjustment-le, per_missing_foot-le, right_clearance_adjustment-le, counted_left_clearance-le, total_clearance-le, total_clearance_adjustment-le, total_clearance_row-line-le, median_adjustment-le, access_adjustment-le)

@@ -47,6 +47,8 @@ pub fields-numbered : (case : Case) → T (numbered (field_refusals case))
 unfolding field_refusals road_refusals load_refusals
 fields-numbered case = tt
 
+pub ruleset numbered_parts = (road-numbered, section-numbered, load-numbered)
+
 pub field_refusals-found : (case : Case)
     → first_refusal (field_refusals_with (found (first_refusal (load_refusals case))) case) ≡ first_refusal (field_refusals case)
 unfolding field_refusals

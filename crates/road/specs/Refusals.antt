@@ -15,7 +15,7 @@
 --   FieldsFit case        none of 1 to 9 nor 19 refuses the case
 -- Assumes nothing.
 use Rattle.std.specs.Prelude.{ℕ, ◌≡◌, Bool, true, false, ◌||◌, List, [], ◌∷◌, ◌++◌, ltb}
-use Rattle.checks.specs.Refusals.{Refusal, refuses, first_refusal, outside}
+use Rattle.checks.specs.Refusals.{Condition, refuses, first_refusal, outside}
 use Rattle.curve.specs.declared.kind.Kind.{Kind}
 use Rattle.curve.specs.declared.Weather.{Weather}
 use Rattle.curve.specs.Kinds.{lowest_factor, fewest_lanes, most_lanes}
@@ -46,7 +46,7 @@ weather_unfit kind weather =
 
 -- "1 speed not 30,000 to 90,000; 2 width not 100 to 200; 3 a clearance above 400; 4 median other than D on kind F;
 -- 5 ramps above 48 or access above 200"
-unfoldable pub road_refusals : Road → List Refusal
+unfoldable pub road_refusals : Road → List Condition
 road_refusals road =
     refuses 1 (outside 30000 90000 road.speed)
     ∷ refuses 2 (outside 100 200 road.lane_width)
@@ -56,28 +56,28 @@ road_refusals road =
     ∷ []
 
 -- "6 lanes not of the kind"
-abbrev pub lane_refusals : Case → List Refusal
+abbrev pub lane_refusals : Case → List Condition
 lane_refusals case = refuses 6 (outside (fewest_lanes case.road.kind) (most_lanes case.road.kind) case.lanes) ∷ []
 
-abbrev pub section_refusals : Case → List Refusal
+abbrev pub section_refusals : Case → List Condition
 section_refusals case = road_refusals case.road ++ lane_refusals case
 
 -- "7 V above 99,999", "8 H not 250 to 1,000; 9 P above 1,000"
-unfoldable pub load_refusals : Case → List Refusal
+unfoldable pub load_refusals : Case → List Condition
 load_refusals case =
     refuses 7 (ltb greatest_demand case.demand)
     ∷ refuses 8 (outside 250 1000 case.peak_hour_factor)
     ∷ refuses 9 (ltb 1000 case.heavy_share)
     ∷ []
 
-abbrev pub weather_refusals : Case → List Refusal
+abbrev pub weather_refusals : Case → List Condition
 weather_refusals case = refuses 19 (weather_unfit case.road.kind case.weather) ∷ []
 
 -- "19 .. after 9"
-abbrev pub field_refusals_with : List Refusal → Case → List Refusal
+abbrev pub field_refusals_with : List Condition → Case → List Condition
 field_refusals_with loads case = section_refusals case ++ (loads ++ weather_refusals case)
 
-unfoldable pub field_refusals : Case → List Refusal
+unfoldable pub field_refusals : Case → List Condition
 field_refusals case = field_refusals_with (load_refusals case) case
 
 abbrev pub RoadFits : Road → Type 0

@@ -78,6 +78,7 @@ impl Road {
         self.right_clearance.min(60) + self.counted_left_clearance()
     }
 
+    #[tactic(auto, using(crate::proofs::AdjustmentLaws::adjustment_ends), unfolding(crate::specs::Adjustments::total_clearance_adjustment))]
     pub(crate) fn total_clearance_adjustment(&self, lanes: u64) -> u64
         ensures { result ≡ total_clearance_adjustment lanes
             (total_clearance self.now.median self.now.right_clearance self.now.left_clearance) }
