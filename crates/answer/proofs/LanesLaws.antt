@@ -13,7 +13,7 @@ use Rattle.std.proofs.Common.{◌≡◌, refl, sym, ◌∙◌, true, cond, List,
 use Rattle.std.proofs.lemmas.Bool.{lt-ltb, le-ltb}
 use Rattle.numbers.proofs.SearchLaws.{least-passes, least-le-of, least-eq, least-none}
 use Rattle.checks.specs.declared.Refusal.{Refusal}
-use Rattle.checks.specs.Refusals.{Refusal as Condition, refuses, first_refusal, outside}
+use Rattle.checks.specs.Refusals.{Condition, refuses, first_refusal, outside}
 use Rattle.checks.specs.Numbers.{number}
 use Rattle.checks.proofs.RefusalLaws.{first_refusal-none, inside}
 use Rattle.checks.proofs.NumberLaws.{ok_unless-err, ok_unless-none, first_refusal-err}

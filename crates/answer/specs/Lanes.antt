@@ -10,7 +10,7 @@ use Rattle.numbers.specs.Search.{least}
 use Rattle.road.specs.declared.Case.{Case}
 use Rattle.curve.specs.Kinds.{most_lanes}
 use Rattle.checks.specs.declared.Refusal.{Refusal}
-use Rattle.checks.specs.Refusals.{Refusal as Condition, refuses, first_refusal, outside}
+use Rattle.checks.specs.Refusals.{Condition, refuses, first_refusal, outside}
 use Rattle.checks.specs.Numbers.{ok_unless}
 use Rattle.road.specs.Refusals.{field_refusals}
 use Rattle.road.specs.Cases.{with_lanes}

@@ -15,7 +15,7 @@
 use Rattle.std.specs.Prelude.{ℕ, ◌/◌, ◌≡◌, Bool, ◌||◌, ltb, length, replicate, Result, Ok, Err}
 use mathlib.Core.List.{List, [], ◌∷◌, flat_map}
 use Rattle.checks.specs.declared.Refusal.{Refusal}
-use Rattle.checks.specs.Refusals.{Refusal as Condition, refuses, first_refusal, unless_refused, outside}
+use Rattle.checks.specs.Refusals.{Condition, refuses, first_refusal, unless_refused, outside}
 use Rattle.checks.specs.Numbers.{refusal_number, ok_unless}
 use Rattle.text.specs.Buffer.{written}
 use Rattle.road.specs.declared.Case.{Case}

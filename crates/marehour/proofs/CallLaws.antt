@@ -14,9 +14,9 @@ use Rattle.std.proofs.Common.{◌≡◌, ℕ, zero, suc, ◌+◌, ◌≤◌, ◌
 use Rattle.std.proofs.Common.{refl, sym, ap, ◌∙◌, arith, lt_of_le_of_lt, lt-ltb, le-ltb, lit<, w32, to_z, of_z, SFits}
 use lib.IntN.{+ℤ_idl}
 use mir.ValLaws.{to_z_pos, to_z-of_z}
-use Rattle.checks.specs.declared.Refusal as checks
+use Rattle.checks.specs.declared.Refusal.{Refusal}
 use Rattle.checks.specs.declared.Refusal.TheVariants.{LineMalformed}
-use Rattle.checks.specs.Refusals.{Refusal, first_refusal}
+use Rattle.checks.specs.Refusals.{Condition, first_refusal}
 use Rattle.checks.proofs.RefusalLaws.{unless_refused-none, unless_refused-some}
 use Rattle.text.specs.Bytes.{newline}
 use Rattle.text.specs.Buffer.{written, Wrote}
@@ -66,7 +66,7 @@ module _ (count : List ℕ → ℕ) where
   refused-reply z n r old h e k = (handed-back z n h e ∙ sym (ap (handed_back count) k), sym (ap (λ x. content x old) k))
 
   -- a call over a line that was read, whatever the reply to a case and what refuses the lent memory
-  module _ (reply : Case → Reply) (r : Result Case checks.Refusal) (lent : List Refusal) (old : List ℕ) where
+  module _ (reply : Case → Reply) (r : Result Case Refusal) (lent : List Condition) (old : List ℕ) where
     pub call-lent : (z : ℤ) (n : ℕ) → n ≡ first_refusal lent → 0 < n → n ≤ 99 → z ≡ neg_ℤ (pos n)
         → Replied (to_z w32 (of_z w32 z)) old (line_call reply r lent) old
     call-lent z n k p h e =
@@ -107,7 +107,7 @@ unfolding buffer_refusals
 buffer-fits least room h = rw (le-ltb room least h)
 
 module _ (least : ℕ) (reply : Case → Reply) (line old : List ℕ) where
-  abbrev lent : List Refusal
+  abbrev lent : List Condition
   lent = buffer_refusals least (length old)
 
   pub call-short : (z : ℤ) → length old < least → z ≡ neg_ℤ (pos 17)
@@ -115,7 +115,7 @@ module _ (least : ℕ) (reply : Case → Reply) (line old : List ℕ) where
   call-short z h e = call-lent length reply (read_line line) lent old z 17 (buffer-short least (length old) h) (omega arith) (omega arith) e
 
   module _ (h : least ≤ length old) (z : ℤ) where
-    pub call-malformed : (r : checks.Refusal) → read_line line ≡ Err r → z ≡ neg_ℤ (pos 15)
+    pub call-malformed : (r : Refusal) → read_line line ≡ Err r → z ≡ neg_ℤ (pos 15)
         → Replied length (to_z w32 (of_z w32 z)) old (line_call reply (read_line line) lent) old
     call-malformed r e =
         call-refused length reply (read_line line) lent old (buffer-fits least (length old) h) z (read_line-refused line r e)

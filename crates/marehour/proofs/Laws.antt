@@ -4,7 +4,7 @@
 -- Assumes nothing.
 use Rattle.std.proofs.Common.{◌≡◌, ℕ, ◌*◌, ◌≤◌, ◌<◌, Ok, List, length, pos, neg_ℤ, refl, sym, ap, subst, ◌∙◌, ⊎_elim, arith}
 use Rattle.std.proofs.Common.{eq-zero-or-pos, zero-add}
-use Rattle.checks.specs.Refusals.{Refusal, first_refusal}
+use Rattle.checks.specs.Refusals.{Condition, first_refusal}
 use Rattle.checks.proofs.RefusalLaws.{unless_refused-none, unless_refused-some, unless_refused-by, first_refusal-le}
 use Rattle.text.specs.Buffer.{written}
 use Rattle.text.specs.Parts.{on_first, parts}
@@ -99,7 +99,7 @@ forecast-fit forecast case =
     }
 
 -- lent memory that is refused, a line that is refused with 15, or a case
-of-line : (least most last : ℕ) (reply : Case → Reply) (lent : List Refusal) → 15 ≤ last → first_refusal lent ≤ last
+of-line : (least most last : ℕ) (reply : Case → Reply) (lent : List Condition) → 15 ≤ last → first_refusal lent ≤ last
     → (first_refusal lent ≡ 0 → (case : Case) → WithinEnds least most last (reply case)) → (line : List ℕ)
     → WithinEnds least most last (line_call reply (read_line line) lent)
 of-line least most last reply lent k h ends line =

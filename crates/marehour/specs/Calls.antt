@@ -30,8 +30,8 @@
 --   survey_result a         what a survey call hands back
 -- Assumes nothing.
 use Rattle.std.specs.Prelude.{ℕ, ◌/◌, Result, Ok, Err, List, [], ◌∷◌, ◌++◌, ℤ, pos, neg_ℤ, ltb, length}
-use Rattle.checks.specs.declared.Refusal as checks
-use Rattle.checks.specs.Refusals.{Refusal, refuses, first_refusal, unless_refused}
+use Rattle.checks.specs.declared.Refusal.{Refusal}
+use Rattle.checks.specs.Refusals.{Condition, refuses, first_refusal, unless_refused}
 use Rattle.checks.specs.Numbers.{number, refusal_number}
 use Rattle.text.specs.Bytes.{newline}
 use Rattle.text.specs.Decimal.{decimal}
@@ -61,7 +61,7 @@ abbrev pub reply_of : ℕ → List ℕ → List ℕ → Reply
 reply_of number [] text = refusal number
 reply_of number (v ∷ vs) text = writes text
 
-abbrev pub answer_reply : Result Grade checks.Refusal → Reply
+abbrev pub answer_reply : Result Grade Refusal → Reply
 answer_reply a = reply_of (refusal_number a) (answers.values a) (answer_text a)
 
 -- "For the lanes question the answer is the one digit of the count and a newline"
@@ -69,7 +69,7 @@ unfoldable pub count_text : List ℕ → List ℕ
 count_text [] = []
 count_text (count ∷ vs) = decimal count ++ (newline ∷ [])
 
-abbrev pub count_reply : Result ℕ checks.Refusal → Reply
+abbrev pub count_reply : Result ℕ Refusal → Reply
 count_reply a = reply_of (refusal_number a) (lanes.values a) (count_text (lanes.values a))
 
 abbrev pub case_reply : Case → Reply
@@ -95,21 +95,21 @@ forecast_reply forecast case =
     let answer = forecast_answer case forecast in figures_reply (refusal_number answer) (forecasts.values answer)
 
 -- "15 malformed line", before 16, 20 and 1
-abbrev pub line_reply : (Case → Reply) → Result Case checks.Refusal → Reply
+abbrev pub line_reply : (Case → Reply) → Result Case Refusal → Reply
 line_reply reply (Ok case) = reply case
 line_reply reply (Err r) = refusal (number r)
 
 -- what the code finds of them: the case, or the first that refuses
-abbrev pub line_case : Result (Unit {0}) checks.Refusal → Result Case checks.Refusal → Result Case checks.Refusal
+abbrev pub line_case : Result (Unit {0}) Refusal → Result Case Refusal → Result Case Refusal
 line_case (Ok u) r = r
 line_case (Err refused) r = Err refused
 
 -- what refuses the lent memory comes first of all
-abbrev pub line_call : (Case → Reply) → Result Case checks.Refusal → List Refusal → Reply
+abbrev pub line_call : (Case → Reply) → Result Case Refusal → List Condition → Reply
 line_call reply r lent = unless_refused (first_refusal lent) (line_reply reply r) refusal
 
 -- "17 answer buffer under 64 bytes, first of all", and fewer numbers than there are figures
-unfoldable pub buffer_refusals : ℕ → ℕ → List Refusal
+unfoldable pub buffer_refusals : ℕ → ℕ → List Condition
 buffer_refusals least room = refuses 17 (ltb room least) ∷ []
 
 abbrev pub answer_call : List ℕ → ℕ → Reply
@@ -131,7 +131,7 @@ abbrev pub forecast_call : List ℕ → Forecast → ℕ → Reply
 forecast_call line forecast room = line_call (forecast_reply forecast) (read_line line) (buffer_refusals forecasts.figure_count room)
 
 -- a count, or minus a refusal's number
-abbrev pub hands_back : Result ℕ checks.Refusal → ℤ
+abbrev pub hands_back : Result ℕ Refusal → ℤ
 hands_back (Ok n) = pos n
 hands_back (Err r) = neg_ℤ (pos (number r))
 
@@ -159,5 +159,5 @@ result_of number [] = neg_ℤ (pos number)
 result_of number (v ∷ vs) = pos v
 
 -- the speed, or minus the refusal number
-abbrev pub survey_result : Result ℕ checks.Refusal → ℤ
+abbrev pub survey_result : Result ℕ Refusal → ℤ
 survey_result a = result_of (refusal_number a) (survey.values a)

@@ -18,8 +18,7 @@ use Rattle.std.specs.Float.Ieee.{up, down}
 use Rattle.numbers.specs.declared.Fraction.{Fraction}
 use Rattle.numbers.specs.Fraction.{over, whole, times, divided_by, rounded_down, rounded_up}
 use Rattle.checks.specs.declared.Refusal.{Refusal}
-use Rattle.checks.specs.Refusals as refusals
-use Rattle.checks.specs.Refusals.{refuses, first_refusal, outside}
+use Rattle.checks.specs.Refusals.{Condition, refuses, first_refusal, outside}
 use Rattle.checks.specs.Numbers.{ok_unless}
 use Rattle.survey.specs.declared.SurveyedSpeed.{SurveyedSpeed}
 use Rattle.survey.specs.declared.Survey.{Survey}
@@ -71,7 +70,7 @@ thousandths_in (thousandths (pos n)) = n
 thousandths_in (thousandths (negsuc n)) = 0
 
 -- "11 fewer than 100 cars; 12 flow of 1,000 or more; 13 not a finite number, or the rounded speed not 30,000 to 90,000"
-unfoldable pub survey_refusals : Survey → List refusals.Refusal
+unfoldable pub survey_refusals : Survey → List Condition
 survey_refusals survey =
     refuses 11 (ltb survey.cars 100)
     ∷ refuses 12 (leb 1000 survey.flow)
