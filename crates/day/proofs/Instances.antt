@@ -7,6 +7,7 @@ use mathlib.Core.List.{[], ◌∷◌, flat_map}
 use lib.ListN.{drop, get_or, replicate}
 use Rattle.numbers.specs.Division.{div_up}
 use Rattle.checks.specs.Figures.{Shown}
+use Rattle.checks.specs.Numbers.{in_order, refusal_of}
 use Rattle.curve.specs.Curves.{capacity, breakpoint}
 use Rattle.curve.specs.Weather.{adjusted_speed, adjusted_capacity, adjusted_breakpoint, curve_under}
 use Rattle.curve.specs.Speed.{fall_share_by, speed, shown_speed}
@@ -48,18 +49,18 @@ shown-2643 =
     )
 
 pub example-day : day_content example example_demands (replicate 38 9) ≡ example_day
-unfolding flat_map weather_unfit road_refusals load_refusals field_refusals refusals lent_unfit lent_refusals day_figures
+unfolding in_order refusal_of flat_map weather_unfit road_refusals load_refusals field_refusals refusals lent_unfit lent_refusals day_figures
 example-day = day-is-the-single-calls example example_demands (replicate 38 9) refl ∙ rw (shown-2000, shown-2643)
 
 -- a day in snow: its first answer is that of the boundary list
 snow-day : day_content (given_in_snow 2 0) snow_demands (replicate 24 9) ≡ snow_day
-unfolding flat_map weather_unfit road_refusals load_refusals field_refusals refusals lent_unfit lent_refusals day_figures
+unfolding in_order refusal_of flat_map weather_unfit road_refusals load_refusals field_refusals refusals lent_unfit lent_refusals day_figures
 snow-day =
     day-is-the-single-calls (given_in_snow 2 0) snow_demands (replicate 24 9) refl
     ∙ rw (ap (λ l. figures_of (get_or l 0 0) (drop 1 l)) snow-answer)
 
 pub instances-shown : Shown day_instances
-unfolding flat_map uncapped_by free_flow_speed_of weather_unfit road_refusals load_refusals field_refusals adjusted_speed speed_refusals refusals
+unfolding in_order refusal_of flat_map uncapped_by free_flow_speed_of weather_unfit road_refusals load_refusals field_refusals adjusted_speed speed_refusals refusals
     lent_unfit lent_refusals day_figures day_content day_instances
 instances-shown =
     let day = day-is-the-single-calls in (

@@ -2,6 +2,7 @@
 --   day-is-the-single-calls, position-holds-the-answer, figures-tell-the-answer, position-numbers, no-better-with-more-demand
 --   past-the-demands-kept, refused-day-changes-nothing, lent-fits-exactly
 -- Assumes nothing.
+use Rattle.std.proofs.Common.{Result, Ok, Err}
 use mathlib.Core.Path.{◌≡◌, refl, sym, ap, ◌∙◌}
 use mathlib.Core.Logic.{◌⊎◌, ⊎_elim, inr}
 use mathlib.Core.Bool.{cond}
@@ -15,6 +16,9 @@ use lib.Dec.{ltb, eqb}
 use lib.ListN.{length, drop, get_or, length-append, length-drop}
 use lib.Seq.{drop_at}
 use Rattle.numbers.proofs.BoolLaws.{or-false}
+use Rattle.checks.specs.declared.Refusal.{Refusal}
+use Rattle.checks.specs.Numbers.{refusal_of}
+use Rattle.checks.proofs.NumberLaws.{refusal_of-number}
 use Rattle.checks.specs.Refusals.{first_refusal, unless_refused, outside}
 use Rattle.checks.proofs.RefusalLaws.{none-met, none-of, within, inside, unless_refused-some}
 use Rattle.text.specs.Buffer.{written}
@@ -25,7 +29,7 @@ use Rattle.road.specs.Cases.{with_demand}
 use Rattle.road.specs.Refusals.{greatest_demand}
 use Rattle.method.specs.Refusals.{refusal}
 use Rattle.method.proofs.RefusalLaws.{refusal-within, refusal-above, accepted-with_demand}
-use Rattle.answer.specs.declared.evaluate.Answer.{Answer}
+use Rattle.answer.specs.declared.evaluate.Grade.{Grade}
 use Rattle.answer.specs.Answers.{answer_to}
 use Rattle.answer.specs.Promises.{letter_in}
 use Rattle.answer.proofs.AnswerLaws.{answer_to-number}
@@ -39,7 +43,7 @@ use Rattle.day.proofs.DayLaws.{number-first, letter-second, day_figures-length, 
 pub day-is-the-single-calls : DayIsTheSingleCalls
 unfolding written
 day-is-the-single-calls case demands old z =
-    sym (day-answered case demands old z).1
+    sym (day-answered case demands old z)
     ∙ ap (λ n. day_figures case demands ++ drop n old) (zero-add (length (day_figures case demands)) ∙ day_figures-length case demands)
 
 pub position-holds-the-answer : PositionHoldsTheAnswer
@@ -62,28 +66,24 @@ letter_of-number Letter.D = (refl, omega arith)
 letter_of-number Letter.E = (refl, omega arith)
 letter_of-number Letter.F = (refl, omega arith)
 
-answer_of : List ℕ → Answer
+answer_of : List ℕ → Result Grade Refusal
 answer_of ns =
-    cond (eqb (get_or ns 1 0) 0) (Answer.Refused (get_or ns 0 0))
-    (Answer.Graded record {
+    cond (eqb (get_or ns 1 0) 0) (Err (refusal_of (get_or ns 0 0)))
+    (Ok record {
       letter = letter_of (get_or ns 1 0);
       free_flow_speed = get_or ns 2 0;
       capacity = get_or ns 3 0;
       flow_rate = get_or ns 4 0;
       speed = get_or ns 5 0;
       density = get_or ns 6 0;
-      volume_a = get_or ns 7 0;
-      volume_b = get_or ns 8 0;
-      volume_c = get_or ns 9 0;
-      volume_d = get_or ns 10 0;
-      volume_e = get_or ns 11 0;
+      volumes = record { a = get_or ns 7 0; b = get_or ns 8 0; c = get_or ns 9 0; d = get_or ns 10 0; e = get_or ns 11 0 };
     })
 
-answer_of-figures : (a : Answer) → answer_of (answer_figures a) ≡ a
+answer_of-figures : (a : Result Grade Refusal) → answer_of (answer_figures a) ≡ a
 unfolding answer_of
-answer_of-figures (Answer.Graded g) =
+answer_of-figures (Ok g) =
     let letter = letter_of-number g.letter in simp (ne_eqb (letter_number g.letter) 0 (λ e. omega (arith, letter.1)), letter.0)
-answer_of-figures (Answer.Refused n) = refl
+answer_of-figures (Err r) = ap Err (refusal_of-number r)
 
 pub figures-tell-the-answer : FiguresTellTheAnswer
 figures-tell-the-answer a b e = sym (answer_of-figures a) ∙ ap answer_of e ∙ answer_of-figures b
@@ -156,11 +156,11 @@ past-the-demands-kept case demands old =
       ap length whole ∙ length-append (day_figures case demands) _
           ∙ omega (arith, day_figures-length case demands, length-drop (figure_count * length demands) old, lent-room _ _ z),
     ))
-    (λ p. let same = (day-refused case demands old _ refl p).1 in rw (sym same) (refl, refl))
+    (λ p. let same = day-refused case demands old p in rw (sym same) (refl, refl))
 
 pub refused-day-changes-nothing : RefusedDayChangesNothing
 refused-day-changes-nothing case demands old unfit =
-    by-lent _ (length demands) (length old) (λ z. absurd (unfit z)) (λ p. sym (day-refused case demands old _ refl p).1)
+    by-lent _ (length demands) (length old) (λ z. absurd (unfit z)) (λ p. sym (day-refused case demands old p))
 
 pub lent-fits-exactly : LentFitsExactly
 unfolding lent_unfit lent_refusals

@@ -1,57 +1,45 @@
 -- What the demands on a case share (specs/Shared).
---   accepted-within, accepted-above   a case that is accepted with no demand: with its demand it gets its grade, or 7
---   refused-within, refused-above     one that is not: with its demand it gets the same number, or 7 unless that comes before it
---   ready-within                      the terms of the case with no demand are those of the case
---   told                              what is shared, by what it is told to be
---   shared-with_demand                what the demands on a case share is the same whatever its own is
+--   refused-number    the number of a case that was checked and refused
+--   accepted-within, accepted-above   a case that is accepted with no demand: with one up to the greatest it gets its grade, with a greater one 7
+--   refused-with      one that is not: with any demand it gets the same refusal, or 7 where that comes before it
 -- Assumes nothing.
-use mathlib.Core.Path.{◌≡◌, sym, subst, ◌∙◌}
-use mathlib.Core.List.{List}
-use Prim.Native.Nat.{ℕ, ◌≤◌, ◌<◌, min}
-use native.Mathlib.Omega.{arith}
+use Rattle.std.proofs.Common.{◌≡◌, ap, lit≤, sym, ◌∙◌, ◌≤◌, ◌<◌, min, Ok, Err, arith}
+use Rattle.std.proofs.lemmas.Bool.{lt-ltb, le-ltb}
+use Rattle.std.proofs.Math.Nat.{le_trans}
+use native.Mathlib.Decide.{dec_le}
+use Rattle.checks.specs.declared.Refusal.{Refusal}
+use Rattle.checks.specs.Numbers.{number, refusal_number}
 use Rattle.checks.proofs.RefusalLaws.{unless_refused-some}
+use Rattle.checks.proofs.NumberLaws.{number-above, refusal_number-ok_unless, ok_unless-ok, ok_unless-err}
 use Rattle.road.specs.declared.Case.{Case}
 use Rattle.road.specs.Cases.{with_demand}
 use Rattle.road.specs.Refusals.{greatest_demand}
-use Rattle.method.specs.declared.assess.CaseTerms.{CaseTerms}
 use Rattle.method.specs.Refusals.{refusal, Accepted}
-use Rattle.method.specs.Flow.{heavy_factor_of}
-use Rattle.method.specs.Assess.{CaseReady}
-use Rattle.method.proofs.RefusalLaws.{refusal-within, refusal-above}
-use Rattle.answer.specs.declared.evaluate.Answer.TheVariants as Answer
+use Rattle.method.specs.Checked.{case_curve, checked}
+use Rattle.method.proofs.RefusalLaws.{refusal-le, refusal-within, refusal-above}
+use Rattle.answer.specs.declared.evaluate.Grade.{Grade}
 use Rattle.answer.specs.Answers.{graded, answer_to}
-use Rattle.answer.proofs.AnswerLaws.{answer_to-accepted, answer_to-refused}
-use Rattle.answer.proofs.VolumeLaws.{service_volumes-with_demand}
-use Rattle.day.specs.declared.shared.Shared.{Shared}
-use Rattle.day.specs.Shared.{SharedBy}
+use Rattle.day.specs.Refused.{number_with}
+
+pub refused-number : (case : Case) (r : Refusal) → checked case ≡ Err r → number r ≡ refusal case
+refused-number case r e =
+    sym (ap refusal_number e) ∙ refusal_number-ok_unless (refusal case) (case_curve case) (le_trans (refusal-le case) (lit≤ tt))
 
 module _ (case : Case) where
-  pub accepted-within : Accepted (with_demand case 0) → case.demand ≤ greatest_demand → answer_to case ≡ Answer.Graded (graded case)
-  accepted-within a h = answer_to-accepted case (refusal-within case h ∙ a)
+  module _ (a : Accepted (with_demand case 0)) where
+    pub accepted-within : (grade : Grade) → grade ≡ graded case → case.demand ≤ greatest_demand → Ok grade ≡ answer_to case
+    accepted-within grade e h = ok_unless-ok (refusal case) grade (graded case) (refusal-within case h ∙ a) e
 
-  pub accepted-above : Accepted (with_demand case 0) → greatest_demand < case.demand → answer_to case ≡ Answer.Refused 7
-  accepted-above a h = answer_to-refused case 7 (rw a at (refusal-above case h)) (omega arith)
+    pub accepted-above : greatest_demand < case.demand → Err Refusal.DemandTooLarge ≡ answer_to case
+    accepted-above h = ok_unless-err Refusal.DemandTooLarge (refusal case) (graded case) (sym (rw a at (refusal-above case h)))
 
-  module _ (n : ℕ) (e : n ≡ refusal (with_demand case 0)) (p : 0 < n) where
-    pub refused-within : case.demand ≤ greatest_demand → answer_to case ≡ Answer.Refused n
-    refused-within h = answer_to-refused case n (refusal-within case h ∙ sym e) p
-
-    pub refused-above : greatest_demand < case.demand → answer_to case ≡ Answer.Refused (min n 7)
-    refused-above h =
-        answer_to-refused case (min n 7) ((rw (sym e) at (refusal-above case h)) ∙ unless_refused-some n 7 (λ k. min k 7) p) (omega arith)
-
-  pub ready-within : (terms : CaseTerms) (table : List ℕ) → CaseReady (with_demand case 0) terms table → case.demand ≤ greatest_demand
-      → CaseReady case terms table
-  unfolding heavy_factor_of
-  ready-within terms table r h =
-      record { accepted = refusal-within case h ∙ r.accepted; own-terms = r.own-terms; read = r.read }
-
-pub told : (case : Case) (shared : Shared) (table : List ℕ) → SharedBy case shared table → (found : Shared) → shared ≡ found
-    → SharedBy case found table
-told case shared table s found e = subst (λ x. SharedBy case x table) e s
-
-pub shared-with_demand : (case : Case) (demand : ℕ) (shared : Shared) (table : List ℕ) → SharedBy case shared table
-    → SharedBy (with_demand case demand) shared table
-shared-with_demand case demand (Shared.Accepted volumes terms) table s =
-    (s.0, s.1 ∙ sym (service_volumes-with_demand case demand))
-shared-with_demand case demand (Shared.Refused number) table s = s
+  pub refused-with : (r s : Refusal) → number r ≡ refusal (with_demand case 0) → number s ≡ number_with (number r) case.demand
+      → Err s ≡ answer_to case
+  refused-with r s e f = ok_unless-err s (refusal case) (graded case) (f ∙ by (dec_le case.demand greatest_demand))
+    where
+      by : Dec (case.demand ≤ greatest_demand) → number_with (number r) case.demand ≡ refusal case
+      by (yes h) = rw (le-ltb greatest_demand case.demand h) (e ∙ sym (refusal-within case h))
+      by (no h) =
+          let over : greatest_demand < case.demand = omega arith in
+          rw (lt-ltb greatest_demand case.demand over)
+          (sym ((rw (sym e) at (refusal-above case over)) ∙ unless_refused-some (number r) 7 (λ k. min k 7) (number-above r)))

@@ -18,7 +18,8 @@ use Rattle.road.specs.declared.Case.{Case}
 use Rattle.road.specs.Cases.{loaded, with_lanes}
 use Rattle.method.specs.Boundary.{example, given, two_lanes}
 use Rattle.answer.specs.Boundary.{given_in_snow, refused_by19}
-use Rattle.day.specs.Days.{day_answer, day_content, refusal_number, values}
+use Rattle.checks.specs.Numbers.{refusal_number}
+use Rattle.day.specs.Days.{day_answer, day_content, values}
 
 abbrev pub at2000 : List ℕ
 at2000 = 0 ∷ 3 ∷ 60783 ∷ 230783 ∷ 1196 ∷ 60783 ∷ 197 ∷ 1117 ∷ 1829 ∷ 2642 ∷ 3360 ∷ 3858 ∷ []

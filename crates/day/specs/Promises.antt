@@ -14,10 +14,11 @@
 --   RefusedDayChangesNothing     18 leaves every number as it was
 --   LentFitsExactly              18 refuses exactly no demand, more than 24, and room for fewer answers
 -- Assumes nothing.
-use Rattle.std.specs.Prelude.{◌≡◌, ◌↔◌, ◌⊎◌, List, ◌++◌, ℕ, ◌*◌, ◌≤◌, ◌<◌, length, take, drop, get_or}
+use Rattle.std.specs.Prelude.{◌≡◌, ◌↔◌, ◌⊎◌, List, ◌++◌, ℕ, ◌*◌, ◌≤◌, ◌<◌, length, take, drop, get_or, Result}
 use Rattle.road.specs.declared.Case.{Case}
 use Rattle.road.specs.Cases.{with_demand}
-use Rattle.answer.specs.declared.evaluate.Answer.{Answer}
+use Rattle.checks.specs.declared.Refusal.{Refusal}
+use Rattle.answer.specs.declared.evaluate.Grade.{Grade}
 use Rattle.road.specs.Refusals.{greatest_demand}
 use Rattle.method.specs.Refusals.{refusal}
 use Rattle.answer.specs.Answers.{answer_to}
@@ -38,7 +39,7 @@ PositionHoldsTheAnswer =
     → position i (day_content case demands old) ≡ answer_figures (answer_to (with_demand case (get_or demands i 0)))
 
 abbrev pub FiguresTellTheAnswer : Type 0
-FiguresTellTheAnswer = (a b : Answer) → answer_figures a ≡ answer_figures b → a ≡ b
+FiguresTellTheAnswer = (a b : Result Grade Refusal) → answer_figures a ≡ answer_figures b → a ≡ b
 
 abbrev pub number_at : ℕ → List ℕ → ℕ
 number_at i ns = get_or (position i ns) 0 0

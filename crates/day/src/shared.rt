@@ -1,40 +1,59 @@
-// What the demands on a case share, worked out once a call, and the answer with each from it.
-//   Shared        of a case that is accepted with no demand its service volumes and terms, else its refusal
-//   answer_with   the answer to the case with its demand
+// What the demands on a case share, worked out once a call.
+//   Shared           of a case that is accepted with no demand: its service volumes, and the case with what its demands have in common
+//   Shared::of       that, or the case's refusal
+//   answer_with      the answer with a demand in the place of the case's own
+//   refusal_with     the refusal with it, of a case that is refused with no demand
 ghost use Rattle.std.specs.Prelude.{◌≡◌};
+ghost use Rattle.checks.specs.Numbers.{number};
+ghost use Rattle.road.specs.Cases.{with_demand};
+ghost use Rattle.answer.specs.Volumes.{service_volumes};
 ghost use Rattle.answer.specs.Answers.{answer_to};
-ghost use Rattle.day.specs.Shared.{SharedBy};
+ghost use Rattle.day.specs.Refused.{number_with};
 
 use answer::evaluate;
-use answer::evaluate::{Answer, Volumes};
-use method::assess;
-use method::assess::CaseTerms;
+use answer::evaluate::{Grade, Volumes};
+use checks::Refusal;
+use method::assess::AcceptedCase;
+use method::checked;
 use road::Case;
-use road::refusal::{DEMAND_TOO_LARGE, GREATEST_DEMAND};
+use road::refusal::GREATEST_DEMAND;
 
-#[derive(Clone, Copy)]
-pub enum Shared {
-    Accepted(Volumes, CaseTerms),
-    Refused(u64),
+#[derive(Clone, Copy, Debug, PartialEq, Eq)]
+pub(crate) struct Shared {
+    pub accepted: AcceptedCase,
+    pub volumes: Volumes,
+    ghost own_volumes: { volumes ≡ service_volumes accepted.case },
 }
 
-pub(crate) fn answer_with(case: Case, shared: Shared, table: &[u32]) -> Answer
-    requires { SharedBy case shared table.now }
-    ensures { result ≡ answer_to case }
-{
-    match shared {
-        Shared::Accepted(volumes, terms) => {
-            if GREATEST_DEMAND < case.demand {
-                return Answer::Refused(DEMAND_TOO_LARGE);
-            }
-            Answer::Graded(evaluate::grade_of(assess::measures_with(case, terms, table), volumes))
-        }
-        Shared::Refused(number) => {
-            if GREATEST_DEMAND < case.demand {
-                // 1 to 6 come before 7
-                return Answer::Refused(numbers::lesser(number, DEMAND_TOO_LARGE));
-            }
-            Answer::Refused(number)
-        }
+impl Shared {
+    ghost use Rattle.day.specs.Shared.{SharedBy};
+
+    pub(crate) fn of(case: Case) -> Result<Shared, Refusal>
+        ensures { SharedBy case result }
+    {
+        let undemanded = case.with_demand(0);
+        let curve = checked::check(&undemanded)?;
+        let accepted = AcceptedCase::new(undemanded, curve);
+        let volumes = evaluate::service_volumes(&accepted);
+        Ok(Shared { accepted, volumes })
     }
+
+    pub(crate) fn answer_with(&self, demand: u64) -> Result<Grade, Refusal>
+        ensures { result ≡ answer_to (with_demand self.now.accepted.case demand) }
+    {
+        if GREATEST_DEMAND < demand {
+            return Err(Refusal::DemandTooLarge);
+        }
+        Ok(Grade::new(self.accepted.measures_at(demand), self.volumes))
+    }
+}
+
+// The refusal of a case with a demand, by the one with no demand: 1 to 6 come before 7.
+pub(crate) fn refusal_with(refusal: Refusal, demand: u64) -> Refusal
+    ensures { number result ≡ number_with (number refusal) demand }
+{
+    if GREATEST_DEMAND < demand && Refusal::DemandTooLarge.number() < refusal.number() {
+        return Refusal::DemandTooLarge;
+    }
+    refusal
 }

@@ -1,52 +1,84 @@
--- A number by its digits (specs/Fields).
---   more, small   a number of i digits, one digit more, and that 64 bits hold it
---   number-none, number-long, number-zero, number-bad   no digit, too many, a leading zero, a byte that is none: malformed
---   number-one, number-more   one digit; more with no leading zero
+-- A number read digit by digit (specs/Fields, specs/Places).
+--   fits-more, fits-word    a number of i digits with one digit more; 64 bits hold it with another digit
+--   DigitsRead bs i n       the first i bytes of bs are digits of its first field, and spell n
+--   read-none, read-more    no digit is read; one more is
+--   number-bad, number-long   a byte that is no digit follows, or a digit too many: malformed
+--   number-all              no byte of the field follows: it is the number, unless there is no digit or a leading zero
 -- Assumes nothing.
-use mathlib.Core.Path.{◌≡◌, refl}
-use mathlib.Core.Bool.{Bool, true, false, cond, ◌||◌}
-use mathlib.Core.List.{List}
-use Prim.Native.Nat.{ℕ, ◌+◌, ◌*◌, ◌^◌, ◌≤◌, ◌<◌}
-use native.Mathlib.Nat.{pow-suc, pow-le-pow_right, lt_of_lt_of_le}
-use native.Mathlib.Numerals.{add-one}
-use native.Mathlib.Omega.{arith}
-use lib.ListN.{length, get_or}
-use borrow.Author.Tests.{lt-ltb, le-ltb, ne_eqb}
-use Rattle.checks.specs.Refusals.{outside}
-use Rattle.lines.specs.declared.field.FieldValue.TheVariants.{Malformed}
-use Rattle.lines.specs.Fields.{spelled, leading_zero, number}
+use Rattle.std.proofs.Common.{◌≡◌, ℕ, suc, ◌+◌, ◌-◌, ◌*◌, ◌^◌, ◌≤◌, ◌<◌, Bool, true, false, cond, ◌||◌, ◌⊎◌, Some, None, option_map, List, [], ◌∷◌}
+use Rattle.std.proofs.Common.{sym, length, get_or, take, drop, eqb, refl, ◌∙◌, arith, add-one, pow-suc, lt_of_lt_of_le, drop-cons, ne_eqb, eq-eqb}
+use Rattle.std.proofs.Common.{length-take-le, drop_of_length-le, ⊎_elim, eq-or-lt_of_le}
+use Rattle.std.proofs.lemmas.Grind.{common_steps}
+use native.Mathlib.Nat.{pow-le-pow_right}
+use Rattle.text.specs.Bytes.{tab}
+use Rattle.text.specs.Parts.{count_before}
+use Rattle.text.proofs.PartsLaws.{count_before-le}
+use Rattle.lines.specs.declared.field.FieldRead.{FieldRead}
+use Rattle.lines.specs.Fields.{digits, digit, spelled, leading_zero, number, field_as}
+use Rattle.lines.specs.Places.{first_field, read_as}
 
-pub more : (n d i : ℕ) → n < 10 ^ i → d ≤ 9 → 10 * n + d < 10 ^ (i + 1)
-more n d i h k = rw (add-one i) (omega (arith, pow-suc 10 i))
+pub fits-more : (n d i : ℕ) → n < 10 ^ i → d ≤ 9 → 10 * n + d < 10 ^ (i + 1)
+fits-more n d i h k = rw (add-one i) (omega (arith, pow-suc 10 i))
 
-pub small : (n i : ℕ) → n < 10 ^ i → i ≤ 18 → n < 1000000000000000000
-small n i h k = lt_of_lt_of_le h (pow-le-pow_right {n = 10} (omega arith) k)
+pub fits-word : (n i : ℕ) → n < 10 ^ i → i < 18 → 10 * n + 9 < 2 ^ 64
+fits-word n i h k = omega (arith, lt_of_lt_of_le h (pow-le-pow_right {n = 10} (omega arith) {j = 17} (omega arith)))
 
-module _ (k : ℕ) (bs : List ℕ) where
-  pub number-none : length bs ≡ 0 → number k bs ≡ Malformed
-  unfolding number
-  number-none h = simp (lt-ltb (length bs) 1 (omega arith))
+pub record DigitsRead (bs : List ℕ) (i n : ℕ) : Type 0 where
+  pub same-field : i + count_before tab (drop i bs) ≡ count_before tab bs
+  pub spells : spelled 0 (first_field bs) ≡ spelled n (first_field (drop i bs))
 
-  pub number-long : k < length bs → number k bs ≡ Malformed
-  unfolding number
-  number-long h = simp (le-ltb (length bs) 1 (omega arith), lt-ltb k (length bs) h)
+pub read-none : (bs : List ℕ) → DigitsRead bs 0 0
+read-none bs = record { same-field = omega arith; spells = refl }
 
-  pub number-zero : 1 < length bs → length bs ≤ k → get_or bs 0 0 ≡ 48 → number k bs ≡ Malformed
-  unfolding number
-  number-zero h l e = simp (le-ltb (length bs) 1 (omega arith), le-ltb k (length bs) l, lt-ltb 1 (length bs) h, e)
+number-by : (k n : ℕ) (bs : List ℕ) → length bs ≤ k → spelled 0 bs ≡ Some n
+    → number k bs ≡ cond (eqb (length bs) 0 || leading_zero bs) None (Some n)
+unfolding number
+number-by k n bs few e = grind (arith, common_steps)
 
-  pub number-bad : spelled 0 bs ≡ Malformed → number k bs ≡ Malformed
-  unfolding number
-  number-bad e = rw e (either (outside 1 k (length bs) || leading_zero bs))
-    where
-      either : (b : Bool) → cond b Malformed Malformed ≡ Malformed
-      either true = refl
-      either false = refl
+module _ (bs : List ℕ) (i n : ℕ) (r : DigitsRead bs i n) where
+  -- a byte of the field follows
+  module _ (h : i < length bs) (other : get_or bs i 0 ≡ tab → ⊥) where
+    counted : count_before tab (drop i bs) ≡ suc (count_before tab (drop (i + 1) bs))
+    unfolding count_before
+    counted = rw (add-one i, drop-cons bs i 0 h, ne_eqb (get_or bs i 0) tab other)
 
-  pub number-one : length bs ≡ 1 → 1 ≤ k → number k bs ≡ spelled 0 bs
-  unfolding number
-  number-one h l = simp (h, le-ltb k 1 l)
+    next : first_field (drop i bs) ≡ get_or bs i 0 ∷ first_field (drop (i + 1) bs)
+    next = rw (counted, add-one i, drop-cons bs i 0 h)
 
-  pub number-more : 1 < length bs → length bs ≤ k → (get_or bs 0 0 ≡ 48 → ⊥) → number k bs ≡ spelled 0 bs
-  unfolding number
-  number-more h l n = simp (le-ltb (length bs) 1 (omega arith), le-ltb k (length bs) l, lt-ltb 1 (length bs) h, ne_eqb (get_or bs 0 0) 48 n)
+    pub read-more : digit (get_or bs i 0) ≡ true → DigitsRead bs (i + 1) (10 * n + (get_or bs i 0 - 48))
+    unfolding spelled
+    read-more d = record { same-field = omega (arith, r.same-field, counted); spells = r.spells ∙ rw (next, d) }
+
+    -- it is no digit, or a digit too many
+    pub read-stops : (k : ℕ) (d : Bool) → d ≡ digit (get_or bs i 0) → (d ≡ false) ⊎ (i ≡ k) → None ≡ read_as (digits k) bs
+    unfolding spelled number field_as
+    read-stops k d e s =
+        let l : i < length (first_field bs) =
+        omega (arith, r.same-field, counted, length-take-le (count_before tab bs) bs (count_before-le tab bs)) in
+        ⊎_elim
+        (λ f. let none : digit (get_or bs i 0) ≡ false = sym e ∙ f in rw (r.spells, next, none) (grind (arith, common_steps)))
+        (λ m. grind (arith, common_steps)) s
+
+  -- none follows
+  module _ (h : i ≤ length bs) (t : i < length bs → get_or bs i 0 ≡ tab) where
+    uncounted : count_before tab (drop i bs) ≡ 0
+    unfolding count_before
+    uncounted =
+        ⊎_elim (λ e. rw (drop_of_length-le bs {i = i} (omega arith))) (λ l. rw (drop-cons bs i 0 l, eq-eqb (get_or bs i 0) tab (t l)))
+        (eq-or-lt_of_le h)
+
+    counts-all : count_before tab bs ≡ i
+    counts-all = omega (arith, r.same-field, uncounted)
+
+    pub read-all : (k : ℕ) → i ≤ k
+        → read_as (digits k) bs ≡ cond (eqb (length (take i bs)) 0 || leading_zero (take i bs)) None (Some (record { value = n; length = i }))
+    unfolding spelled field_as
+    read-all k few =
+        let nothing : first_field (drop i bs) ≡ [] = rw uncounted in
+        let spells : spelled 0 (first_field bs) ≡ Some n = r.spells ∙ rw nothing in
+        rw (counts-all, number-by k n (take i bs) (rw (length-take-le i bs h) few) (rw counts-all at spells))
+        (map-cond (eqb (length (take i bs)) 0 || leading_zero (take i bs)))
+      where
+        map-cond : (b : Bool) → option_map {U = FieldRead} (λ v. record { value = v; length = i }) (cond b None (Some n)) ≡ cond b None (Some (record { value = n; length = i }))
+        map-cond true = refl
+        map-cond false = refl

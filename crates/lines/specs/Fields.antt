@@ -10,18 +10,17 @@
 --   number k bs        the number of one to k digits that bs is
 --   one_of b ls        b is one of ls
 --   letter ls bs       the letter, one of ls, that bs is
---   field_as f bs      the value that bs has as field f
+--   field_as f bs      the value that bs has as field f, none where it is malformed
 --   joined v vs        a field's value before those of the fields after it
 --   values_of fs ps    the values of the parts ps as the fields fs, where there is a part for each and all are well formed
 -- A letter's value is its byte.
 -- Assumes nothing.
-use Rattle.std.specs.Prelude.{ℕ, ◌+◌, ◌-◌, ◌*◌, Bool, false, cond, ◌&&◌, ◌||◌, List, [], ◌∷◌, ◌++◌, eqb, leb, ltb, length, get_or}
+use Rattle.std.specs.Prelude.{ℕ, ◌+◌, ◌-◌, ◌*◌, Bool, cond, ◌&&◌, ◌||◌, Option, Some, None, List, [], ◌∷◌, ◌++◌, eqb, leb, ltb, length}
+use Rattle.std.specs.Prelude.{get_or}
+use Rattle.std.specs.List.{list_any}
 use Prim.Native.Char.{code}
-use Rattle.std.proofs.Math.Option.{Option, none, some}
 use Rattle.text.specs.Bytes.{bytes_of}
 use Rattle.checks.specs.Refusals.{outside}
-use Rattle.lines.specs.declared.field.FieldValue.{FieldValue}
-use Rattle.lines.specs.declared.field.FieldValue.TheVariants.{Value, Malformed}
 
 pub data Field : Type 0 where
   letters : List ℕ → Field
@@ -51,35 +50,34 @@ completed ps = cond (eqb (length ps) 13) (ps ++ clear_factors) ps
 abbrev pub digit : ℕ → Bool
 digit b = leb (code "0") b && leb b (code "9")
 
-unfoldable pub spelled : ℕ → List ℕ → FieldValue
-spelled n [] = Value n
-spelled n (b ∷ bs) = cond (digit b) (spelled (10 * n + (b - code "0")) bs) Malformed
+unfoldable pub spelled : ℕ → List ℕ → Option ℕ
+spelled n [] = Some n
+spelled n (b ∷ bs) = cond (digit b) (spelled (10 * n + (b - code "0")) bs) None
 
 abbrev pub leading_zero : List ℕ → Bool
 leading_zero bs = ltb 1 (length bs) && eqb (get_or bs 0 0) (code "0")
 
 -- "one to five digits with no leading zero, save 0 itself"
-unfoldable pub number : ℕ → List ℕ → FieldValue
-number k bs = cond (outside 1 k (length bs) || leading_zero bs) Malformed (spelled 0 bs)
+unfoldable pub number : ℕ → List ℕ → Option ℕ
+number k bs = cond (outside 1 k (length bs) || leading_zero bs) None (spelled 0 bs)
 
-unfoldable pub one_of : ℕ → List ℕ → Bool
-one_of b [] = false
-one_of b (l ∷ ls) = eqb l b || one_of b ls
+abbrev pub one_of : ℕ → List ℕ → Bool
+one_of b ls = list_any (λ l. eqb l b) ls
 
-unfoldable pub letter : List ℕ → List ℕ → FieldValue
-letter ls bs = cond (eqb (length bs) 1 && one_of (get_or bs 0 0) ls) (Value (get_or bs 0 0)) Malformed
+unfoldable pub letter : List ℕ → List ℕ → Option ℕ
+letter ls bs = cond (eqb (length bs) 1 && one_of (get_or bs 0 0) ls) (Some (get_or bs 0 0)) None
 
-unfoldable pub field_as : Field → List ℕ → FieldValue
+unfoldable pub field_as : Field → List ℕ → Option ℕ
 field_as (letters ls) bs = letter ls bs
 field_as (digits k) bs = number k bs
 
-abbrev pub joined : FieldValue → Option (List ℕ) → Option (List ℕ)
-joined Malformed vs = none
-joined (Value v) none = none
-joined (Value v) (some vs) = some (v ∷ vs)
+abbrev pub joined : Option ℕ → Option (List ℕ) → Option (List ℕ)
+joined None vs = None
+joined (Some v) None = None
+joined (Some v) (Some vs) = Some (v ∷ vs)
 
 unfoldable pub values_of : List Field → List (List ℕ) → Option (List ℕ)
-values_of [] [] = some []
-values_of [] (p ∷ ps) = none
-values_of (f ∷ fs) [] = none
+values_of [] [] = Some []
+values_of [] (p ∷ ps) = None
+values_of (f ∷ fs) [] = None
 values_of (f ∷ fs) (p ∷ ps) = joined (field_as f p) (values_of fs ps)

@@ -5,17 +5,17 @@
 --   OtherCountsAreMalformed   fewer than 13 fields, 14, or more than 15 are malformed
 --   ValuesAreTheFields   the values of a line that is read are those of its fields, in their order
 --   DemandOnALine        no line can hold a demand that 7 refuses
---   RefusalHasItsNumber  the number of a refusal is the one that it holds, and it has no values
+--   RefusalHasItsNumber  the number of a refused line is the documents' number of its refusal, and it has no values
 -- Assumes nothing.
-use Rattle.std.specs.Prelude.{ℕ, ◌≤◌, ◌≡◌, List, [], ◌++◌, length}
-use Rattle.std.proofs.Math.Option.{some}
+use Rattle.std.specs.Prelude.{ℕ, ◌≤◌, ◌≡◌, Some, Ok, Err, List, [], ◌++◌, length}
 use Rattle.text.specs.Bytes.{bytes_of, tab}
 use Rattle.text.specs.Parts.{parts}
 use Rattle.road.specs.declared.Case.{Case}
 use Rattle.road.specs.Refusals.{greatest_demand}
-use Rattle.lines.specs.declared.read.LineRead.TheVariants as LineRead
+use Rattle.checks.specs.declared.Refusal.{Refusal}
+use Rattle.checks.specs.Numbers.{number, refusal_number}
 use Rattle.lines.specs.Fields.{layout, completed, values_of}
-use Rattle.lines.specs.Reading.{read_values, read_line, refusal_number, values}
+use Rattle.lines.specs.Reading.{read_values, read_line, values}
 
 abbrev pub LengthNeverDecidesAlone : Type 0
 LengthNeverDecidesAlone = (bs : List ℕ) → read_line bs ≡ read_values (values_of layout (completed (parts tab bs)))
@@ -25,7 +25,7 @@ abbrev pub longest_well_formed : ℕ
 longest_well_formed = 73
 
 abbrev pub WellFormedLinesAreShort : Type 0
-WellFormedLinesAreShort = (bs : List ℕ) (case : Case) → read_line bs ≡ LineRead.Case case → length bs ≤ longest_well_formed
+WellFormedLinesAreShort = (bs : List ℕ) (case : Case) → read_line bs ≡ Ok case → length bs ≤ longest_well_formed
 
 -- "Lines of 13 fields mean 1,000 for both"
 abbrev pub ClearWeatherMayBeLeftOut : Type 0
@@ -34,14 +34,14 @@ ClearWeatherMayBeLeftOut =
 
 abbrev pub OtherCountsAreMalformed : Type 0
 OtherCountsAreMalformed =
-    (bs : List ℕ) → (length (parts tab bs) ≡ 13 → ⊥) → (length (parts tab bs) ≡ 15 → ⊥) → read_line bs ≡ LineRead.Refused 15
+    (bs : List ℕ) → (length (parts tab bs) ≡ 13 → ⊥) → (length (parts tab bs) ≡ 15 → ⊥) → read_line bs ≡ Err Refusal.LineMalformed
 
 abbrev pub ValuesAreTheFields : Type 0
-ValuesAreTheFields = (bs vs : List ℕ) → values_of layout (completed (parts tab bs)) ≡ some vs → values (read_line bs) ≡ vs
+ValuesAreTheFields = (bs vs : List ℕ) → values_of layout (completed (parts tab bs)) ≡ Some vs → values (read_line bs) ≡ vs
 
 abbrev pub RefusalHasItsNumber : Type 0
-RefusalHasItsNumber = (n : ℕ) → (refusal_number (LineRead.Refused n) ≡ n) × (values (LineRead.Refused n) ≡ [])
+RefusalHasItsNumber = (r : Refusal) → (refusal_number {A = Case} (Err r) ≡ number r) × (values (Err r) ≡ [])
 
 -- "7 V above 99,999 (handed over as a number, since no line can hold it)"
 abbrev pub DemandOnALine : Type 0
-DemandOnALine = (bs : List ℕ) (case : Case) → read_line bs ≡ LineRead.Case case → case.demand ≤ greatest_demand
+DemandOnALine = (bs : List ℕ) (case : Case) → read_line bs ≡ Ok case → case.demand ≤ greatest_demand

@@ -3,14 +3,12 @@
 --   case_of vs           the case of the 15 values of a line
 --   read_values vs       the case of a line's values, refusal 15 where there are none
 --   longest_line         80 bytes
---   read_line bs         the case of a line, or its refusal
---   refusal_number r     the number of the refusal, 0 where there is none
+--   read_line bs         the case of a line, or its refusal; checks/specs/Numbers.refusal_number has its number
 --   kind_byte, way_byte, median_byte, terrain_byte   the letters' bytes
 --   values r            the 15 values of a case; of a refusal no value
 -- Assumes nothing.
-use Rattle.std.specs.Prelude.{ℕ, cond, List, [], ◌∷◌, eqb, ltb, length, get_or}
+use Rattle.std.specs.Prelude.{ℕ, cond, Option, Some, None, Result, Ok, Err, List, [], ◌∷◌, eqb, ltb, length, get_or}
 use Prim.Native.Char.{code}
-use Rattle.std.proofs.Math.Option.{Option, none, some}
 use Rattle.text.specs.Bytes.{tab}
 use Rattle.text.specs.Parts.{parts}
 use Rattle.curve.specs.declared.kind.Kind.{Kind}
@@ -20,7 +18,7 @@ use Rattle.road.specs.declared.Median.{Median}
 use Rattle.road.specs.declared.Terrain.{Terrain}
 use Rattle.road.specs.declared.Case.{Case}
 use Rattle.road.specs.Cases.{road, loaded}
-use Rattle.lines.specs.declared.read.LineRead.{LineRead}
+use Rattle.checks.specs.declared.Refusal.{Refusal}
 use Rattle.lines.specs.Fields.{layout, completed, values_of}
 
 abbrev pub kind_of : ℕ → Kind
@@ -42,22 +40,18 @@ case_of vs =
     (at 11) (terrain_of (at 12)) (factors (at 13) (at 14))
 
 -- "15 malformed line, an unknown field letter included"
-unfoldable pub read_values : Option (List ℕ) → LineRead
-read_values none = LineRead.Refused 15
-read_values (some vs) = LineRead.Case (case_of vs)
+unfoldable pub read_values : Option (List ℕ) → Result Case Refusal
+read_values None = Err Refusal.LineMalformed
+read_values (Some vs) = Ok (case_of vs)
 
 -- "Longer than 80 bytes is malformed"
 abbrev pub longest_line : ℕ
 longest_line = 80
 
 -- "One case a line, 13 fields parted by tabs", or 15 with the weather's factors
-unfoldable pub read_line : List ℕ → LineRead
+unfoldable pub read_line : List ℕ → Result Case Refusal
 read_line bs =
-    cond (ltb longest_line (length bs)) (LineRead.Refused 15) (read_values (values_of layout (completed (parts tab bs))))
-
-abbrev pub refusal_number : LineRead → ℕ
-refusal_number (LineRead.Case c) = 0
-refusal_number (LineRead.Refused n) = n
+    cond (ltb longest_line (length bs)) (Err Refusal.LineMalformed) (read_values (values_of layout (completed (parts tab bs))))
 
 abbrev pub kind_byte : Kind → ℕ
 kind_byte Kind.Freeway = code "F"
@@ -76,9 +70,9 @@ abbrev pub terrain_byte : Terrain → ℕ
 terrain_byte Terrain.Level = code "L"
 terrain_byte Terrain.Rolling = code "R"
 
-abbrev pub values : LineRead → List ℕ
-values (LineRead.Case c) =
+abbrev pub values : Result Case Refusal → List ℕ
+values (Ok c) =
     kind_byte c.road.kind ∷ way_byte c.road.way ∷ c.road.speed ∷ c.road.lane_width ∷ c.road.right_clearance
     ∷ c.road.left_clearance ∷ median_byte c.road.median ∷ c.road.access ∷ c.lanes ∷ c.demand ∷ c.peak_hour_factor
     ∷ c.heavy_share ∷ terrain_byte c.terrain ∷ c.weather.speed_factor ∷ c.weather.capacity_factor ∷ []
-values (LineRead.Refused n) = []
+values (Err r) = []

@@ -1,31 +1,17 @@
 // The fields of a line.
-//   FieldValue     what a field holds: a number, or a letter's byte
-//   FieldRead      a field's value, and where the field ends if it is well formed
-//   FieldValues    the values of all fields, where each is well formed
-//   field_values   the values of a line's fields, each byte of a number looked at once
-ghost use Rattle.std.specs.Prelude.{◌≡◌, true, false, ◌||◌, ℕ, ◌+◌, ◌≤◌, ◌<◌, eqb, length, get_or};
+//   FieldRead      a well-formed field: its number, or its letter's byte, and how many bytes it has
+//   field_values   the values of a line's fields, where each is well formed; each byte of a number is looked at once
+ghost use Rattle.std.specs.Prelude.{◌≡◌, ◌||◌, ◌≤◌, eqb};
 ghost use Rattle.text.specs.Bytes.{tab};
 ghost use Rattle.text.specs.Parts.{parts};
 ghost use Rattle.lines.specs.Fields as fields;
-ghost use Rattle.lines.specs.Fields.{digits, digit, number, letter, layout, field_at, completed, values_of};
-ghost use Rattle.lines.specs.Places.{field_end, field_from, DigitsRead, ReadAs, values_in};
+ghost use Rattle.lines.specs.Fields.{digits, leading_zero, letter, layout, field_at, completed, values_of};
+ghost use Rattle.lines.specs.Places.{read_as};
 
-#[derive(Clone, Copy)]
-pub enum FieldValue {
-    Value(u64),
-    Malformed,
-}
-
-#[derive(Clone, Copy)]
+#[derive(Clone, Copy, Debug, PartialEq, Eq)]
 pub struct FieldRead {
-    pub value: FieldValue,
-    pub end: usize,
-}
-
-#[derive(Clone, Copy)]
-pub struct FieldValues {
-    pub well_formed: bool,
-    pub values: [u64; 15],
+    pub value: u64,
+    pub length: usize,
 }
 
 // "A number has one to five digits"
@@ -34,120 +20,67 @@ const MOST_DIGITS: usize = 5;
 // "Lines of 13 fields mean 1,000 for both"
 const CLEAR: u64 = 1_000;
 
-fn byte_value(b: u8) -> u64
-    ensures { result ≡ b }
+fn leading_zero(field: &[u8]) -> bool
+    ensures { result ≡ leading_zero field.now }
 {
-    b as u64
+    field.len() > 1 && field[0] == b'0'
 }
 
-// Whether a digit stands at a place. None stands at the line's end.
-fn digit_at(line: &[u8], i: usize) -> bool
-    requires { i ≤ length line.now }
-    ensures value { result ≡ digit (get_or line.now i 0) }
-    ensures i_in_bounds { result ≡ true → i < length line.now }
+// The number at the start of what is left of a line.
+fn read_number(rest: &[u8], most_digits: usize) -> Option<FieldRead>
+    requires { most_digits ≤ 18 }
+    ensures { result ≡ read_as (digits most_digits) rest.now }
 {
-    if i == line.len() {
-        return false;
-    }
-    let b = byte_value(line[i]);
-    if b < 48 {
-        return false;
-    }
-    b <= 57
-}
-
-// Whether a field ends at a place: at the line's end or at a tab.
-fn field_ends(line: &[u8], i: usize) -> bool
-    requires { i ≤ length line.now }
-    ensures { result ≡ eqb (field_end line.now i) i }
-{
-    if i == line.len() {
-        return true;
-    }
-    line[i] == b'\t'
-}
-
-// The number of a field whose digits have been read up to `end`, where none follows.
-fn number_read(line: &[u8], at: usize, end: usize, n: u64) -> FieldValue
-    requires { DigitsRead line.now at end n × (digit (get_or line.now end 0) ≡ false) }
-    ensures { (most : ℕ) → end ≤ at + most → result ≡ number most (field_from line.now at) }
-{
-    if !field_ends(line, end) {
-        return FieldValue::Malformed;
-    }
-    if end == at {
-        return FieldValue::Malformed;
-    }
-    if end - at == 1 {
-        return FieldValue::Value(n);
-    }
-    if line[at] == b'0' {
-        return FieldValue::Malformed;
-    }
-    FieldValue::Value(n)
-}
-
-fn number_at(line: &[u8], at: usize, most_digits: usize) -> FieldRead
-    requires { (at ≤ length line.now) × (most_digits ≤ 18) }
-    ensures { ReadAs (digits most_digits) line.now at result }
-{
-    let mut n = 0u64;
-    let mut end = at;
-    while digit_at(line, end) {
-        if end - at == most_digits {
-            return FieldRead {
-                value: FieldValue::Malformed,
-                end,
-            };
+    let mut value = 0;
+    let mut length = 0;
+    for &b in rest {
+        if b == b'\t' {
+            break;
         }
-        n = 10 * n + (byte_value(line[end]) - 48);
-        end += 1;
+        if !b.is_ascii_digit() || length == most_digits {
+            return None;
+        }
+        value = 10 * value + u64::from(b - b'0');
+        length += 1;
     }
-    FieldRead {
-        value: number_read(line, at, end, n),
-        end,
+    let field = &rest[..length];
+    if field.is_empty() || leading_zero(field) {
+        return None;
     }
+    Some(FieldRead { value, length })
 }
 
-fn letter_value(field: &[u8], letters: &[u8]) -> FieldValue
+#[tactic(auto, unfolding(crate::specs::Fields::letter))]
+fn letter(field: &[u8], letters: &[u8]) -> Option<u64>
     ensures { result ≡ letter letters.now field.now }
 {
-    if field.len() != 1 {
-        return FieldValue::Malformed;
+    match field {
+        [b] if letters.contains(b) => Some(u64::from(*b)),
+        _ => None,
     }
-    let b = field[0];
-    let mut i = 0;
-    while i < letters.len() {
-        if letters[i] == b {
-            return FieldValue::Value(byte_value(b));
-        }
-        i += 1;
-    }
-    FieldValue::Malformed
 }
 
-fn letter_at(line: &[u8], at: usize, letters: &[u8]) -> FieldRead
-    requires { at ≤ length line.now }
-    ensures { ReadAs (fields.letters letters.now) line.now at result }
+// The letter at the start of what is left of a line.
+#[tactic(auto, unfolding(crate::specs::Fields::field_as))]
+fn read_letter(rest: &[u8], letters: &[u8]) -> Option<FieldRead>
+    ensures { result ≡ read_as (fields.letters letters.now) rest.now }
 {
-    let end = text::parts::find(line, at, b'\t');
-    FieldRead {
-        value: letter_value(&line[at..end], letters),
-        end,
-    }
+    let length = text::parts::find(rest, 0, b'\t');
+    let value = letter(&rest[..length], letters)?;
+    Some(FieldRead { value, length })
 }
 
-// The field that begins at `at`, read as the layout of a line has it at a place.
-fn field_at(place: usize, line: &[u8], at: usize) -> FieldRead
-    requires { at ≤ length line.now }
-    ensures { ReadAs (field_at place) line.now at result }
+// The field at the start of what is left of a line, read as the layout of a line has it at a place.
+#[tactic(auto, unfolding(crate::specs::Fields::layout))]
+fn read_field(place: usize, rest: &[u8]) -> Option<FieldRead>
+    ensures { result ≡ read_as (field_at place) rest.now }
 {
     match place {
-        0 => letter_at(line, at, b"FM"),
-        1 => letter_at(line, at, b"EG"),
-        6 => letter_at(line, at, b"UDT"),
-        12 => letter_at(line, at, b"LR"),
-        _ => number_at(line, at, MOST_DIGITS),
+        0 => read_letter(rest, b"FM"),
+        1 => read_letter(rest, b"EG"),
+        6 => read_letter(rest, b"UDT"),
+        12 => read_letter(rest, b"LR"),
+        _ => read_number(rest, MOST_DIGITS),
     }
 }
 
@@ -158,35 +91,19 @@ fn may_end(place: usize) -> bool
     place == 12 || place == 14
 }
 
-pub(crate) fn field_values(line: &[u8]) -> FieldValues
-    ensures { values_in result ≡ values_of layout (completed (parts tab line.now)) }
+pub(crate) fn field_values(line: &[u8]) -> Option<[u64; 15]>
+    ensures { result ≡ values_of layout (completed (parts tab line.now)) }
 {
     let mut values = [CLEAR; 15];
-    let mut at = 0;
-    let mut place = 0;
-    while place < 15 {
-        let field = field_at(place, line, at);
-        let value = field.value;
-        let end = field.end;
-        let FieldValue::Value(n) = value else {
-            return FieldValues {
-                well_formed: false,
-                values,
-            };
-        };
-        values[place] = n;
-        if end == line.len() {
-            return FieldValues {
-                well_formed: may_end(place),
-                values,
-            };
+    let mut rest = line;
+    for place in 0..15 {
+        let FieldRead { value, length } = read_field(place, rest)?;
+        values[place] = value;
+        if length == rest.len() {
+            return may_end(place).then_some(values);
         }
-        at = end + 1;
-        place += 1;
+        rest = &rest[length + 1..];
     }
     // a field too many
-    FieldValues {
-        well_formed: false,
-        values,
-    }
+    None
 }

@@ -1,17 +1,14 @@
 // A line read into a case or its refusal.
-//   LineRead         a case or a refusal
-//   LINE_MALFORMED   the refusal
-//   LONGEST_LINE     the most bytes of a line
-//   read_line        for any bytes at all, a line without its newline
+//   LONGEST_LINE   the most bytes of a line
+//   read_line      for any bytes at all, a line without its newline
 ghost use Rattle.std.specs.Prelude.{◌≡◌};
 ghost use Rattle.lines.specs.Reading.{kind_of, way_of, median_of, terrain_of, case_of, read_line};
 
 use crate::field;
+use checks::Refusal;
 use curve::Weather;
 use curve::kind::Kind;
 use road::{Case, Median, Road, Terrain, Way};
-
-pub const LINE_MALFORMED: u64 = 15;
 
 // "Longer than 80 bytes is malformed"
 pub const LONGEST_LINE: usize = 80;
@@ -26,55 +23,44 @@ const DIVIDED: u64 = b'D' as u64;
 
 const LEVEL: u64 = b'L' as u64;
 
-#[derive(Clone, Copy)]
-pub enum LineRead {
-    Case(Case),
-    Refused(u64),
-}
-
 fn kind_of(b: u64) -> Kind
     ensures { result ≡ kind_of b }
 {
-    if b == FREEWAY {
-        Kind::Freeway
-    } else {
-        Kind::Multilane
+    match b {
+        FREEWAY => Kind::Freeway,
+        _ => Kind::Multilane,
     }
 }
 
 fn way_of(b: u64) -> Way
     ensures { result ≡ way_of b }
 {
-    if b == ESTIMATED {
-        Way::Estimated
-    } else {
-        Way::Given
+    match b {
+        ESTIMATED => Way::Estimated,
+        _ => Way::Given,
     }
 }
 
 fn median_of(b: u64) -> Median
     ensures { result ≡ median_of b }
 {
-    if b == UNDIVIDED {
-        return Median::Undivided;
-    }
-    if b == DIVIDED {
-        Median::Divided
-    } else {
-        Median::TwoWayLeftTurnLane
+    match b {
+        UNDIVIDED => Median::Undivided,
+        DIVIDED => Median::Divided,
+        _ => Median::TwoWayLeftTurnLane,
     }
 }
 
 fn terrain_of(b: u64) -> Terrain
     ensures { result ≡ terrain_of b }
 {
-    if b == LEVEL {
-        Terrain::Level
-    } else {
-        Terrain::Rolling
+    match b {
+        LEVEL => Terrain::Level,
+        _ => Terrain::Rolling,
     }
 }
 
+#[tactic(auto, unfolding(crate::specs::Reading::case_of))]
 fn road_of(values: [u64; 15]) -> Road
     ensures { result ≡ (case_of values).road }
 {
@@ -90,6 +76,7 @@ fn road_of(values: [u64; 15]) -> Road
     }
 }
 
+#[tactic(auto, unfolding(crate::specs::Reading::case_of))]
 fn case_of(values: [u64; 15]) -> Case
     ensures { result ≡ case_of values }
 {
@@ -107,16 +94,13 @@ fn case_of(values: [u64; 15]) -> Case
     }
 }
 
-pub fn read_line(line: &[u8]) -> LineRead
+#[tactic(auto, unfolding(crate::specs::Reading::read_line, crate::specs::Reading::read_values))]
+pub fn read_line(line: &[u8]) -> Result<Case, Refusal>
     ensures { result ≡ read_line line.now }
 {
     if LONGEST_LINE < line.len() {
-        return LineRead::Refused(LINE_MALFORMED);
+        return Err(Refusal::LineMalformed);
     }
-    let fields = field::field_values(line);
-    if !fields.well_formed {
-        return LineRead::Refused(LINE_MALFORMED);
-    }
-    let values = fields.values;
-    LineRead::Case(case_of(values))
+    let values = field::field_values(line).ok_or(Refusal::LineMalformed)?;
+    Ok(case_of(values))
 }

@@ -2,14 +2,13 @@
 --   line-read        the printed line is the printed case
 --   boundary-shown   each figure of the list is what is to be shown
 -- Assumes nothing.
-use mathlib.Core.Path.{◌≡◌, refl, ap, ◌∙◌}
-use mathlib.Core.List.{[], ◌∷◌, ◌++◌, flat_map}
+use Rattle.std.proofs.Common.{◌≡◌, Ok, [], ◌∷◌, ◌++◌, length, drop, get_or, replicate, refl, ap, ◌∙◌, lit≤}
+use mathlib.Core.List.{flat_map}
 use Prim.Native.String.{◌++◌ as ◌then◌}
-use lib.Dec.{lit≤}
-use lib.ListN.{length, drop, get_or, replicate}
 use Rattle.text.specs.Bytes.{bytes_of}
 use Rattle.text.specs.Parts.{on_first, parts}
 use Rattle.text.specs.Decimal.{decimal_up_to, decimal, figures_text, row_text}
+use Rattle.checks.specs.Numbers.{in_order, refusal_of, refusal_number}
 use Rattle.checks.specs.Figures.{Shown}
 use Rattle.road.specs.Refusals.{weather_unfit, road_refusals, load_refusals, field_refusals}
 use Rattle.method.specs.Refusals.{refusals}
@@ -28,9 +27,8 @@ use Rattle.forecast.specs.Instances.{wide}
 use Rattle.forecast.proofs.Instances.{wide-told}
 use Rattle.survey.specs.Boundary.{survey_figures}
 use Rattle.survey.proofs.Boundary.{survey-shown}
-use Rattle.lines.specs.declared.read.LineRead.TheVariants as LineRead
-use Rattle.lines.specs.Fields.{layout, completed, spelled, number, one_of, letter, field_as, values_of}
-use Rattle.lines.specs.Reading.{case_of, read_values, read_line, refusal_number, values}
+use Rattle.lines.specs.Fields.{layout, completed, spelled, number, letter, field_as, values_of}
+use Rattle.lines.specs.Reading.{case_of, read_values, read_line, values}
 use Rattle.replies.specs.Texts.{refusal_text, text_of, line_text}
 use Rattle.stream.specs.Stream.{texts, last_line, without_empty_last, lines_of, output_of}
 use Rattle.replies.specs.Output.{line_texts}
@@ -39,37 +37,37 @@ use Rattle.marehour.specs.Calls.{day_call, daily_call, forecast_call, content}
 use Rattle.marehour.proofs.Laws.{day-call-is-the-day, daily-hands-back, forecast-hands-back}
 use Rattle.marehour.specs.Boundary.{printed_line, printed_answer, snow_answer, longest, added_figures, boundary_figures}
 
-pub line-read : read_line (bytes_of printed_line) ≡ LineRead.Case example
-unfolding on_first parts layout completed spelled number one_of letter field_as values_of case_of read_values read_line
+pub line-read : read_line (bytes_of printed_line) ≡ Ok example
+unfolding on_first parts layout completed spelled number letter field_as values_of case_of read_values read_line
 line-read = refl
 
 line-shown : line_text (bytes_of printed_line) ≡ bytes_of printed_answer
 unfolding flat_map decimal_up_to decimal figures_text row_text text_of
 line-shown = line_text-case (bytes_of printed_line) example line-read
-    ∙ ap (text_of (answers.refusal_number (answer_to example))) answer-proofs.example-figures
+    ∙ ap (text_of (refusal_number (answer_to example))) answer-proofs.example-figures
 
 -- the printed line in snow, and with a factor that 19 refuses
 snow-shown : line_text (bytes_of (printed_line then "\t860\t780")) ≡ bytes_of snow_answer
-unfolding flat_map on_first parts decimal_up_to decimal figures_text row_text layout completed spelled number one_of letter field_as values_of case_of
+unfolding flat_map on_first parts decimal_up_to decimal figures_text row_text layout completed spelled number letter field_as values_of case_of
     read_values read_line text_of
 snow-shown =
     line_text-case (bytes_of (printed_line then "\t860\t780")) (example_in_snow 2000) refl
     ∙ ap (λ l. text_of (get_or l 0 0) (drop 1 l)) answer-proofs.example-in-snow
 
 factor-shown : line_text (bytes_of (printed_line then "\t99999\t1000")) ≡ bytes_of "X\t19\n"
-unfolding flat_map on_first parts decimal_up_to decimal figures_text row_text layout completed spelled number one_of letter field_as values_of case_of
+unfolding in_order refusal_of flat_map on_first parts decimal_up_to decimal figures_text row_text layout completed spelled number letter field_as values_of case_of
     read_values read_line weather_unfit road_refusals load_refusals field_refusals refusals refusal_text text_of line_text
 factor-shown = refl
 
 longest-shown : length (bytes_of longest) ∷ (refusal_number (read_line (bytes_of longest)) ∷ values (read_line (bytes_of longest)))
     ≡ 73 ∷ 0 ∷ 77 ∷ 71 ∷ 99999 ∷ 99999 ∷ 99999 ∷ 99999 ∷ 84 ∷ 99999 ∷ 99999 ∷ 99999 ∷ 99999 ∷ 99999 ∷ 76 ∷ 99999 ∷ 99999 ∷ []
-unfolding on_first parts layout completed spelled number one_of letter field_as values_of case_of read_values read_line
+unfolding on_first parts layout completed spelled number letter field_as values_of case_of read_values read_line
 longest-shown = refl
 
 -- an empty line, and a line of one field
 short-shown : (line_text [] ≡ refusal_text 15) × (line_text (bytes_of "F") ≡ refusal_text 15)
-unfolding on_first parts layout completed spelled number one_of letter field_as values_of read_values read_line
-short-shown = (line_text-refused [] 15 refl, line_text-refused (bytes_of "F") 15 refl)
+unfolding on_first parts layout completed spelled number letter field_as values_of read_values read_line
+short-shown = (line_text-refused [] _ refl, line_text-refused (bytes_of "F") _ refl)
 
 output-shown : output_of line_texts (bytes_of ("\n" then (printed_line then "\nF"))) ≡ bytes_of ("X\t15\n" then (printed_answer then "X\t15\n"))
 unfolding flat_map on_first parts decimal_up_to decimal figures_text row_text refusal_text texts last_line without_empty_last lines_of output_of
@@ -93,7 +91,7 @@ forecast-shown =
     ∙ ap (λ figures. drop 1 figures ++ (9 ∷ [])) wide-told
 
 added-shown : Shown added_figures
-unfolding flat_map on_first parts layout completed spelled number one_of letter field_as values_of read_values read_line texts last_line
+unfolding flat_map on_first parts layout completed spelled number letter field_as values_of read_values read_line texts last_line
     without_empty_last lines_of output_of added_figures
 added-shown = (
   line-shown,

@@ -1,7 +1,9 @@
 -- The call that counts the tried demands (specs/Tries).
 --   tries-hand-back, tries-of-lines
 -- Assumes nothing.
-use mathlib.Core.Path.{refl, ap, ◌∙◌}
+use Rattle.std.proofs.Common.{refl, ap, ◌∙◌, pos, neg_ℤ, arith}
+use Rattle.checks.proofs.NumberLaws.{number-refusal_of}
+use Rattle.method.proofs.RefusalLaws.{refusal-le}
 use Rattle.text.specs.Bytes.{bytes_of}
 use Rattle.text.specs.Parts.{on_first, parts}
 use Rattle.method.specs.Boundary.{example}
@@ -10,8 +12,7 @@ use Rattle.answer.proofs.AnswerLaws.{answer_to-accepted, answer_to-refused}
 use Rattle.answer.proofs.Boundary.{example-accepted}
 use Rattle.answer.proofs.TriesLaws.{tries-accepted}
 use Rattle.answer.proofs.SearchOrder.{at-most-80-tried, example-tried}
-use Rattle.lines.specs.declared.read.LineRead.TheVariants as LineRead
-use Rattle.lines.specs.Fields.{layout, completed, spelled, number, one_of, letter, field_as, values_of}
+use Rattle.lines.specs.Fields.{layout, completed, spelled, number, letter, field_as, values_of}
 use Rattle.lines.specs.Reading.{read_values, read_line}
 use Rattle.lines.proofs.ReadingLaws.{read_line-refused}
 use Rattle.marehour.specs.Tries.{tries_result, line_tries, TriesHandBack, TriesOfLines}
@@ -19,16 +20,17 @@ use Rattle.marehour.proofs.Boundary.{line-read}
 
 pub tries-hand-back : TriesHandBack
 tries-hand-back line = (
-  λ n e. ap line_tries (e ∙ ap LineRead.Refused (read_line-refused line n e)),
+  λ r e. ap line_tries (read_line-refused line r e),
   λ case e. (
     λ a. let ends = at-most-80-tried case a in (ap line_tries e ∙ rw (answer_to-accepted case a, tries-accepted case a), ends.0, ends.1),
-    λ n r p. ap line_tries e ∙ ap (λ answer. tries_result answer (counted_answer case).tries) (answer_to-refused case n r p),
+    λ n r p. ap line_tries e ∙ ap (λ answer. tries_result answer (counted_answer case).tries) (answer_to-refused case n r p)
+        ∙ ap (λ m. neg_ℤ (pos m)) (number-refusal_of n p (omega (arith, r, refusal-le case))),
   ),
 )
 
 pub tries-of-lines : TriesOfLines
-unfolding on_first parts layout completed spelled number one_of letter field_as values_of read_values read_line
+unfolding on_first parts layout completed spelled number letter field_as values_of read_values read_line
 tries-of-lines = (
   ap line_tries line-read ∙ rw (answer_to-accepted example example-accepted, example-tried.1),
-  (tries-hand-back (bytes_of "F")).0 15 refl,
+  (tries-hand-back (bytes_of "F")).0 _ refl,
 )

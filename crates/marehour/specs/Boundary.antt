@@ -16,7 +16,8 @@ use Rattle.day.specs.Instances.{example_demands, example_day}
 use Rattle.daily.specs.Instances.{urban, printed_figures}
 use Rattle.forecast.specs.Instances.{wide}
 use Rattle.survey.specs.Boundary.{survey_figures}
-use Rattle.lines.specs.Reading.{read_line, refusal_number, values}
+use Rattle.checks.specs.Numbers.{refusal_number}
+use Rattle.lines.specs.Reading.{read_line, values}
 use Rattle.replies.specs.Texts.{line_text}
 use Rattle.stream.specs.Stream.{output_of}
 use Rattle.replies.specs.Output.{line_texts}

@@ -19,6 +19,8 @@
 --   day_call line demands room   the same for a day of demands, with room for so many numbers
 --   daily_call line shares traffic room   the same for a daily traffic and its shares, with room for so many numbers
 --   forecast_call line forecast room   the same for a forecast, with room for so many numbers
+--   line_case lent r        the case of a line that was read, or what refuses the lent memory or the line
+--   hands_back a            what a call hands back where a count is found, or a refusal
 --   handed_back count r     what a call hands back, by how it counts what is written
 --   call_result r           the same in bytes, or in numbers where numbers are written
 --   answer_count ns         how many answers so many numbers are
@@ -27,14 +29,15 @@
 --   result_of n vs          the value of an answer with number n and values vs, or minus the number
 --   survey_result a         what a survey call hands back
 -- Assumes nothing.
-use Rattle.std.specs.Prelude.{ℕ, ◌/◌, List, [], ◌∷◌, ◌++◌, ℤ, pos, neg_ℤ, ltb, length}
-use Rattle.checks.specs.Refusals.{Refusal, refuses, first_refusal, unless_refused}
+use Rattle.std.specs.Prelude.{ℕ, ◌/◌, Result, Ok, Err, List, [], ◌∷◌, ◌++◌, ℤ, pos, neg_ℤ, ltb, length}
+use Rattle.checks.specs.declared.Refusal.{Refusal}
+use Rattle.checks.specs.Refusals.{Condition, refuses, first_refusal, unless_refused}
+use Rattle.checks.specs.Numbers.{number, refusal_number}
 use Rattle.text.specs.Bytes.{newline}
 use Rattle.text.specs.Decimal.{decimal}
 use Rattle.text.specs.Buffer.{written}
 use Rattle.road.specs.declared.Case.{Case}
-use Rattle.answer.specs.declared.evaluate.Answer.{Answer}
-use Rattle.answer.specs.declared.lanes.LanesAnswer.{LanesAnswer}
+use Rattle.answer.specs.declared.evaluate.Grade.{Grade}
 use Rattle.answer.specs.Answers as answers
 use Rattle.answer.specs.Answers.{answer_to}
 use Rattle.answer.specs.Lanes as lanes
@@ -46,9 +49,7 @@ use Rattle.daily.specs.Daily.{daily_answer}
 use Rattle.forecast.specs.declared.Forecast.{Forecast}
 use Rattle.forecast.specs.Forecasts as forecasts
 use Rattle.forecast.specs.Forecasts.{forecast_answer}
-use Rattle.survey.specs.declared.SurveyAnswer.{SurveyAnswer}
 use Rattle.survey.specs.Survey as survey
-use Rattle.lines.specs.declared.read.LineRead.{LineRead}
 use Rattle.lines.specs.Reading.{read_line}
 use Rattle.replies.specs.Texts.{answer_text, longest_answer}
 
@@ -60,16 +61,16 @@ abbrev pub reply_of : ℕ → List ℕ → List ℕ → Reply
 reply_of number [] text = refusal number
 reply_of number (v ∷ vs) text = writes text
 
-abbrev pub answer_reply : Answer → Reply
-answer_reply a = reply_of (answers.refusal_number a) (answers.values a) (answer_text a)
+abbrev pub answer_reply : Result Grade Refusal → Reply
+answer_reply a = reply_of (refusal_number a) (answers.values a) (answer_text a)
 
 -- "For the lanes question the answer is the one digit of the count and a newline"
 unfoldable pub count_text : List ℕ → List ℕ
 count_text [] = []
 count_text (count ∷ vs) = decimal count ++ (newline ∷ [])
 
-abbrev pub count_reply : LanesAnswer → Reply
-count_reply a = reply_of (lanes.refusal_number a) (lanes.values a) (count_text (lanes.values a))
+abbrev pub count_reply : Result ℕ Refusal → Reply
+count_reply a = reply_of (refusal_number a) (lanes.values a) (count_text (lanes.values a))
 
 abbrev pub case_reply : Case → Reply
 case_reply case = answer_reply (answer_to case)
@@ -87,23 +88,28 @@ figures_reply number values = reply_of number values values
 
 abbrev pub daily_reply : Shares → ℕ → Case → Reply
 daily_reply shares traffic case =
-    let answer = daily_answer case shares traffic in figures_reply (daily.refusal_number answer) (daily.values answer)
+    let answer = daily_answer case shares traffic in figures_reply (refusal_number answer) (daily.values answer)
 
 abbrev pub forecast_reply : Forecast → Case → Reply
 forecast_reply forecast case =
-    let answer = forecast_answer case forecast in figures_reply (forecasts.refusal_number answer) (forecasts.values answer)
+    let answer = forecast_answer case forecast in figures_reply (refusal_number answer) (forecasts.values answer)
 
 -- "15 malformed line", before 16, 20 and 1
-abbrev pub line_reply : (Case → Reply) → LineRead → Reply
-line_reply reply (LineRead.Case case) = reply case
-line_reply reply (LineRead.Refused number) = refusal number
+abbrev pub line_reply : (Case → Reply) → Result Case Refusal → Reply
+line_reply reply (Ok case) = reply case
+line_reply reply (Err r) = refusal (number r)
+
+-- what the code finds of them: the case, or the first that refuses
+abbrev pub line_case : Result (Unit {0}) Refusal → Result Case Refusal → Result Case Refusal
+line_case (Ok u) r = r
+line_case (Err refused) r = Err refused
 
 -- what refuses the lent memory comes first of all
-abbrev pub line_call : (Case → Reply) → LineRead → List Refusal → Reply
+abbrev pub line_call : (Case → Reply) → Result Case Refusal → List Condition → Reply
 line_call reply r lent = unless_refused (first_refusal lent) (line_reply reply r) refusal
 
 -- "17 answer buffer under 64 bytes, first of all", and fewer numbers than there are figures
-unfoldable pub buffer_refusals : ℕ → ℕ → List Refusal
+unfoldable pub buffer_refusals : ℕ → ℕ → List Condition
 buffer_refusals least room = refuses 17 (ltb room least) ∷ []
 
 abbrev pub answer_call : List ℕ → ℕ → Reply
@@ -123,6 +129,11 @@ daily_call line shares traffic room = line_call (daily_reply shares traffic) (re
 -- 1 to 6 and 22 behind 17 and 15
 abbrev pub forecast_call : List ℕ → Forecast → ℕ → Reply
 forecast_call line forecast room = line_call (forecast_reply forecast) (read_line line) (buffer_refusals forecasts.figure_count room)
+
+-- a count, or minus a refusal's number
+abbrev pub hands_back : Result ℕ Refusal → ℤ
+hands_back (Ok n) = pos n
+hands_back (Err r) = neg_ℤ (pos (number r))
 
 abbrev pub handed_back : (List ℕ → ℕ) → Reply → ℤ
 handed_back count (writes ns) = pos (count ns)
@@ -148,5 +159,5 @@ result_of number [] = neg_ℤ (pos number)
 result_of number (v ∷ vs) = pos v
 
 -- the speed, or minus the refusal number
-abbrev pub survey_result : SurveyAnswer → ℤ
-survey_result a = result_of (survey.refusal_number a) (survey.values a)
+abbrev pub survey_result : Result ℕ Refusal → ℤ
+survey_result a = result_of (refusal_number a) (survey.values a)

@@ -17,12 +17,12 @@
 --   DailyHandsBack        so does the call with a daily traffic, with sixteen numbers and the daily answer
 --   ForecastHandsBack     and the call with a forecast, with eight and the forecast's answer
 -- Assumes nothing.
-use Rattle.std.specs.Prelude.{ℕ, ◌*◌, ◌≤◌, ◌<◌, ◌≡◌, List, [], ◌++◌, pos, neg_ℤ, length, drop, get_or}
+use Rattle.std.specs.Prelude.{ℕ, ◌*◌, ◌≤◌, ◌<◌, ◌≡◌, Ok, Err, List, [], ◌++◌, pos, neg_ℤ, length, drop, get_or}
 use Rattle.text.specs.Bytes.{bytes_of}
 use Rattle.road.specs.declared.Case.{Case}
 use Rattle.road.specs.Cases.{with_demand}
 use Rattle.answer.specs.Answers.{answer_to}
-use Rattle.day.specs.Days.{most_demands, figure_count, answer_figures, LentFits, day_answer, day_content, refusal_number, values}
+use Rattle.day.specs.Days.{most_demands, figure_count, answer_figures, LentFits, day_answer, day_content, values}
 use Rattle.day.specs.Promises.{position}
 use Rattle.daily.specs.declared.Shares.{Shares}
 use Rattle.daily.specs.Daily as daily
@@ -31,7 +31,8 @@ use Rattle.daily.specs.Instances.{urban}
 use Rattle.forecast.specs.declared.Forecast.{Forecast}
 use Rattle.forecast.specs.Forecasts as forecasts
 use Rattle.forecast.specs.Forecasts.{forecast_of, forecast_answer}
-use Rattle.lines.specs.declared.read.LineRead.TheVariants as LineRead
+use Rattle.checks.specs.declared.Refusal.{Refusal}
+use Rattle.checks.specs.Numbers.{refusal_number}
 use Rattle.lines.specs.Reading.{read_line}
 use Rattle.replies.specs.Texts.{longest_answer}
 use Rattle.marehour.specs.Calls.{Reply, writes, refusal, answer_reply, answer_call, lanes_call, day_call, daily_call}
@@ -79,14 +80,14 @@ abbrev pub DayHandsBack : Type 0
 DayHandsBack =
     (line demands : List ℕ) (room : ℕ)
     → ((LentFits (length demands) room → ⊥) → day_result (day_call line demands room) ≡ neg_ℤ (pos 18))
-    × (LentFits (length demands) room → (n : ℕ) → read_line line ≡ LineRead.Refused n
+    × (LentFits (length demands) room → (r : Refusal) → read_line line ≡ Err r
     → day_result (day_call line demands room) ≡ neg_ℤ (pos 15))
-    × (LentFits (length demands) room → (case : Case) → read_line line ≡ LineRead.Case case
+    × (LentFits (length demands) room → (case : Case) → read_line line ≡ Ok case
     → day_result (day_call line demands room) ≡ pos (length demands))
 
 abbrev pub DayCallIsTheDay : Type 0
 DayCallIsTheDay =
-    (line : List ℕ) (case : Case) → read_line line ≡ LineRead.Case case → (demands old : List ℕ)
+    (line : List ℕ) (case : Case) → read_line line ≡ Ok case → (demands old : List ℕ)
     → (day_result (day_call line demands (length old))
     ≡ result_of (refusal_number (day_answer (length demands) (length old))) (values (day_answer (length demands) (length old))))
     × (content (day_call line demands (length old)) old ≡ day_content case demands old)
@@ -94,9 +95,9 @@ DayCallIsTheDay =
 abbrev pub PositionIsTheLinesAnswer : Type 0
 PositionIsTheLinesAnswer =
     (line : List ℕ) (case : Case) (demands old : List ℕ) (i : ℕ)
-    → read_line line ≡ LineRead.Case case → LentFits (length demands) (length old) → i < length demands
+    → read_line line ≡ Ok case → LentFits (length demands) (length old) → i < length demands
     → (position i (content (day_call line demands (length old)) old) ≡ answer_figures (answer_to (with_demand case (get_or demands i 0))))
-    × ((other : List ℕ) (room : ℕ) → read_line other ≡ LineRead.Case (with_demand case (get_or demands i 0)) → longest_answer ≤ room
+    × ((other : List ℕ) (room : ℕ) → read_line other ≡ Ok (with_demand case (get_or demands i 0)) → longest_answer ≤ room
     → answer_call other room ≡ answer_reply (answer_to (with_demand case (get_or demands i 0))))
 
 abbrev pub HandsBackFigures : (count : ℕ) (number : Case → ℕ) (values : Case → List ℕ) (call : List ℕ → ℕ → Reply) → Type 0
@@ -104,19 +105,19 @@ HandsBackFigures count number values call =
     (line old : List ℕ)
     → let reply = call line (length old) in
     (length old < count → (call_result reply ≡ neg_ℤ (pos 17)) × (content reply old ≡ old))
-    × (count ≤ length old → (n : ℕ) → read_line line ≡ LineRead.Refused n → (call_result reply ≡ neg_ℤ (pos 15)) × (content reply old ≡ old))
-    × (count ≤ length old → (case : Case) → read_line line ≡ LineRead.Case case
+    × (count ≤ length old → (r : Refusal) → read_line line ≡ Err r → (call_result reply ≡ neg_ℤ (pos 15)) × (content reply old ≡ old))
+    × (count ≤ length old → (case : Case) → read_line line ≡ Ok case
     → ((n : ℕ) → number case ≡ n → 0 < n → (call_result reply ≡ neg_ℤ (pos n)) × (content reply old ≡ old))
     × (number case ≡ 0 → (call_result reply ≡ pos count) × (content reply old ≡ values case ++ drop count old)))
 
 abbrev pub DailyHandsBack : Type 0
 DailyHandsBack =
     (shares : Shares) (traffic : ℕ)
-    → HandsBackFigures daily.figure_count (λ case. daily.refusal_number (daily_answer case shares traffic))
+    → HandsBackFigures daily.figure_count (λ case. refusal_number (daily_answer case shares traffic))
     (λ case. daily.values (daily_answer case shares traffic)) (λ line room. daily_call line shares traffic room)
 
 abbrev pub ForecastHandsBack : Type 0
 ForecastHandsBack =
     (forecast : Forecast)
-    → HandsBackFigures forecasts.figure_count (λ case. forecasts.refusal_number (forecast_answer case forecast))
+    → HandsBackFigures forecasts.figure_count (λ case. refusal_number (forecast_answer case forecast))
     (λ case. forecasts.values (forecast_answer case forecast)) (λ line room. forecast_call line forecast room)

@@ -7,25 +7,26 @@
 --                       of its case
 --   TriesOfLines        64 for the printed line, and minus 15 for a line of one field
 -- Assumes nothing.
-use Rattle.std.specs.Prelude.{◌≡◌, List, ℕ, ◌≤◌, ◌<◌, ℤ, pos, neg_ℤ, length}
+use Rattle.std.specs.Prelude.{◌≡◌, Result, Ok, Err, List, ℕ, ◌≤◌, ◌<◌, ℤ, pos, neg_ℤ, length}
 use Rattle.text.specs.Bytes.{bytes_of}
 use Rattle.road.specs.declared.Case.{Case}
 use Rattle.method.specs.Refusals.{refusal, Accepted}
-use Rattle.answer.specs.declared.evaluate.Answer.{Answer}
+use Rattle.answer.specs.declared.evaluate.Grade.{Grade}
 use Rattle.answer.specs.Answers.{answer_to}
 use Rattle.answer.specs.Tries.{demands_tried, counted_answer}
-use Rattle.lines.specs.declared.read.LineRead.{LineRead}
+use Rattle.checks.specs.declared.Refusal.{Refusal}
+use Rattle.checks.specs.Numbers.{number}
 use Rattle.lines.specs.Reading.{read_line}
 use Rattle.marehour.specs.Boundary.{printed_line}
 
-abbrev pub tries_result : Answer → ℕ → ℤ
-tries_result (Answer.Graded grade) tries = pos tries
-tries_result (Answer.Refused number) tries = neg_ℤ (pos number)
+abbrev pub tries_result : Result Grade Refusal → ℕ → ℤ
+tries_result (Ok grade) tries = pos tries
+tries_result (Err r) tries = neg_ℤ (pos (number r))
 
 -- "15 malformed line", before 1
-abbrev pub line_tries : LineRead → ℤ
-line_tries (LineRead.Case case) = tries_result (answer_to case) (counted_answer case).tries
-line_tries (LineRead.Refused number) = neg_ℤ (pos number)
+abbrev pub line_tries : Result Case Refusal → ℤ
+line_tries (Ok case) = tries_result (answer_to case) (counted_answer case).tries
+line_tries (Err r) = neg_ℤ (pos (number r))
 
 abbrev pub tries_call : List ℕ → ℤ
 tries_call line = line_tries (read_line line)
@@ -33,8 +34,8 @@ tries_call line = line_tries (read_line line)
 abbrev pub TriesHandBack : Type 0
 TriesHandBack =
     (line : List ℕ)
-    → ((n : ℕ) → read_line line ≡ LineRead.Refused n → tries_call line ≡ neg_ℤ (pos 15))
-    × ((case : Case) → read_line line ≡ LineRead.Case case
+    → ((r : Refusal) → read_line line ≡ Err r → tries_call line ≡ neg_ℤ (pos 15))
+    × ((case : Case) → read_line line ≡ Ok case
     → (Accepted case
     → (tries_call line ≡ pos (length (demands_tried case))) × (1 ≤ length (demands_tried case)) × (length (demands_tried case) ≤ 80))
     × ((n : ℕ) → refusal case ≡ n → 0 < n → tries_call line ≡ neg_ℤ (pos n)))

@@ -1,62 +1,77 @@
-// Evaluation and lanes question for a host in C: a lent line without its newline, and a lent answer buffer.
-//   BUFFER_TOO_SHORT   refusal 17
-//   refused            a refusal as a call hands it back
+// What the calls of a host in C share, and the calls over a lent line without its newline and a lent answer buffer.
+//   check_room         17 where lent memory is too short
+//   case_of            the case of a lent line, or what refuses the lent memory or the line
+//   handed_back        what a call hands back: a count, or minus a refusal's number
 //   marehour_answer    the answer to a line
 //   marehour_lanes     the lanes question for a line and a letter number
-ghost use Rattle.std.specs.Prelude.{◌≡◌, ◌≤◌, pos, neg_ℤ, length};
-ghost use Rattle.replies.specs.Texts.{longest_answer};
-ghost use Rattle.marehour.specs.Calls.{case_reply, lanes_reply, answer_call, lanes_call, call_result, content};
+ghost use Rattle.std.specs.Prelude.{◌≡◌, ◌≤◌, length, OnOk, IfOk};
+ghost use Rattle.checks.specs.Refusals.{first_refusal};
+ghost use Rattle.checks.specs.Numbers.{refusal_number};
+ghost use Rattle.lines.specs.Reading.{read_line};
+ghost use Rattle.marehour.specs.Calls.{answer_call, lanes_call, call_result, content, buffer_refusals, line_case, hands_back};
 
-use answer::evaluate::Answer;
-use answer::lanes::LanesAnswer;
 use answer::{evaluate, lanes};
+use checks::Refusal;
 use lines::read;
-use lines::read::LineRead;
 use replies::write;
 use replies::write::LONGEST_ANSWER;
 use road::Case;
 
-pub const BUFFER_TOO_SHORT: u64 = 17;
-
 const ANSWER_SIZE: usize = LONGEST_ANSWER;
 
-// Minus a refusal's number.
-pub(crate) fn refused(number: u64) -> i32
-    requires { number ≤ 99 }
-    ensures { result ≡ neg_ℤ (pos number) }
+pub(crate) fn check_room(room: usize, least: usize) -> Result<(), Refusal>
+    ensures { refusal_number result ≡ first_refusal (buffer_refusals least room) }
 {
-    -(number as i32)
+    if room < least {
+        return Err(Refusal::BufferTooShort);
+    }
+    Ok(())
 }
 
-fn answer_case(case: Case, answer: &mut [u8]) -> i32
-    requires { longest_answer ≤ length answer.old }
-    ensures result { result ≡ call_result (case_reply case) }
-    ensures buffer { answer.new ≡ content (case_reply case) answer.old }
+// What refuses the lent memory comes first of all.
+pub(crate) fn case_of(line: &[u8], lent: Result<(), Refusal>) -> Result<Case, Refusal>
+    ensures { result ≡ line_case lent (read_line line.now) }
 {
-    let found = evaluate::evaluate(case);
+    lent?;
+    let Ok(case) = read::read_line(line) else {
+        return Err(Refusal::LineMalformed);
+    };
+    Ok(case)
+}
+
+pub(crate) fn handed_back(found: Result<u64, Refusal>) -> i32
+    requires { IfOk found (λ count. count ≤ 90000) }
+    ensures { result ≡ hands_back found }
+{
     match found {
-        Answer::Graded(grade) => {
-            let written = write::write_grade(grade, answer, 0);
-            written as i32
-        }
-        Answer::Refused(number) => refused(number),
+        Ok(count) => count as i32,
+        Err(refusal) => -(refusal.number() as i32),
     }
 }
 
-fn lanes_case(case: Case, letter: u64, answer: &mut [u8]) -> i32
-    requires { longest_answer ≤ length answer.old }
-    ensures result { result ≡ call_result (lanes_reply letter case) }
-    ensures buffer { answer.new ≡ content (lanes_reply letter case) answer.old }
+fn answer_in(line: &[u8], answer: &mut [u8]) -> Result<u64, Refusal>
+    ensures fits { IfOk result (λ count. count ≤ 90000) }
+    ensures result { hands_back result ≡ call_result (answer_call line.now (length answer.old)) }
+    ensures buffer { answer.new
+        ≡ content (answer_call line.now (length answer.old)) answer.old }
 {
-    let found = lanes::lanes_needed(case, letter);
-    match found {
-        LanesAnswer::Lanes(count) => {
-            answer[0] = 48 + count as u8;
-            answer[1] = b'\n';
-            2
-        }
-        LanesAnswer::Refused(number) => refused(number),
-    }
+    let case = case_of(line, check_room(answer.len(), ANSWER_SIZE))?;
+    let grade = evaluate::evaluate(case)?;
+    let written = write::write_grade(&grade, answer, 0);
+    Ok(written as u64)
+}
+
+fn lanes_in(line: &[u8], letter: u64, answer: &mut [u8]) -> Result<u64, Refusal>
+    ensures fits { IfOk result (λ count. count ≤ 90000) }
+    ensures result { hands_back result ≡ call_result (lanes_call line.now letter (length answer.old)) }
+    ensures buffer { answer.new
+        ≡ content (lanes_call line.now letter (length answer.old)) answer.old }
+{
+    let case = case_of(line, check_room(answer.len(), ANSWER_SIZE))?;
+    let count = lanes::lanes_needed(case, letter)?;
+    answer[0] = b'0' + count as u8;
+    answer[1] = b'\n';
+    Ok(2)
 }
 
 pub fn marehour_answer(line: &[u8], answer: &mut [u8]) -> i32
@@ -64,14 +79,7 @@ pub fn marehour_answer(line: &[u8], answer: &mut [u8]) -> i32
     ensures buffer { answer.new
         ≡ content (answer_call line.now (length answer.old)) answer.old }
 {
-    if answer.len() < ANSWER_SIZE {
-        return refused(BUFFER_TOO_SHORT);
-    }
-    let reading = read::read_line(line);
-    let LineRead::Case(case) = reading else {
-        return refused(read::LINE_MALFORMED);
-    };
-    answer_case(case, answer)
+    handed_back(answer_in(line, answer))
 }
 
 pub fn marehour_lanes(line: &[u8], letter: u32, answer: &mut [u8]) -> i32
@@ -79,12 +87,5 @@ pub fn marehour_lanes(line: &[u8], letter: u32, answer: &mut [u8]) -> i32
     ensures buffer { answer.new
         ≡ content (lanes_call line.now letter (length answer.old)) answer.old }
 {
-    if answer.len() < ANSWER_SIZE {
-        return refused(BUFFER_TOO_SHORT);
-    }
-    let asked = read::read_line(line);
-    let LineRead::Case(case) = asked else {
-        return refused(read::LINE_MALFORMED);
-    };
-    lanes_case(case, letter as u64, answer)
+    handed_back(lanes_in(line, u64::from(letter), answer))
 }

@@ -1,28 +1,22 @@
 // Daily volumes for a host in C: a lent line without its newline, a daily traffic with its shares, and sixteen lent numbers.
 //   marehour_daily   the answer to the line's case with the hourly demand of the daily traffic, and its daily service volumes
-ghost use Rattle.std.specs.Prelude.{◌≡◌, ◌≤◌, length};
-ghost use Rattle.daily.specs.Daily.{shares_of, figure_count};
-ghost use Rattle.marehour.specs.Calls.{daily_reply, daily_call, call_result, content};
+ghost use Rattle.std.specs.Prelude.{◌≡◌, ◌≤◌, length, IfOk};
+ghost use Rattle.daily.specs.Daily.{shares_of};
+ghost use Rattle.marehour.specs.Calls.{daily_call, call_result, content, hands_back};
 
-use crate::calls::{BUFFER_TOO_SHORT, refused};
-use daily::{DailyAnswer, FIGURES, Shares};
-use lines::read;
-use lines::read::LineRead;
-use road::Case;
+use crate::calls::{case_of, check_room, handed_back};
+use checks::Refusal;
+use daily::{FIGURES, Shares};
 
-fn daily_case(case: Case, shares: Shares, daily_traffic: u64, figures: &mut [u64]) -> i32
-    requires { figure_count ≤ length figures.old }
-    ensures result { result ≡ call_result (daily_reply shares daily_traffic case) }
-    ensures figures { figures.new ≡ content (daily_reply shares daily_traffic case) figures.old }
+fn daily_in(line: &[u8], shares: Shares, daily_traffic: u64, figures: &mut [u64]) -> Result<u64, Refusal>
+    ensures fits { IfOk result (λ count. count ≤ 90000) }
+    ensures result { hands_back result ≡ call_result (daily_call line.now shares daily_traffic (length figures.old)) }
+    ensures figures { figures.new ≡ content (daily_call line.now shares daily_traffic (length figures.old)) figures.old }
 {
-    let found = daily::evaluate_daily(case, shares, daily_traffic);
-    match found {
-        DailyAnswer::Graded(grade, volumes) => {
-            let written = daily::put_figures(grade, volumes, figures);
-            written as i32
-        }
-        DailyAnswer::Refused(number) => refused(number),
-    }
+    let case = case_of(line, check_room(figures.len(), FIGURES))?;
+    let grade = daily::evaluate_daily(case, shares, daily_traffic)?;
+    let written = grade.put_figures(figures);
+    Ok(written as u64)
 }
 
 pub fn marehour_daily(
@@ -37,16 +31,9 @@ pub fn marehour_daily(
     ensures figures { figures.new ≡ content (daily_call line.now (shares_of peak_share direction_share)
         daily_traffic (length figures.old)) figures.old }
 {
-    if figures.len() < FIGURES {
-        return refused(BUFFER_TOO_SHORT);
-    }
-    let reading = read::read_line(line);
-    let LineRead::Case(case) = reading else {
-        return refused(read::LINE_MALFORMED);
-    };
     let shares = Shares {
-        peak: peak_share as u64,
-        direction: direction_share as u64,
+        peak: u64::from(peak_share),
+        direction: u64::from(direction_share),
     };
-    daily_case(case, shares, daily_traffic, figures)
+    handed_back(daily_in(line, shares, daily_traffic, figures))
 }

@@ -1,25 +1,26 @@
 // A whole day for a host in C: a lent line without its newline, lent demands, and lent answers of twelve numbers each.
 //   marehour_day   the answers to the line's case with each demand
-ghost use Rattle.std.specs.Prelude.{◌≡◌, length};
-ghost use Rattle.marehour.specs.Calls.{day_call, day_result, content};
+ghost use Rattle.std.specs.Prelude.{◌≡◌, ◌≤◌, length, IfOk};
+ghost use Rattle.marehour.specs.Calls.{day_call, day_result, content, hands_back};
 
-use crate::calls::refused;
-use lines::read;
-use lines::read::LineRead;
+use crate::calls::{case_of, handed_back};
+use checks::Refusal;
+
+fn day_in(line: &[u8], demands: &[u64], answers: &mut [u64]) -> Result<u64, Refusal>
+    ensures fits { IfOk result (λ count. count ≤ 90000) }
+    ensures result { hands_back result ≡ day_result (day_call line.now demands.now (length answers.old)) }
+    ensures answers { answers.new
+        ≡ content (day_call line.now demands.now (length answers.old)) answers.old }
+{
+    let case = case_of(line, day::check_lent(demands.len(), answers.len()))?;
+    day::put_day(case, demands, answers);
+    Ok(demands.len() as u64)
+}
 
 pub fn marehour_day(line: &[u8], demands: &[u64], answers: &mut [u64]) -> i32
     ensures result { result ≡ day_result (day_call line.now demands.now (length answers.old)) }
     ensures answers { answers.new
         ≡ content (day_call line.now demands.now (length answers.old)) answers.old }
 {
-    let number = day::lent_refusal(demands.len(), answers.len());
-    if 0 < number {
-        return refused(number);
-    }
-    let reading = read::read_line(line);
-    let LineRead::Case(case) = reading else {
-        return refused(read::LINE_MALFORMED);
-    };
-    day::put_day(case, demands, answers);
-    demands.len() as i32
+    handed_back(day_in(line, demands, answers))
 }

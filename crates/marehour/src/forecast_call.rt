@@ -1,28 +1,22 @@
 // A forecast for a host in C: a lent line without its newline, the ends of demand, heavy share and peak-hour factor, eight lent numbers.
 //   marehour_forecast   the best and the worst letter of the line's case within the ends, each with its combination
-ghost use Rattle.std.specs.Prelude.{◌≡◌, ◌≤◌, length};
-ghost use Rattle.forecast.specs.Forecasts.{forecast_of, figure_count};
-ghost use Rattle.marehour.specs.Calls.{forecast_reply, forecast_call, call_result, content};
+ghost use Rattle.std.specs.Prelude.{◌≡◌, ◌≤◌, length, IfOk};
+ghost use Rattle.forecast.specs.Forecasts.{forecast_of};
+ghost use Rattle.marehour.specs.Calls.{forecast_call, call_result, content, hands_back};
 
-use crate::calls::{BUFFER_TOO_SHORT, refused};
-use forecast::{FIGURES, Forecast, ForecastAnswer, Range};
-use lines::read;
-use lines::read::LineRead;
-use road::Case;
+use crate::calls::{case_of, check_room, handed_back};
+use checks::Refusal;
+use forecast::{FIGURES, Forecast, Range};
 
-fn forecast_case(case: Case, forecast: Forecast, figures: &mut [u64]) -> i32
-    requires { figure_count ≤ length figures.old }
-    ensures result { result ≡ call_result (forecast_reply forecast case) }
-    ensures figures { figures.new ≡ content (forecast_reply forecast case) figures.old }
+fn forecast_in(line: &[u8], forecast: Forecast, figures: &mut [u64]) -> Result<u64, Refusal>
+    ensures fits { IfOk result (λ count. count ≤ 90000) }
+    ensures result { hands_back result ≡ call_result (forecast_call line.now forecast (length figures.old)) }
+    ensures figures { figures.new ≡ content (forecast_call line.now forecast (length figures.old)) figures.old }
 {
-    let found = forecast::evaluate_forecast(case, forecast);
-    match found {
-        ForecastAnswer::Graded(best, worst) => {
-            let written = forecast::put_figures(best, worst, figures);
-            written as i32
-        }
-        ForecastAnswer::Refused(number) => refused(number),
-    }
+    let case = case_of(line, check_room(figures.len(), FIGURES))?;
+    let outcomes = forecast::evaluate_forecast(case, forecast)?;
+    let written = outcomes.put_figures(figures);
+    Ok(written as u64)
 }
 
 pub fn marehour_forecast(
@@ -41,13 +35,6 @@ pub fn marehour_forecast(
         (forecast_of demand_low demand_high share_low share_high factor_low factor_high) (length figures.old))
         figures.old }
 {
-    if figures.len() < FIGURES {
-        return refused(BUFFER_TOO_SHORT);
-    }
-    let reading = read::read_line(line);
-    let LineRead::Case(case) = reading else {
-        return refused(read::LINE_MALFORMED);
-    };
     let forecast = Forecast {
         demand: Range {
             low: demand_low,
@@ -62,5 +49,5 @@ pub fn marehour_forecast(
             high: factor_high,
         },
     };
-    forecast_case(case, forecast, figures)
+    handed_back(forecast_in(line, forecast, figures))
 }

@@ -6,21 +6,18 @@ ghost use Rattle.survey.specs.Survey.{survey_answer};
 ghost use Rattle.survey.specs.declared.SurveyedSpeed.TheVariants.{MilesPerHour, KilometresPerHour};
 ghost use Rattle.marehour.specs.Calls.{survey_result};
 
-use crate::calls::refused;
-use survey::{Survey, SurveyAnswer, SurveyedSpeed};
+use crate::calls::handed_back;
+use survey::{Survey, SurveyedSpeed};
 
 fn survey_speed(speed: SurveyedSpeed, cars: u32, flow: u32) -> i32
     ensures { result ≡ survey_result (survey_answer (record { speed = speed; cars = cars; flow = flow })) }
 {
-    let answer = survey::surveyed_speed(Survey {
+    let survey = Survey {
         speed,
-        cars: cars as u64,
-        flow: flow as u64,
-    });
-    match answer {
-        SurveyAnswer::Speed(thousandths) => thousandths as i32,
-        SurveyAnswer::Refused(number) => refused(number),
-    }
+        cars: u64::from(cars),
+        flow: u64::from(flow),
+    };
+    handed_back(survey::surveyed_speed(survey))
 }
 
 pub fn marehour_survey_mph(speed: f32, cars: u32, flow: u32) -> i32

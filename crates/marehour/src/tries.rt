@@ -1,34 +1,25 @@
 // The demands that the search for the service volumes tries, counted for a host in C: their count, or minus the refusal's number.
 //   marehour_tries   for the case of a lent line
-ghost use Rattle.std.specs.Prelude.{◌≡◌};
-ghost use Rattle.answer.specs.Answers.{answer_to};
-ghost use Rattle.answer.specs.Tries.{counted_answer};
-ghost use Rattle.marehour.specs.Tries.{tries_result, tries_call};
+ghost use Rattle.std.specs.Prelude.{◌≡◌, ◌≤◌, IfOk};
+ghost use Rattle.marehour.specs.Calls.{hands_back};
+ghost use Rattle.marehour.specs.Tries.{tries_call};
 
-use crate::calls::refused;
+use crate::calls::{case_of, handed_back};
 use answer::evaluate;
-use answer::evaluate::Answer;
-use lines::read;
-use lines::read::LineRead;
-use road::Case;
+use checks::Refusal;
 
-fn tries_case(case: Case) -> i32
-    ensures { result ≡ tries_result (answer_to case) (counted_answer case).tries }
+fn tries_for(line: &[u8]) -> Result<u64, Refusal>
+    ensures fits { IfOk result (λ count. count ≤ 90000) }
+    ensures result { hands_back result ≡ tries_call line.now }
 {
+    let case = case_of(line, Ok(()))?;
     let counted = evaluate::evaluate_counted(case);
-    let answer = counted.answer;
-    match answer {
-        Answer::Graded(_) => counted.tries as i32,
-        Answer::Refused(number) => refused(number),
-    }
+    counted.value?;
+    Ok(counted.tries)
 }
 
 pub fn marehour_tries(line: &[u8]) -> i32
     ensures { result ≡ tries_call line.now }
 {
-    let reading = read::read_line(line);
-    let LineRead::Case(case) = reading else {
-        return refused(read::LINE_MALFORMED);
-    };
-    tries_case(case)
+    handed_back(tries_for(line))
 }

@@ -4,39 +4,37 @@
 --   line_text-le, line_text-pos   so has what is printed for a line, and it is not empty
 --   line_text-long        lines of more than 80 bytes all get the same
 -- Assumes nothing.
-use mathlib.Core.Path.{◌≡◌, ap, ◌∙◌}
-use mathlib.Core.List.{List, [], ◌∷◌, flat_map}
-use Prim.Native.Nat.{ℕ, ◌≤◌, ◌<◌}
+use Rattle.std.proofs.Common.{◌≡◌, ℕ, ◌≤◌, ◌<◌, Result, Ok, Err, List, [], ◌∷◌, length, ap, arith}
+use mathlib.Core.List.{flat_map}
 use Prim.Native.Char.{code}
-use native.Mathlib.Omega.{arith}
-use lib.ListN.{length}
 use Rattle.numbers.specs.Bounds.{AllAtMost}
-use Rattle.checks.proofs.RefusalLaws.{unless_refused-by}
+use Rattle.checks.specs.declared.Refusal.{Refusal}
+use Rattle.checks.specs.Numbers.{number, refusal_of}
+use Rattle.checks.proofs.NumberLaws.{ok_unless-by}
 use Rattle.text.specs.Decimal.{decimal_up_to, decimal, figures_text}
 use Rattle.text.proofs.RowLaws.{row_text-length, row_text-one, figures_text-mono}
 use Rattle.road.specs.declared.Case.{Case}
 use Rattle.method.specs.Refusals.{refusal}
-use Rattle.answer.specs.declared.evaluate.Answer.{Answer}
+use Rattle.answer.specs.declared.evaluate.Grade.{Grade}
 use Rattle.answer.specs.Answers.{graded, answer_to, values}
 use Rattle.answer.specs.Laws.{figure_ends}
 use Rattle.answer.proofs.Laws.{figures-within-ends}
 use Rattle.answer.proofs.AnswerLaws.{answer_to-accepted}
-use Rattle.lines.specs.declared.read.LineRead.TheVariants as LineRead
 use Rattle.lines.specs.Reading.{longest_line, read_line}
 use Rattle.lines.proofs.ReadingLaws.{read_line-by, read_line-refused, read_line-long}
 use Rattle.replies.specs.Texts.{letter_byte, refusal_text, text_of, answer_text, longest_answer, answer_of, line_text}
 
 -- ---- by what was read
-pub line_text-refused : (bs : List ℕ) (n : ℕ) → read_line bs ≡ LineRead.Refused n → line_text bs ≡ refusal_text 15
+pub line_text-refused : (bs : List ℕ) (r : Refusal) → read_line bs ≡ Err r → line_text bs ≡ refusal_text 15
 unfolding text_of line_text
-line_text-refused bs n e = ap (λ r. answer_text (answer_of r)) e ∙ ap refusal_text (read_line-refused bs n e)
+line_text-refused bs r e = ap (λ a. answer_text (answer_of a)) (read_line-refused bs r e)
 
-pub line_text-case : (bs : List ℕ) (case : Case) → read_line bs ≡ LineRead.Case case → line_text bs ≡ answer_text (answer_to case)
+pub line_text-case : (bs : List ℕ) (case : Case) → read_line bs ≡ Ok case → line_text bs ≡ answer_text (answer_to case)
 unfolding line_text
 line_text-case bs case e = ap (λ r. answer_text (answer_of r)) e
 
 pub line_text-long : (bs : List ℕ) → longest_line < length bs → line_text bs ≡ refusal_text 15
-line_text-long bs h = line_text-refused bs 15 (read_line-long bs h)
+line_text-long bs h = line_text-refused bs _ (read_line-long bs h)
 
 -- ---- how long it is
 pub refusal_text-le : (n : ℕ) → length (refusal_text n) ≤ longest_answer
@@ -52,9 +50,9 @@ figures-le number (letter ∷ figures) h = omega (arith, row_text-length (letter
 pub answer_text-le : (case : Case) → length (answer_text (answer_to case)) ≤ longest_answer
 unfolding text_of
 answer_text-le case =
-    unless_refused-by (refusal case) (Answer.Graded (graded case)) Answer.Refused (λ a. length (answer_text a) ≤ longest_answer)
-    (λ a. figures-le 0 (values (Answer.Graded (graded case))) (rw (answer_to-accepted case a) at (figures-within-ends case a)))
-    (λ p. refusal_text-le (refusal case))
+    ok_unless-by (refusal case) (graded case) (λ a. length (answer_text a) ≤ longest_answer)
+    (λ a. figures-le 0 (values (Ok (graded case))) (rw (answer_to-accepted case a) at (figures-within-ends case a)))
+    (λ p. refusal_text-le (number (refusal_of (refusal case))))
 
 pub line_text-le : (bs : List ℕ) → length (line_text bs) ≤ longest_answer
 unfolding text_of line_text
@@ -65,7 +63,7 @@ unfolding refusal_text text_of
 text-pos number [] = omega (arith, row_text-length (code "X") (number ∷ []))
 text-pos number (letter ∷ figures) = omega (arith, row_text-length (letter_byte letter) figures)
 
-pub answer_text-pos : (a : Answer) → 0 < length (answer_text a)
+pub answer_text-pos : (a : Result Grade Refusal) → 0 < length (answer_text a)
 answer_text-pos a = text-pos _ _
 
 pub line_text-pos : (bs : List ℕ) → 0 < length (line_text bs)

@@ -8,12 +8,14 @@
 --   line_answer bs      the answer to a line
 --   line_text bs        what `los` prints for a line
 -- Assumes nothing.
-use Rattle.std.specs.Prelude.{ℕ, ◌+◌, ◌-◌, List, [], ◌∷◌}
+use Rattle.std.specs.Prelude.{ℕ, ◌+◌, ◌-◌, Result, Ok, Err, List, [], ◌∷◌}
 use Prim.Native.Char.{code}
 use Rattle.text.specs.Decimal.{row_text}
-use Rattle.answer.specs.declared.evaluate.Answer.{Answer}
-use Rattle.answer.specs.Answers.{answer_to, refusal_number, values}
-use Rattle.lines.specs.declared.read.LineRead.{LineRead}
+use Rattle.answer.specs.declared.evaluate.Grade.{Grade}
+use Rattle.answer.specs.Answers.{answer_to, values}
+use Rattle.road.specs.declared.Case.{Case}
+use Rattle.checks.specs.declared.Refusal.{Refusal}
+use Rattle.checks.specs.Numbers.{refusal_number}
 use Rattle.lines.specs.Reading.{read_line}
 
 abbrev pub letter_byte : ℕ → ℕ
@@ -28,18 +30,18 @@ unfoldable pub text_of : ℕ → List ℕ → List ℕ
 text_of number [] = refusal_text number
 text_of number (letter ∷ figures) = row_text (letter_byte letter) figures
 
-abbrev pub answer_text : Answer → List ℕ
+abbrev pub answer_text : Result Grade Refusal → List ℕ
 answer_text a = text_of (refusal_number a) (values a)
 
 abbrev pub longest_answer : ℕ
 longest_answer = 64
 
 -- "An answer read from a line is either a case or its refusal"
-abbrev pub answer_of : LineRead → Answer
-answer_of (LineRead.Case c) = answer_to c
-answer_of (LineRead.Refused n) = Answer.Refused n
+abbrev pub answer_of : Result Case Refusal → Result Grade Refusal
+answer_of (Ok c) = answer_to c
+answer_of (Err r) = Err r
 
-abbrev pub line_answer : List ℕ → Answer
+abbrev pub line_answer : List ℕ → Result Grade Refusal
 line_answer bs = answer_of (read_line bs)
 
 unfoldable pub line_text : List ℕ → List ℕ

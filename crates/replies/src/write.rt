@@ -5,15 +5,15 @@
 //   answer_line      the answer to a line
 ghost use Rattle.std.specs.Prelude.{◌≡◌, ◌+◌, ◌≤◌, length};
 ghost use Rattle.text.specs.Buffer.{Wrote};
-ghost use Rattle.answer.specs.declared.evaluate.Answer.TheVariants.{Graded};
 ghost use Rattle.curve.specs.Service.{letter_number};
+ghost use Rattle.checks.specs.Numbers.{number};
 ghost use Rattle.replies.specs.Texts.{letter_byte, answer_text, refusal_text, longest_answer, line_text};
 
 use answer::evaluate;
-use answer::evaluate::{Answer, Grade};
+use answer::evaluate::Grade;
+use checks::Refusal;
 use curve::service::Letter;
 use lines::read;
-use lines::read::LineRead;
 
 pub const LONGEST_ANSWER: usize = 64;
 
@@ -30,29 +30,27 @@ fn letter_byte(letter: Letter) -> u8
     }
 }
 
-pub fn write_grade(grade: Grade, out: &mut [u8], at: usize) -> usize
-    requires { at + length (answer_text (Graded grade)) ≤ length out.old }
-    ensures { Wrote (answer_text (Graded grade)) at out.old out.new result }
+pub fn write_grade(grade: &Grade, out: &mut [u8], at: usize) -> usize
+    requires { at + length (answer_text (Ok grade.now)) ≤ length out.old }
+    ensures { Wrote (answer_text (Ok grade.now)) at out.old out.new result }
 {
-    let letter = grade.letter;
-    let figures = evaluate::grade_values(grade);
-    text::decimal::put_row(letter_byte(letter), &figures[1..], out, at)
+    text::decimal::put_row(letter_byte(grade.letter), &grade.values()[1..], out, at)
 }
 
-fn write_refusal(number: u64, out: &mut [u8], at: usize) -> usize
-    requires { at + length (refusal_text number) ≤ length out.old }
-    ensures { Wrote (refusal_text number) at out.old out.new result }
+fn write_refusal(refusal: Refusal, out: &mut [u8], at: usize) -> usize
+    requires { at + length (refusal_text (number refusal)) ≤ length out.old }
+    ensures { Wrote (refusal_text (number refusal)) at out.old out.new result }
 {
-    text::decimal::put_row(b'X', &[number], out, at)
+    text::decimal::put_row(b'X', &[refusal.number()], out, at)
 }
 
-pub fn write_answer(answer: Answer, out: &mut [u8], at: usize) -> usize
+pub fn write_answer(answer: Result<Grade, Refusal>, out: &mut [u8], at: usize) -> usize
     requires { at + length (answer_text answer) ≤ length out.old }
     ensures { Wrote (answer_text answer) at out.old out.new result }
 {
     match answer {
-        Answer::Graded(grade) => write_grade(grade, out, at),
-        Answer::Refused(number) => write_refusal(number, out, at),
+        Ok(grade) => write_grade(&grade, out, at),
+        Err(refusal) => write_refusal(refusal, out, at),
     }
 }
 
@@ -60,9 +58,8 @@ pub fn answer_line(line: &[u8], out: &mut [u8], at: usize) -> usize
     requires { at + longest_answer ≤ length out.old }
     ensures { Wrote (line_text line.now) at out.old out.new result }
 {
-    let reading = read::read_line(line);
-    let LineRead::Case(case) = reading else {
-        return write_refusal(read::LINE_MALFORMED, out, at);
+    let Ok(case) = read::read_line(line) else {
+        return write_refusal(Refusal::LineMalformed, out, at);
     };
     write_answer(evaluate::evaluate(case), out, at)
 }

@@ -1,40 +1,30 @@
 -- A float's exact value in a unit, rounded down (specs/Survey), by the bits of the float.
---   bits-low      the bits of a float below 1, subnormals and 0 among them: 13
---   bits-high     of 512 and more, infinite, NaN or negative, -0 among them: 13
---   bits-by       of 1 up to 512: by the range, the floor that the code works out or 13
---   steps, quotient   what the code's shift gives, and its division
---   numerator-fits, denominator-fits, denominator-pos   the code's products
---   not_nan, rounded_in-nan   a float by whether it differs from itself
+--   by_bits        what survey::speed_of_bits goes by:
+--     bits-low       the bits of a float below 1, subnormals and 0 among them: refused
+--     bits-high      of 512 and more, infinite, NaN or negative, -0 among them: refused
+--     bits-between   of 1 up to 512: by the range, the floor that the code works out or refused
+--   by_float       what survey::speed_of_float goes by: a NaN is refused, and any other float is that of its bits
 -- Assumes nothing.
-use mathlib.Core.Path.{◌≡◌, refl, sym, ap, ◌∙◌, subst}
-use mathlib.Core.Logic.{⊎_elim}
-use mathlib.Core.Bool.{Bool, true, false, cond, not}
-use Prim.Native.Nat.{ℕ, zero, suc, ◌+◌, ◌-◌, ◌*◌, ◌/◌, ◌%◌, ◌^◌, ◌≤◌, ◌<◌}
-use native.Mathlib.Nat.{mul_assoc, mul_left_comm, mul_right_comm, mul-pos, le_trans, lt_of_le_of_lt, mul-le-mul, mul-le-mul_left}
-use native.Mathlib.Nat.{mul-le-mul_right, mul-lt-mul_of_pos_left, div-lt_iff_lt-mul, le-div_iff_mul-le, eq-or-lt_of_le, le_of_suc-le-suc}
-use native.Mathlib.Nat.{mod-eq_of_lt, one-mul}
-use native.Mathlib.Omega.{arith}
-use borrow.Author.Tests.{lt-leb, leb-false, ne_eqb}
-use lib.Dec.{T, leb, eqb, lit<, lit≤}
-use lib.IntN.{pos}
-use lib.Pow.{pow-add, pow_pos, pow_mono}
-use lib.Ieee.{Float, nan, inf, fin, binary32, up, down, odd, of_fields, of_bits, ne, eq, is_nan}
-use lib.Ieee.Compare.{differs_from_itself}
+use Rattle.std.proofs.Common.{◌≡◌, refl, sym, ap, ◌∙◌, subst, ⊎_elim, Bool, true, false, cond, true≢false, leb, eqb, lit≤, pos}
+use Rattle.std.proofs.Common.{ℕ, zero, suc, ◌+◌, ◌-◌, ◌*◌, ◌/◌, ◌%◌, ◌^◌, ◌≤◌, ◌<◌, arith, leb-false, ne_eqb, mod-eq_of_lt}
+use Rattle.std.proofs.Common.{le_trans, lt_of_le_of_lt, le_of_suc-le-suc, eq-or-lt_of_le, pow-add, pow_pos, pow_mono}
+use Rattle.std.proofs.Common.{mul_assoc, mul_comm, mul_left_comm, mul-pos, mul-le-mul, mul-le-mul_left, mul-le-mul_right}
+use Rattle.std.proofs.Common.{div-lt_iff_lt-mul, le-div_iff_mul-le}
+use Rattle.std.proofs.Math.Nat.{mul-lt-mul_of_pos_left, mul-mul-mul_comm, mul-div-mul_left}
+use Rattle.std.proofs.lemmas.Bool.Decides.{nat_tests}
+use Rattle.std.proofs.lemmas.Grind.{one_shifted}
+use borrow.Author.Tests.{lt-leb}
+use lib.Ieee.{Float, nan, inf, fin, binary32, up, down, odd, of_fields, of_bits, is_nan}
+use lib.Ieee.Bits.{of_bits-to_bits}
 use lib.Ieee.Exact.{HasValue, odd_sign}
 use lib.Ieee.Fits.{down_pos}
 use lib.Ieee.Nearest.{div_same}
 use Rattle.numbers.specs.declared.Fraction.{Fraction}
 use Rattle.numbers.specs.Fraction.{times, rounded_up}
 use Rattle.checks.specs.Refusals.{outside}
-use Rattle.survey.specs.declared.SurveyAnswer.TheVariants as SurveyAnswer
-use Rattle.survey.specs.Survey.{thousandths, exact_value, rounded_in}
-use Rattle.survey.specs.Units.{UnitFits, speed_answer}
-use Rattle.survey.proofs.SurveyLaws.{speed_answer-low, speed_answer-high, speed_answer-negative}
-
--- (p n) (c d) = (p c) (n d)
-exchange : (p n c d : ℕ) → p * n * (c * d) ≡ p * c * (n * d)
-exchange p n c d =
-    sym (mul_assoc (p * n) c d) ∙ ap (λ (x : ℕ). x * d) (mul_right_comm p n c) ∙ mul_assoc (p * c) n d
+use Rattle.survey.specs.Survey.{thousandths, exact_value, rounded_in, speed_refused, thousandths_in}
+use Rattle.survey.specs.Units.{UnitFits}
+use Rattle.survey.proofs.SurveyLaws.{speed_refused-low, speed_refused-high, speed_refused-negative}
 
 -- ---- where a floor lies
 -- a / c at most 1 and the unit n / d below 30,000: the floor is below 30,000
@@ -52,53 +42,34 @@ floor-high a c n d hc hd l h =
     (subst (λ (x : ℕ). x ≤ a * n) (mul_assoc 512 c n ∙ sym (mul_left_comm c 512 n)) (mul-le-mul_right n l))))
 
 -- 2 ^ x is a factor of both sides of the division
-floor-cancel : (q x j n d : ℕ) → 0 < d → q * 2 ^ x * n / (2 ^ (x + j) * d) ≡ q * n / (2 ^ j * d)
-floor-cancel q x j n d hd =
-    div_same (q * 2 ^ x * n) (2 ^ (x + j) * d) (q * n) (2 ^ j * d) (mul-pos (pow_pos (x + j)) hd) (mul-pos (pow_pos j) hd)
-    (ap (λ (y : ℕ). y * (2 ^ j * d)) (mul_right_comm q (2 ^ x) n) ∙ mul_assoc (q * n) (2 ^ x) (2 ^ j * d)
-    ∙ ap (λ (y : ℕ). q * n * y) (sym (mul_assoc (2 ^ x) (2 ^ j) d) ∙ ap (λ (y : ℕ). y * d) (sym (pow-add 2 x j))))
-
--- what the code's shift of 1 gives for the exponent x
-unfoldable pub steps : ℕ → ℕ
-steps x = 1 * 2 ^ (150 - x) % 18446744073709551616
-
--- from the exponent of 1 on at most 2 ^ 23
-steps-le : (x : ℕ) → 127 ≤ x → 2 ^ (150 - x) ≤ 8388608
-steps-le x h = pow_mono {i = 150 - x} {j = 23} (omega arith)
-
--- so the shift loses no bit
-steps-eq : (x : ℕ) → 127 ≤ x → steps x ≡ 2 ^ (150 - x)
-unfolding steps
-steps-eq x h = ap (λ (y : ℕ). y % 18446744073709551616) (one-mul (2 ^ (150 - x))) ∙ mod-eq_of_lt (lt_of_le_of_lt (steps-le x h) (lit< tt))
+floor-cancel : (q x j n d : ℕ) → q * 2 ^ x * n / (2 ^ (x + j) * d) ≡ q * n / (2 ^ j * d)
+floor-cancel q x j n d =
+    rw (mul_comm q (2 ^ x), mul_assoc (2 ^ x) q n, pow-add 2 x j, mul_assoc (2 ^ x) (2 ^ j) d)
+    (mul-div-mul_left (q * n) (2 ^ j * d) (pow_pos x))
 
 -- what the code works out of the bits b, the exponent's field being b / 2 ^ 23 and the digits b % 2 ^ 23
 abbrev pub quotient : Fraction → ℕ → ℕ
-quotient unit b = (8388608 + b % 8388608) * unit.numerator / (steps (b / 8388608) * unit.denominator)
+quotient unit b = (8388608 + b % 8388608) * unit.numerator / (2 ^ (150 - b / 8388608) * unit.denominator)
 
 -- a pattern without the sign
 of_bits-fields : (b : ℕ) → b < 2147483648 → of_bits binary32 b ≡ of_fields binary32 false (b / 8388608) (b % 8388608)
 unfolding of_bits
 of_bits-fields b h = rw (lt-leb 2147483648 b h, mod-eq_of_lt h)
 
--- what equals itself is no NaN
-pub not_nan : (x : Float) → T (not (ne x x)) → T (not (is_nan x))
-unfolding ne eq is_nan
-not_nan nan h = h
-not_nan (inf s) h = tt
-not_nan (fin s m e) h = tt
-
 module _ (unit : Fraction) where
-  -- what differs from itself is NaN: no value, 13
-  pub rounded_in-nan : (x : Float) → T (ne x x) → speed_answer (rounded_in unit x) ≡ SurveyAnswer.Refused 13
-  unfolding rounded_in
-  rounded_in-nan x h = rw (differs_from_itself x h)
+  -- NaN: no value, 13
+  pub rounded_in-nan : (x : Float) → is_nan x ≡ true → speed_refused (rounded_in unit x) ≡ true
+  unfolding rounded_in is_nan
+  rounded_in-nan nan h = refl
+  rounded_in-nan (inf s) h = absurd (true≢false (sym h))
+  rounded_in-nan (fin s m e) h = absurd (true≢false (sym h))
 
   -- a negative value rounds to a number below 30,000, and an infinite one has none: 13
-  negative : (x : Float) (a c : ℕ) → HasValue x true a c → speed_answer (rounded_in unit x) ≡ SurveyAnswer.Refused 13
+  negative : (x : Float) (a c : ℕ) → HasValue x true a c → speed_refused (rounded_in unit x) ≡ true
   unfolding rounded_in
   negative nan a c v = refl
   negative (inf s) a c v = refl
-  negative (fin s m e) a c v = rw v.0 (speed_answer-negative (rounded_up (times (exact_value m e) unit)))
+  negative (fin s m e) a c v = rw v.0 (speed_refused-negative (rounded_up (times (exact_value m e) unit)))
 
   -- a positive one is a / c times the unit, rounded down
   positive : (x : Float) (a c : ℕ) → 0 < unit.denominator → 0 < c → HasValue x false a c
@@ -111,27 +82,28 @@ module _ (unit : Fraction) where
       (ap (λ (k : ℕ). thousandths (pos k))
       (div_same (m * up e * unit.numerator) (down e * unit.denominator) (a * unit.numerator) (c * unit.denominator)
       (mul-pos (down_pos e) hd) (mul-pos hc hd)
-      (exchange (m * up e) unit.numerator c unit.denominator
-      ∙ ap (λ (y : ℕ). y * (unit.numerator * unit.denominator)) v.1 ∙ exchange a (down e) unit.numerator unit.denominator)))
+      (mul-mul-mul_comm (m * up e) unit.numerator c unit.denominator
+      ∙ ap (λ (y : ℕ). y * (unit.numerator * unit.denominator)) v.1
+      ∙ mul-mul-mul_comm a (down e) unit.numerator unit.denominator)))
 
   -- by the fields of a pattern, the exponent's field x and the digits t. With the sign: 13, whatever they are
-  signed : (x t : ℕ) → speed_answer (rounded_in unit (of_fields binary32 true x t)) ≡ SurveyAnswer.Refused 13
+  signed : (x t : ℕ) → speed_refused (rounded_in unit (of_fields binary32 true x t)) ≡ true
   unfolding of_fields rounded_in
   signed zero t = negative (odd 24 true t 0 149) (t * 2 ^ 0) (2 ^ 149) (odd_sign 24 true t 0 149)
   signed (suc x) t = by-test (eqb (suc x) 255) (eqb t 0)
     where
-      by-test : (a b : Bool) → speed_answer (rounded_in unit (cond a (cond b (inf true) nan) (odd 24 true (8388608 + t) x 149)))
-          ≡ SurveyAnswer.Refused 13
+      by-test : (a b : Bool) → speed_refused (rounded_in unit (cond a (cond b (inf true) nan) (odd 24 true (8388608 + t) x 149)))
+          ≡ true
       by-test true true = refl
       by-test true false = refl
       by-test false b = negative (odd 24 true (8388608 + t) x 149) ((8388608 + t) * 2 ^ x) (2 ^ 149) (odd_sign 24 true (8388608 + t) x 149)
 
   -- exponent 255: infinite or NaN, 13
-  special : (t : ℕ) → speed_answer (rounded_in unit (of_fields binary32 false 255 t)) ≡ SurveyAnswer.Refused 13
+  special : (t : ℕ) → speed_refused (rounded_in unit (of_fields binary32 false 255 t)) ≡ true
   unfolding of_fields rounded_in
   special t = by-test (eqb t 0)
     where
-      by-test : (b : Bool) → speed_answer (rounded_in unit (cond b (inf false) nan)) ≡ SurveyAnswer.Refused 13
+      by-test : (b : Bool) → speed_refused (rounded_in unit (cond b (inf false) nan)) ≡ true
       by-test true = refl
       by-test false = refl
 
@@ -155,31 +127,31 @@ module _ (unit : Fraction) where
         (odd_sign 24 false (8388608 + t) x 149))
 
     -- at most 1: refused as too low
-    below-1 : (a : ℕ) → a ≤ 2 ^ 149 → speed_answer (thousandths (pos (floor_of a))) ≡ SurveyAnswer.Refused 13
-    below-1 a h = speed_answer-low (floor_of a)
+    below-1 : (a : ℕ) → a ≤ 2 ^ 149 → speed_refused (thousandths (pos (floor_of a))) ≡ true
+    below-1 a h = speed_refused-low (floor_of a)
         (floor-low a (2 ^ 149) unit.numerator unit.denominator (pow_pos 149) s.denominator-pos h s.low-at-1)
 
     -- 512 or more: refused as too high
-    from-512 : (a : ℕ) → 512 * 2 ^ 149 ≤ a → speed_answer (thousandths (pos (floor_of a))) ≡ SurveyAnswer.Refused 13
-    from-512 a h = speed_answer-high (floor_of a)
+    from-512 : (a : ℕ) → 512 * 2 ^ 149 ≤ a → speed_refused (thousandths (pos (floor_of a))) ≡ true
+    from-512 a h = speed_refused-high (floor_of a)
         (floor-high a (2 ^ 149) unit.numerator unit.denominator (pow_pos 149) s.denominator-pos h s.high-at-512)
 
     -- exponents below that of 1: at most 2 ^ 24 × 2 ^ 125 of the least float, which is 1
-    fields-low : (x t : ℕ) → t < 8388608 → x < 127 → speed_answer (rounded_in unit (of_fields binary32 false x t)) ≡ SurveyAnswer.Refused 13
-    fields-low zero t ht h = ap speed_answer (subnormal t) ∙ below-1 (t * 2 ^ 0) (le_trans {m = 16777216} (omega arith) (lit≤ tt))
+    fields-low : (x t : ℕ) → t < 8388608 → x < 127 → speed_refused (rounded_in unit (of_fields binary32 false x t)) ≡ true
+    fields-low zero t ht h = ap speed_refused (subnormal t) ∙ below-1 (t * 2 ^ 0) (le_trans {m = 16777216} (omega arith) (lit≤ tt))
     fields-low (suc x) t ht h =
-        ap speed_answer (normal x t (omega arith))
+        ap speed_refused (normal x t (omega arith))
         ∙ below-1 ((8388608 + t) * 2 ^ x)
         (mul-le-mul {n₁ = 8388608 + t} {m₁ = 2 ^ x} {n₂ = 16777216} {m₂ = 2 ^ 125} (omega arith) (pow_mono {i = x} {j = 125} (omega arith)))
 
     -- exponents from that of 512 on: at least 2 ^ 23 × 2 ^ 135 of the least float, which is 512; or 255
-    fields-high : (x t : ℕ) → 135 < x → x < 256 → speed_answer (rounded_in unit (of_fields binary32 false x t)) ≡ SurveyAnswer.Refused 13
+    fields-high : (x t : ℕ) → 135 < x → x < 256 → speed_refused (rounded_in unit (of_fields binary32 false x t)) ≡ true
     fields-high zero t h l = absurd (omega arith)
     fields-high (suc x) t h l = ⊎_elim (λ e. rw e (special t)) finite (eq-or-lt_of_le (le_of_suc-le-suc l))
       where
-        finite : suc x < 255 → speed_answer (rounded_in unit (of_fields binary32 false (suc x) t)) ≡ SurveyAnswer.Refused 13
+        finite : suc x < 255 → speed_refused (rounded_in unit (of_fields binary32 false (suc x) t)) ≡ true
         finite f =
-            ap speed_answer (normal x t f)
+            ap speed_refused (normal x t f)
             ∙ from-512 ((8388608 + t) * 2 ^ x)
             (mul-le-mul {n₁ = 8388608} {m₁ = 2 ^ 135} {n₂ = 8388608 + t} {m₂ = 2 ^ x} (omega arith) (pow_mono (le_of_suc-le-suc h)))
 
@@ -193,47 +165,32 @@ module _ (unit : Fraction) where
         normal x t (omega arith)
         ∙ ap (λ (k : ℕ). thousandths (pos k))
         (ap (λ (y : ℕ). (8388608 + t) * 2 ^ x * unit.numerator / (2 ^ y * unit.denominator)) split
-        ∙ floor-cancel (8388608 + t) x (150 - suc x) unit.numerator unit.denominator s.denominator-pos)
+        ∙ floor-cancel (8388608 + t) x (150 - suc x) unit.numerator unit.denominator)
 
     -- by the pattern: below 2 ^ 31 there is no sign
-    pub bits-low : (b : ℕ) → b / 8388608 < 127 → speed_answer (rounded_in unit (of_bits binary32 b)) ≡ SurveyAnswer.Refused 13
+    pub bits-low : (b : ℕ) → b / 8388608 < 127 → speed_refused (rounded_in unit (of_bits binary32 b)) ≡ true
     bits-low b h = rw (of_bits-fields b (omega arith)) (fields-low (b / 8388608) (b % 8388608) (omega arith) h)
 
     -- the sign is the highest bit, so a negative float has a high pattern too
-    pub bits-high : (b : ℕ) → 135 < b / 8388608 → speed_answer (rounded_in unit (of_bits binary32 b)) ≡ SurveyAnswer.Refused 13
+    pub bits-high : (b : ℕ) → 135 < b / 8388608 → speed_refused (rounded_in unit (of_bits binary32 b)) ≡ true
     unfolding of_bits
     bits-high b h = by-sign (leb 2147483648 b) refl
       where
-        by-sign : (v : Bool) → leb 2147483648 b ≡ v → speed_answer (rounded_in unit (of_bits binary32 b)) ≡ SurveyAnswer.Refused 13
+        by-sign : (v : Bool) → leb 2147483648 b ≡ v → speed_refused (rounded_in unit (of_bits binary32 b)) ≡ true
         by-sign true e = rw e (signed (b % 2147483648 / 8388608) (b % 8388608))
         by-sign false e =
             let below : b < 2147483648 = leb-false 2147483648 b e in
             rw (of_bits-fields b below) (fields-high (b / 8388608) (b % 8388608) h (omega arith))
 
-    -- no sign here either; the shift is the power that is left
-    bits-between : (b : ℕ) → 127 ≤ b / 8388608 → b / 8388608 ≤ 135
-        → rounded_in unit (of_bits binary32 b) ≡ thousandths (pos (quotient unit b))
-    bits-between b h l = rw (of_bits-fields b (omega arith), steps-eq (b / 8388608) h) (fields-between (b / 8388608) (b % 8388608) h l)
+    -- no sign here either; the range alone decides
+    pub bits-between : (b : ℕ) → 127 ≤ b / 8388608 → b / 8388608 ≤ 135
+        → (speed_refused (rounded_in unit (of_bits binary32 b)) ≡ outside 30000 90000 (quotient unit b))
+        × (thousandths_in (rounded_in unit (of_bits binary32 b)) ≡ quotient unit b)
+    bits-between b h l =
+        let e : rounded_in unit (of_bits binary32 b) ≡ thousandths (pos (quotient unit b)) =
+        rw (of_bits-fields b (omega arith)) (fields-between (b / 8388608) (b % 8388608) h l) in
+        (ap speed_refused e, ap thousandths_in e)
 
-    -- so the range alone decides
-    pub bits-by : (b : ℕ) (test : Bool) → 127 ≤ b / 8388608 → b / 8388608 ≤ 135 → outside 30000 90000 (quotient unit b) ≡ test
-        → cond test (SurveyAnswer.Refused 13) (SurveyAnswer.Speed (quotient unit b)) ≡ speed_answer (rounded_in unit (of_bits binary32 b))
-    bits-by b test h l e =
-        sym
-        (ap speed_answer (bits-between b h l) ∙ ap (λ t. cond t (SurveyAnswer.Refused 13) (SurveyAnswer.Speed (quotient unit b))) e)
+pub ruleset by_bits = (bits-low, bits-high, bits-between, nat_tests, one_shifted)
 
-    -- the code's products: 2 ^ 24 times 10 ^ 9
-    pub numerator-fits : (t : ℕ) → t < 8388608 → (8388608 + t) * unit.numerator < 18446744073709551616
-    numerator-fits t h = lt_of_le_of_lt
-        (mul-le-mul {n₁ = 8388608 + t} {m₁ = unit.numerator} {n₂ = 16777216} {m₂ = 1000000000} (omega arith) s.numerator-le) (lit< tt)
-
-    -- 2 ^ 23 times 2 × 10 ^ 6
-    pub denominator-fits : (x : ℕ) → 127 ≤ x → steps x * unit.denominator < 18446744073709551616
-    denominator-fits x h = lt_of_le_of_lt {m = 16777216000000}
-        (rw (steps-eq x h)
-        (mul-le-mul {n₁ = 2 ^ (150 - x)} {m₁ = unit.denominator} {n₂ = 8388608} {m₂ = 2000000} (steps-le x h)
-        s.denominator-le)) (lit< tt)
-
-    -- a power of two times a denominator
-    pub denominator-pos : (x : ℕ) → 127 ≤ x → 0 < steps x * unit.denominator
-    denominator-pos x h = rw (steps-eq x h) (mul-pos (pow_pos (150 - x)) s.denominator-pos)
+pub ruleset by_float = (rounded_in-nan, of_bits-to_bits)

@@ -5,10 +5,11 @@
 -- Assumes nothing.
 use Rattle.std.specs.Prelude.{true, false, List, [], ◌∷◌, ℕ, pos, negsuc, Float}
 use Rattle.std.specs.Float.{nan, inf, fin}
+use Rattle.checks.specs.Numbers.{refusal_number}
 use Rattle.checks.specs.Figures.{Figure, figure}
 use Rattle.survey.specs.declared.SurveyedSpeed.{SurveyedSpeed}
 use Rattle.survey.specs.declared.Survey.{Survey}
-use Rattle.survey.specs.Survey.{survey_answer, refusal_number, values}
+use Rattle.survey.specs.Survey.{survey_answer, values}
 
 abbrev pub survey_of : SurveyedSpeed → Survey
 survey_of speed = record { speed = speed; cars = 100; flow = 999 }

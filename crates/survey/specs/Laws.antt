@@ -3,15 +3,16 @@
 --   AnswersWithinEnds    every survey is answered so
 --   BelowZeroRoundsDown  -1/2048 mi/h, just below 0, rounded down is -1 thousandth
 -- Assumes nothing.
-use Rattle.std.specs.Prelude.{◌≤◌, ◌≡◌, true, negsuc}
+use Rattle.std.specs.Prelude.{ℕ, ◌≤◌, ◌≡◌, true, negsuc, Result, Ok, Err}
 use Rattle.std.specs.Float.{fin}
+use Rattle.checks.specs.declared.Refusal.{Refusal}
+use Rattle.checks.specs.Numbers.{number}
 use Rattle.survey.specs.declared.Survey.{Survey}
-use Rattle.survey.specs.declared.SurveyAnswer.{SurveyAnswer}
 use Rattle.survey.specs.Survey.{mile_an_hour, thousandths, rounded_in, survey_answer}
 
-abbrev pub AnswerWithinEnds : SurveyAnswer → Type 0
-AnswerWithinEnds (SurveyAnswer.Speed n) = (30000 ≤ n) × (n ≤ 90000)
-AnswerWithinEnds (SurveyAnswer.Refused n) = (11 ≤ n) × (n ≤ 13)
+abbrev pub AnswerWithinEnds : Result ℕ Refusal → Type 0
+AnswerWithinEnds (Ok n) = (30000 ≤ n) × (n ≤ 90000)
+AnswerWithinEnds (Err r) = (11 ≤ number r) × (number r ≤ 13)
 
 abbrev pub AnswersWithinEnds : Type 0
 AnswersWithinEnds = (survey : Survey) → AnswerWithinEnds (survey_answer survey)

@@ -9,19 +9,19 @@
 --   speed_refused r         what 13 refuses
 --   thousandths_in r        the thousandths of what it does not refuse
 --   survey_refusals survey  11 to 13 in their order
---   survey_answer survey    the speed, or the refusal's number
---   refusal_number a        the number of the refusal, 0 where there is none
+--   survey_answer survey    the speed, or the refusal
 --   values a                the speed; of a refusal no value
 -- Assumes nothing.
-use Rattle.std.specs.Prelude.{ℕ, ◌*◌, Bool, true, false, List, [], ◌∷◌, ℤ, pos, negsuc, neg_ℤ, leb, ltb, Float}
+use Rattle.std.specs.Prelude.{ℕ, ◌*◌, Bool, true, false, List, [], ◌∷◌, ℤ, pos, negsuc, neg_ℤ, leb, ltb, Float, Result, Ok, Err}
 use Rattle.std.specs.Float.{nan, inf, fin}
 use Rattle.std.specs.Float.Ieee.{up, down}
 use Rattle.numbers.specs.declared.Fraction.{Fraction}
 use Rattle.numbers.specs.Fraction.{over, whole, times, divided_by, rounded_down, rounded_up}
-use Rattle.checks.specs.Refusals.{Refusal, refuses, first_refusal, unless_refused, outside}
+use Rattle.checks.specs.declared.Refusal.{Refusal}
+use Rattle.checks.specs.Refusals.{Condition, refuses, first_refusal, outside}
+use Rattle.checks.specs.Numbers.{ok_unless}
 use Rattle.survey.specs.declared.SurveyedSpeed.{SurveyedSpeed}
 use Rattle.survey.specs.declared.Survey.{Survey}
-use Rattle.survey.specs.declared.SurveyAnswer.{SurveyAnswer}
 
 -- "1 mi = 1.609344 km"
 abbrev pub mile_in_kilometres : Fraction
@@ -70,22 +70,16 @@ thousandths_in (thousandths (pos n)) = n
 thousandths_in (thousandths (negsuc n)) = 0
 
 -- "11 fewer than 100 cars; 12 flow of 1,000 or more; 13 not a finite number, or the rounded speed not 30,000 to 90,000"
-unfoldable pub survey_refusals : Survey → List Refusal
+unfoldable pub survey_refusals : Survey → List Condition
 survey_refusals survey =
     refuses 11 (ltb survey.cars 100)
     ∷ refuses 12 (leb 1000 survey.flow)
     ∷ refuses 13 (speed_refused (rounded_speed survey.speed))
     ∷ []
 
-abbrev pub survey_answer : Survey → SurveyAnswer
-survey_answer survey =
-    unless_refused (first_refusal (survey_refusals survey))
-    (SurveyAnswer.Speed (thousandths_in (rounded_speed survey.speed))) SurveyAnswer.Refused
+abbrev pub survey_answer : Survey → Result ℕ Refusal
+survey_answer survey = ok_unless (first_refusal (survey_refusals survey)) (thousandths_in (rounded_speed survey.speed))
 
-abbrev pub refusal_number : SurveyAnswer → ℕ
-refusal_number (SurveyAnswer.Speed n) = 0
-refusal_number (SurveyAnswer.Refused n) = n
-
-abbrev pub values : SurveyAnswer → List ℕ
-values (SurveyAnswer.Speed n) = n ∷ []
-values (SurveyAnswer.Refused n) = []
+abbrev pub values : Result ℕ Refusal → List ℕ
+values (Ok n) = n ∷ []
+values (Err r) = []

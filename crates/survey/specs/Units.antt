@@ -3,9 +3,9 @@
 --                    Both units of a survey are such.
 --   speed_answer r   what 13 alone makes of a rounded speed
 -- Assumes nothing.
-use Rattle.std.specs.Prelude.{◌*◌, ◌≤◌, ◌<◌, cond}
+use Rattle.std.specs.Prelude.{ℕ, ◌*◌, ◌≤◌, ◌<◌, cond, Result, Ok, Err}
 use Rattle.numbers.specs.declared.Fraction.{Fraction}
-use Rattle.survey.specs.declared.SurveyAnswer.{SurveyAnswer}
+use Rattle.checks.specs.declared.Refusal.{Refusal}
 use Rattle.survey.specs.Survey.{RoundedSpeed, speed_refused, thousandths_in}
 
 pub record UnitFits (unit : Fraction) : Type 0 where
@@ -15,5 +15,5 @@ pub record UnitFits (unit : Fraction) : Type 0 where
   pub low-at-1 : unit.numerator < 30000 * unit.denominator
   pub high-at-512 : 90001 * unit.denominator ≤ 512 * unit.numerator
 
-abbrev pub speed_answer : RoundedSpeed → SurveyAnswer
-speed_answer r = cond (speed_refused r) (SurveyAnswer.Refused 13) (SurveyAnswer.Speed (thousandths_in r))
+abbrev pub speed_answer : RoundedSpeed → Result ℕ Refusal
+speed_answer r = cond (speed_refused r) (Err Refusal.SurveyedSpeedOutOfRange) (Ok (thousandths_in r))

@@ -1,8 +1,6 @@
 // Survey: a surveyed speed in thousandths of mi/h, or its refusal.
-//   CARS_TOO_FEW, FLOW_TOO_LARGE, SURVEYED_SPEED_OUT_OF_RANGE   refusals 11 to 13
 //   SurveyedSpeed    the speed in its unit
 //   Survey           that speed, the cars counted and the flow
-//   SurveyAnswer     a speed or a refusal
 //   surveyed_speed   for any survey at all
 #![tactic(auto)]
 
@@ -10,15 +8,11 @@ ghost use Rattle.std.specs.Prelude.{◌≡◌};
 ghost use Rattle.std.specs.Float.{binary32};
 ghost use Rattle.std.specs.Float.Ieee.{of_bits};
 ghost use Rattle.survey.specs.Survey.{rounded_in, survey_answer};
+ghost use Rattle.survey.specs.Laws.{AnswerWithinEnds};
 ghost use Rattle.survey.specs.Units.{UnitFits, speed_answer};
 
+use checks::Refusal;
 use numbers::Fraction;
-
-pub const CARS_TOO_FEW: u64 = 11;
-
-pub const FLOW_TOO_LARGE: u64 = 12;
-
-pub const SURVEYED_SPEED_OUT_OF_RANGE: u64 = 13;
 
 const FEWEST_CARS: u64 = 100;
 
@@ -31,88 +25,79 @@ const MILE: u64 = 1_609_344;
 
 const KILOMETRE: u64 = 1_000_000;
 
-// Of an f32's bits 1 is the sign, 8 are the exponent and 23 the digits below the leading one. This is the leading one's weight.
-const LEADING: u64 = 8_388_608;
+// The units of a survey, in thousandths of mi/h.
+const MILE_AN_HOUR: Fraction = Fraction {
+    numerator: THOUSANDTHS,
+    denominator: 1,
+};
 
-#[derive(Clone, Copy)]
+const KILOMETRE_AN_HOUR: Fraction = Fraction {
+    numerator: THOUSANDTHS * KILOMETRE,
+    denominator: MILE,
+};
+
+// Of an f32's bits 1 is the sign, 8 are the exponent and 23 the digits below the leading one. This is the leading one's weight.
+const LEADING: u64 = 1 << 23;
+
+#[derive(Clone, Copy, Debug, PartialEq)]
 pub enum SurveyedSpeed {
     MilesPerHour(f32),
     KilometresPerHour(f32),
 }
 
-#[derive(Clone, Copy)]
+#[derive(Clone, Copy, Debug, PartialEq)]
 pub struct Survey {
     pub speed: SurveyedSpeed,
     pub cars: u64,
     pub flow: u64,
 }
 
-#[derive(Clone, Copy)]
-pub enum SurveyAnswer {
-    Speed(u64),
-    Refused(u64),
-}
-
 // The float that has these bits, in a unit.
-fn speed_of_bits(bits: u64, unit: Fraction) -> SurveyAnswer
+#[tactic(auto, using(crate::proofs::FloatLaws::by_bits))]
+fn speed_of_bits(bits: u64, unit: Fraction) -> Result<u64, Refusal>
     requires { UnitFits unit }
     ensures { result ≡ speed_answer (rounded_in unit (of_bits binary32 bits)) }
 {
     let exponent = bits / LEADING;
     let digits = bits % LEADING;
-    // below 1
-    if exponent < 127 {
-        return SurveyAnswer::Refused(SURVEYED_SPEED_OUT_OF_RANGE);
-    }
-    // 512 or more, infinite, or with the sign's bit: negative
-    if 135 < exponent {
-        return SurveyAnswer::Refused(SURVEYED_SPEED_OUT_OF_RANGE);
+    // below 1, or 512 or more, infinite, or with the sign's bit: negative
+    if !(127..=135).contains(&exponent) {
+        return Err(Refusal::SurveyedSpeedOutOfRange);
     }
     // a step of the last digit is 2^(exponent - 150): so many make 1
     let steps = 1 << (150 - exponent);
     let thousandths = (LEADING + digits) * unit.numerator / (steps * unit.denominator);
-    if checks::outside(30_000, 90_000, thousandths) {
-        return SurveyAnswer::Refused(SURVEYED_SPEED_OUT_OF_RANGE);
+    if !(30_000..=90_000).contains(&thousandths) {
+        return Err(Refusal::SurveyedSpeedOutOfRange);
     }
-    SurveyAnswer::Speed(thousandths)
+    Ok(thousandths)
 }
 
 // A float, in a unit. A NaN has no bits of its own, so it is refused first.
-fn speed_of_float(x: f32, unit: Fraction) -> SurveyAnswer
+#[tactic(auto, using(crate::proofs::FloatLaws::by_float))]
+fn speed_of_float(x: f32, unit: Fraction) -> Result<u64, Refusal>
     requires { UnitFits unit }
     ensures { result ≡ speed_answer (rounded_in unit x) }
 {
-    if x != x {
-        return SurveyAnswer::Refused(SURVEYED_SPEED_OUT_OF_RANGE);
+    if x.is_nan() {
+        return Err(Refusal::SurveyedSpeedOutOfRange);
     }
-    let bits = f32::to_bits(x) as u64;
-    speed_of_bits(bits, unit)
+    speed_of_bits(u64::from(x.to_bits()), unit)
 }
 
-pub fn surveyed_speed(survey: Survey) -> SurveyAnswer
-    ensures { result ≡ survey_answer survey }
+#[tactic(auto, using(crate::proofs::SurveyLaws::by_survey))]
+pub fn surveyed_speed(survey: Survey) -> Result<u64, Refusal>
+    ensures value { result ≡ survey_answer survey }
+    ensures within_ends { AnswerWithinEnds result }
 {
     if survey.cars < FEWEST_CARS {
-        return SurveyAnswer::Refused(CARS_TOO_FEW);
+        return Err(Refusal::CarsTooFew);
     }
-    if FLOW_LIMIT <= survey.flow {
-        return SurveyAnswer::Refused(FLOW_TOO_LARGE);
+    if survey.flow >= FLOW_LIMIT {
+        return Err(Refusal::FlowTooLarge);
     }
-    let speed = survey.speed;
-    match speed {
-        SurveyedSpeed::MilesPerHour(x) => speed_of_float(
-            x,
-            Fraction {
-                numerator: THOUSANDTHS,
-                denominator: 1,
-            },
-        ),
-        SurveyedSpeed::KilometresPerHour(x) => speed_of_float(
-            x,
-            Fraction {
-                numerator: THOUSANDTHS * KILOMETRE,
-                denominator: MILE,
-            },
-        ),
+    match survey.speed {
+        SurveyedSpeed::MilesPerHour(x) => speed_of_float(x, MILE_AN_HOUR),
+        SurveyedSpeed::KilometresPerHour(x) => speed_of_float(x, KILOMETRE_AN_HOUR),
     }
 }

@@ -1,19 +1,50 @@
--- `day::put_day` meets its contract: the check with no demand finds a curve, or what refuses the case with every demand that 7 lets pass.
+-- `day::put_day` meets its contract: each turn writes the answer with one demand behind those before it.
 -- Assumes nothing.
-use mathlib.Core.Path.{sym, ap, ◌∙◌}
-use Rattle.method.specs.Checked.{checked}
-use Rattle.method.proofs.CheckedLaws.{checked-refused, checked-number}
+use Rattle.std.proofs.Common.{◌≡◌, refl, sym, ap, ◌∙◌, subst, Result, Ok, Err, get_or, arith}
+use lib.Seq.{take_all}
+use mathlib.Core.List.{flat_map}
+use Rattle.checks.specs.declared.Refusal.{Refusal}
+use Rattle.text.proofs.BufferLaws.{none-written}
+use Rattle.road.specs.declared.Case.{Case}
+use Rattle.road.specs.Cases.{with_demand}
+use Rattle.answer.specs.Answers.{answer_to}
+use Rattle.day.specs.declared.shared.Shared.{Shared}
+use Rattle.day.specs.Days.{day_figures}
+use Rattle.day.specs.Shared.{SharedBy}
+use Rattle.day.proofs.DayLaws.{next-room, next-answer}
+use Rattle.day.proofs.SharedLaws.{refused-with}
+use Rattle.day.proofs.put_day.Goals.{in-Ok, in-Err}
 use Rattle.day.proofs.put_day.Goals as goal
 
-pub put_answers-requires : goal.put_answers-requires
-put_answers-requires c =
-    let e = sym (ap checked c.with_demand.ensures) ∙ sym c.check-checked.ensures
-    ∙ c.in-Refused.is in
-    let own = checked-number _ _ e in
-    ((sym own, rw own at (checked-refused _ _ e)), c.requires)
+-- what is shared, by what it is told to be
+told : (case : Case) (found known : Result Shared Refusal) → SharedBy case found → found ≡ known → SharedBy case known
+told case found known s e = subst (SharedBy case) e s
 
-pub put_accepted-requires : goal.put_accepted-requires
-put_accepted-requires c =
-    let e = sym (ap checked c.with_demand.ensures) ∙ sym c.check-checked.ensures
-    ∙ c.in-Accepted.is in
-    (e, c.requires)
+pub loop-demand-preserved : goal.loop-demand-preserved
+loop-demand-preserved c =
+    let case = c.args.case in
+    let l = c.loop-demand in
+    let demand = get_or c.args.demands.now l.demand-index 0 in
+    let same : c.match-shared.answer ≡ answer_to (with_demand case demand) =
+    elim c.match-shared.branch [
+      | in-Ok w ↦
+          let own = told case _ (Ok _) c.of-shared.ensures w.in-Ok.is in
+          w.answer-is ∙ w.answer_with-answer.ensures ∙ ap (λ k. answer_to (with_demand k demand)) own
+      | in-Err w ↦
+          let own = told case _ (Err _) c.of-shared.ensures w.in-Err.is in
+          w.answer-is ∙ refused-with (with_demand case demand) _ _ own w.refusal_with.ensures
+    ] in
+    next-answer case c.args.demands.now l.demand-index c.loop-demand-test.true c.requires l.invariant (rw same at c.put_answer-at.ensures)
+
+pub loop-demand-init : goal.loop-demand-init
+unfolding day_figures flat_map
+loop-demand-init c = record { content = sym (none-written 0 _); ends = refl }
+
+pub put_answer-at-requires : goal.put_answer-at-requires
+put_answer-at-requires c =
+    let l = c.loop-demand in
+    omega (arith, l.auto.answers, next-room c.args.case c.args.demands.now l.demand-index c.loop-demand-test.true c.requires l.invariant)
+
+pub returns : goal.returns
+returns c =
+    rw (take_all _ _ c.loop-demand-test.false) at c.loop-demand.invariant.content

@@ -1,36 +1,17 @@
 -- `replies::write::answer_line` meets its contract: a malformed line gets its refusal, another what its case is answered.
 -- Assumes nothing.
-use mathlib.Core.Path.{sym, ◌∙◌}
-use native.Mathlib.Omega.{arith}
+use Rattle.std.proofs.Common.{sym, arith}
 use Rattle.replies.proofs.TextsLaws.{refusal_text-le, answer_text-le, line_text-refused, line_text-case}
 use Rattle.replies.proofs.write.answer_line.Goals as goal
 
 pub write_refusal-requires : goal.write_refusal-requires
-write_refusal-requires c =
-    omega (arith, c.requires, refusal_text-le 15)
+write_refusal-requires c = omega (arith, refusal_text-le 15)
 
 pub returns-in_default : goal.returns-in_default
-returns-in_default c =
-    rw (line_text-refused c.args.line.now _
-    (sym c.read_line-reading.ensures ∙ c.in_default.is))
-    c.write_refusal.ensures
+returns-in_default c = rw (line_text-refused _ _ (sym c.in_default.ensures)) c.write_refusal.ensures
 
 pub write_answer-requires : goal.write_answer-requires
-write_answer-requires c =
-    rw c.evaluate.ensures
-    (omega (
-      arith,
-      c.requires,
-      answer_text-le c.in-Case.case,
-    ))
+write_answer-requires c = rw c.evaluate.ensures (omega (arith, answer_text-le c.in-Ok.case))
 
 pub returns : goal.returns
-returns c =
-    rw (
-      line_text-case
-          c.args.line.now _
-          (sym c.read_line-reading.ensures
-          ∙ c.in-Case.is),
-      sym c.evaluate.ensures,
-    )
-    c.write_answer.ensures
+returns c = rw (line_text-case _ _ (sym c.in-Ok.ensures), sym c.evaluate.ensures) c.write_answer.ensures

@@ -6,19 +6,19 @@ use Rattle.replies.proofs.write.write_answer.Goals as goal
 pub write_grade-requires : goal.write_grade-requires
 unfolding text_of
 write_grade-requires c =
-    rw c.in-Graded.is at c.requires
+    rw c.in-Ok.is at c.requires
 
 pub write_refusal-requires : goal.write_refusal-requires
 unfolding text_of
 write_refusal-requires c =
-    rw c.in-Refused.is at c.requires
+    rw c.in-Err.is at c.requires
 
-pub returns-in-Graded : goal.returns-in-Graded
+pub returns-in-Ok : goal.returns-in-Ok
 unfolding text_of
-returns-in-Graded c =
-    rw c.in-Graded.is c.write_grade.ensures
+returns-in-Ok c =
+    rw c.in-Ok.is c.write_grade.ensures
 
-pub returns-in-Refused : goal.returns-in-Refused
+pub returns-in-Err : goal.returns-in-Err
 unfolding text_of
-returns-in-Refused c =
-    rw c.in-Refused.is c.write_refusal.ensures
+returns-in-Err c =
+    rw c.in-Err.is c.write_refusal.ensures

@@ -7,9 +7,9 @@ use Rattle.replies.proofs.write.write_grade.Goals as goal
 pub put_row-requires : goal.put_row-requires
 unfolding text_of
 put_row-requires c =
-    rw (c.letter_byte.ensures, c.grade_values-figures.ensures) c.requires
+    rw (c.letter_byte.ensures, c.values.ensures) c.requires
 
 pub returns : goal.returns
 unfolding text_of
 returns c =
-    rw (c.letter_byte.ensures, c.grade_values-figures.ensures) at c.put_row.ensures
+    rw (c.letter_byte.ensures, c.values.ensures) at c.put_row.ensures
