@@ -14,7 +14,6 @@ use Rattle.road.specs.Refusals.{weather_unfit, road_refusals, load_refusals, fie
 use Rattle.method.specs.Refusals.{refusals}
 use Rattle.method.specs.Boundary.{example}
 use Rattle.checks.proofs.FigureLaws.{Shown-append}
-use Rattle.answer.specs.Answers as answers
 use Rattle.answer.specs.Answers.{answer_to}
 use Rattle.answer.specs.Boundary as answer
 use Rattle.answer.specs.Boundary.{example_in_snow}

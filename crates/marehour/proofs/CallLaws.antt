@@ -4,13 +4,14 @@
 --   Replied                  what is handed back of a call, and its lent memory afterwards, are those of a reply
 --   wrote, refused           a reply that was written; a refusal
 --   call-refused, call-read  a call over a line that was read: what refuses the lent memory or the line; the reply to its case
+--   call-fits, call-room     nothing refuses the lent memory of a call whose line was read; its buffer
 --   buffer-short, buffer-fits, buffer-room   a buffer that 17 refuses; one that it does not
 --   figures-written, figures-refused   an answer in figures, of which there is one at least; a refusal
 --   FiguresFit               an answer in figures: so many, or a refusal
 --   count-length, count-written   the two bytes of a lane count
 -- Assumes nothing.
 use Rattle.std.proofs.Common.{◌≡◌, ℕ, zero, suc, ◌+◌, ◌≤◌, ◌<◌, Result, Ok, Err, List, [], ◌∷◌, length, set, ℤ, pos, neg_ℤ, ◌-ℤ◌}
-use Rattle.std.proofs.Common.{sym, ap, ◌∙◌, arith, lt_of_le_of_lt, lt-ltb, le-ltb, lit<, w32, to_z, SFits}
+use Rattle.std.proofs.Common.{refl, sym, ap, ◌∙◌, arith, lt_of_le_of_lt, lt-ltb, le-ltb, lit<, w32, to_z, SFits}
 use native.Mathlib.Decide.{dec_le}
 use lib.IntN.{+ℤ_idl}
 use mir.ValLaws.{to_z_pos}
@@ -75,6 +76,11 @@ module _ (reply : Case → Reply) (r : Result Case Refusal) (conditions : List C
       unless_refused-none (first_refusal conditions) (line_reply reply r) refusal (sym fits) ∙ ap (line_reply reply) is
   call-read (Err own) case met is = cc is
 
+pub call-fits : (r : Result Case Refusal) (conditions : List Condition) (lent : Result (Unit {0}) Refusal) (case : Case)
+    → refusal_number lent ≡ first_refusal conditions → Ok case ≡ line_case lent r → 0 ≡ first_refusal conditions
+call-fits r conditions (Ok u) case fits is = fits
+call-fits r conditions (Err own) case met is = cc is
+
 -- ---- an answer buffer
 pub buffer-short : (least room : ℕ) → room < least → 17 ≡ first_refusal (buffer_refusals least room)
 unfolding buffer_refusals
@@ -91,6 +97,11 @@ buffer-room least room z = go (dec_le least room)
     go : Dec (least ≤ room) → least ≤ room
     go (yes h) = h
     go (no h) = absurd (omega (arith, z, buffer-short least room (omega arith)))
+
+-- the buffer of a call over a line that was read
+pub call-room : (r : Result Case Refusal) (least room : ℕ) (lent : Result (Unit {0}) Refusal) (case : Case)
+    → refusal_number lent ≡ first_refusal (buffer_refusals least room) → Ok case ≡ line_case lent r → least ≤ room
+call-room r least room lent case met is = buffer-room least room (call-fits r (buffer_refusals least room) lent case met is)
 
 -- ---- an answer in figures
 pub record FiguresFit (count last number : ℕ) (values : List ℕ) : Type 0 where

@@ -29,7 +29,6 @@ use Rattle.daily.specs.declared.Shares.{Shares}
 use Rattle.daily.specs.Daily as daily
 use Rattle.daily.specs.Daily.{shares_unfit, traffic_refusals, daily_answer}
 use Rattle.daily.proofs.DailyLaws as daily-laws
-use Rattle.daily.proofs.DailyLaws.{refused-with}
 use Rattle.daily.proofs.Promises.{figures-of-the-hour}
 use Rattle.forecast.specs.declared.Forecast.{Forecast}
 use Rattle.forecast.specs.Forecasts as forecasts
@@ -90,7 +89,7 @@ daily-fit : (shares : Shares) (traffic : ℕ) (case : Case)
 daily-fit shares traffic case =
     record {
       some = λ z. (figures-of-the-hour case shares traffic z).1;
-      none = λ p. ap daily.values (refused-with (daily_answer case shares traffic) _ refl p);
+      none = daily-laws.refused-values (daily_answer case shares traffic);
       most = daily-laws.number-le case shares traffic;
     }
 

@@ -19,6 +19,7 @@ use road::Case;
 
 const ANSWER_SIZE: usize = LONGEST_ANSWER;
 
+#[tactic(auto, unfolding(crate::specs::Calls::buffer_refusals))]
 pub(crate) fn check_room(room: usize, least: usize) -> Result<(), Refusal>
     ensures { refusal_number result ≡ first_refusal (buffer_refusals least room) }
 {

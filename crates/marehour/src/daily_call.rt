@@ -8,7 +8,12 @@ use crate::calls::{case_of, check_room, handed_back};
 use checks::Refusal;
 use daily::{FIGURES, Shares};
 
-fn daily_in(line: &[u8], shares: Shares, daily_traffic: u64, figures: &mut [u64]) -> Result<u64, Refusal>
+fn daily_in(
+    line: &[u8],
+    shares: Shares,
+    daily_traffic: u64,
+    figures: &mut [u64],
+) -> Result<u64, Refusal>
     ensures fits { IfOk result (λ count. count ≤ 90000) }
     ensures result { hands_back result ≡ call_result (daily_call line.now shares daily_traffic (length figures.old)) }
     ensures figures { figures.new ≡ content (daily_call line.now shares daily_traffic (length figures.old)) figures.old }
