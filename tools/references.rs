@@ -380,7 +380,7 @@ const SAMPLE_STANDS: [&str; 30] = [
     "Half.antt",
 ];
 
-const SAMPLE_MISSING: [&str; 46] = [
+const SAMPLE_MISSING: [&str; 47] = [
     "lw::halved",
     "lw::kind::Step",
     "lw::Refusal::number",
@@ -407,6 +407,7 @@ const SAMPLE_MISSING: [&str; 46] = [
     "low::kind::Way::Down",
     "low::kind::Way::steps",
     "low::kind::Way::Up::turned",
+    "low::kind::Way::",
     "low::kinds::Step",
     "low::",
     "lw/specs/Half.half",
