@@ -1,10 +1,9 @@
-// Makes the two constant tables of the engine, each as a Rattle constant and as a list of the proofs, from the whole-power
-// rules of document 01:
+// Makes the two constant tables of the engine from the whole-power rules of document 01:
 //   T(i), i from 0 to 1,000: the least whole t with i^131 x 10^207 <= t^100
 //   the ramp term, k from 0 to 48: the greatest whole t with t^25 x 6^21 <= 3,220^25 x k^21
 //
-//   tables write    writes the four files
-//   tables check    says whether the four files are what it would write; status 1 if one is not
+//   tables write    writes the two files
+//   tables check    says whether the two files are what it would write; status 1 if one is not
 //
 // Run at the project's root. The numbers are worked out here; that they obey the rules is proved in the crates.
 
@@ -73,11 +72,8 @@ fn ramp_term(k: u32) -> u32 {
 }
 
 struct Table {
-    crate_name: &'static str,
-    source_file: &'static str,
-    constant: &'static str,
-    list_file: &'static str,
-    list: &'static str,
+    path: &'static str,
+    name: &'static str,
     what: &'static str,
     entries: Vec<u32>,
 }
@@ -100,79 +96,50 @@ impl Table {
         rows.iter().map(|row| format!("{row}\n")).collect()
     }
 
-    fn source(&self) -> (String, String) {
-        let text = format!(
-            "// {}. Made by tools/tables.rs, with {}: `make tables`.\npub(crate) const {}: [u32; {}] = [\n{}];\n",
+    fn source(&self) -> String {
+        format!(
+            "// {}. Made by tools/tables.rs: `make tables`.\npub(crate) static {}: [u32; {}] = [\n{}];\n",
             self.what,
-            self.list_file,
-            self.constant,
+            self.name,
             self.entries.len(),
             self.rows()
-        );
-        (format!("crates/{}/{}", self.crate_name, self.source_file), text)
-    }
-
-    fn list(&self) -> (String, String) {
-        let mut numbers: Vec<String> = self.entries.iter().map(|n| n.to_string()).collect();
-        numbers.push("[]".to_string());
-        let rows: Vec<String> = numbers.chunks(12).map(|row| format!("    {}", row.join(" ∷ "))).collect();
-        let text = format!(
-            "-- {}. Made by tools/tables.rs, with {}: `make tables`.\n\
-             --   {}\n\
-             -- Assumes nothing.\n\
-             use mathlib.Core.List.{{List, [], ◌∷◌}}\n\
-             use Prim.Native.Nat.{{ℕ}}\n\n\
-             unfoldable pub {} : List ℕ\n{} =\n{}\n",
-            self.what,
-            self.source_file,
-            self.list,
-            self.list,
-            self.list,
-            rows.join(" ∷\n")
-        );
-        (format!("crates/{}/{}", self.crate_name, self.list_file), text)
+        )
     }
 }
 
 fn main() {
     let tables = [
         Table {
-            crate_name: "powers",
-            source_file: "src/table.rt",
-            constant: "POWERS",
-            list_file: "proofs/PowerTable.antt",
-            list: "power_table",
+            path: "crates/powers/src/table.rt",
+            name: "POWERS",
             what: "T(i), i from 0 to 1,000",
             entries: (0..=1_000).map(power).collect(),
         },
         Table {
-            crate_name: "road",
-            source_file: "src/ramp_table.rt",
-            constant: "RAMP_TERMS",
-            list_file: "proofs/RampTable.antt",
-            list: "ramp_table",
+            path: "crates/road/src/ramp_table.rt",
+            name: "RAMP_TERMS",
             what: "The ramp term of k ramps in six miles, k from 0 to 48",
             entries: (0..=48).map(ramp_term).collect(),
         },
     ];
-    let files: Vec<(String, String)> = tables.iter().flat_map(|table| [table.source(), table.list()]).collect();
     match std::env::args().nth(1).as_deref() {
         Some("write") => {
-            for (path, text) in &files {
-                fs::write(path, text).unwrap_or_else(|error| panic!("{path}: {error}"));
+            for table in &tables {
+                let path = table.path;
+                fs::write(path, table.source()).unwrap_or_else(|error| panic!("{path}: {error}"));
                 println!("tables: wrote {path}");
             }
         }
         Some("check") => {
-            let stale: Vec<&String> =
-                files.iter().filter(|(path, text)| fs::read_to_string(path).ok().as_ref() != Some(text)).map(|(path, _)| path).collect();
-            for path in &stale {
-                println!("tables: {path} is not what tools/tables.rs makes: run `make tables`");
+            let differs = |table: &&Table| fs::read_to_string(table.path).ok() != Some(table.source());
+            let stale: Vec<&Table> = tables.iter().filter(differs).collect();
+            for table in &stale {
+                println!("tables: {} is not what tools/tables.rs makes: run `make tables`", table.path);
             }
             if !stale.is_empty() {
                 exit(1);
             }
-            println!("tables: {} files are what tools/tables.rs makes", files.len());
+            println!("tables: {} files are what tools/tables.rs makes", tables.len());
         }
         _ => {
             eprintln!("usage: tables write | tables check");

@@ -4,8 +4,7 @@
 --   answer_to-number     its number is the case's refusal
 --   Meets-iff            an answer meets a letter exactly when the case does
 -- Assumes nothing.
-use Rattle.std.proofs.Common.{◌≡◌, sym, ◌∙◌, ◌↔◌, ℕ, ◌<◌, T, leb→le, le→leb, Ok, Err, lit≤}
-use Rattle.std.proofs.Math.Nat.{le_trans}
+use Rattle.std.proofs.Common.{◌≡◌, sym, ◌∙◌, ◌↔◌, ℕ, ◌<◌, T, leb→le, le→leb, Ok, Err, lit≤, le_trans}
 use Rattle.checks.specs.Numbers.{refusal_of, refusal_number}
 use Rattle.checks.proofs.NumberLaws.{ok_unless-none, ok_unless-some, refusal_number-ok_unless}
 use Rattle.curve.specs.Service.{letter_number}

@@ -2,7 +2,7 @@
 --   example-speeds, estimated-speeds   F of the printed case and of the one that 10 refuses, by the lanes
 --   example-accepted   the printed case is accepted
 --   snow-accepted      so are the two cases in snow
---   volumes, given-volumes, snow-volumes   the service volumes of the three
+--   volumes, snow-volumes   the service volumes of the printed case, and of it in snow
 --   example-answer, example-figures   the printed line's answer: its number and its eleven figures; the figures
 --   estimated-answer   the answer to the case that 10 refuses
 --   snow-answer, example-in-snow   the answers to the two cases in snow
@@ -10,13 +10,7 @@
 --   none-at-99999      with V = 99,999 no count of the printed case meets C
 --   boundary-shown     each figure of the list is what is to be shown
 -- Assumes nothing.
-use mathlib.Core.Path.{◌≡◌, refl, ap, ◌∙◌}
-use mathlib.Core.Bool.{Bool, false, ◌&&◌}
-use mathlib.Core.List.{[], ◌∷◌, ◌++◌}
-use Prim.Native.Nat.{ℕ, ◌≤◌}
-use native.Mathlib.Omega.{arith}
-use lib.Dec.{T, leb, leb→le}
-use lib.ListN.{drop}
+use Rattle.std.proofs.Common.{◌≡◌, refl, ap, ◌∙◌, Bool, false, ◌&&◌, [], ◌∷◌, ◌++◌, ℕ, ◌≤◌, arith, T, leb, leb→le, drop}
 use Rattle.numbers.specs.Division.{div_up}
 use Rattle.numbers.specs.Search.{least_from, least, ends_at}
 use Rattle.numbers.proofs.SearchLaws.{greatest-last}
@@ -145,7 +139,7 @@ pub volumes : VolumesOf example 1117 1829 2642 3360 3858
 unfolding div_up ends_at heavy_factor_of flow_rate_of fall_share_by speed density meets_limit density_limit keeps ends
 volumes = five example (freeway 60783 230783 156868) example-accepted example-curves.0.0 1117 1829 2642 3360 3858 tt tt tt tt tt
 
-pub given-volumes : VolumesOf (given_in_snow 2 3000) 1566 2506 3294 3884 4320
+given-volumes : VolumesOf (given_in_snow 2 3000) 1566 2506 3294 3884 4320
 unfolding div_up ends_at heavy_factor_of flow_rate_of fall_share_by speed density meets_limit density_limit keeps ends
 given-volumes =
     five (given_in_snow 2 3000) (freeway 71250 216000 93150) snow-accepted.0 snow-curves.0.0 1566 2506 3294 3884 4320 tt tt tt tt

@@ -4,13 +4,7 @@
 --   service-volume-of-the-example, service-volume-in-snow, first-and-last-service-volume
 --   four-lanes-for-every-letter, no-lanes-for-the-greatest-demand, three-lanes-on-a-multilane, three-lanes-in-snow
 -- Assumes nothing.
-use mathlib.Core.Path.{◌≡◌, refl, ap, ◌∙◌}
-use mathlib.Core.Logic.{inl, inr}
-use mathlib.Core.List.{[], ◌∷◌}
-use Prim.Native.Nat.{ℕ, zero, suc, ◌≤◌, ◌<◌}
-use native.Mathlib.Omega.{arith}
-use lib.Dec.{T, leb, le→leb}
-use lib.ListN.{get_or}
+use Rattle.std.proofs.Common.{◌≡◌, refl, ap, ◌∙◌, inl, inr, [], ◌∷◌, ℕ, zero, suc, ◌≤◌, ◌<◌, arith, T, leb, le→leb, get_or}
 use Rattle.numbers.specs.Division.{div_up}
 use Rattle.checks.specs.Numbers.{refusal_number}
 use Rattle.curve.specs.Curves.{capacity, breakpoint}

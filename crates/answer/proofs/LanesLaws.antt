@@ -3,14 +3,13 @@
 --   lanes_found-meets, lanes_found-le   a count that is found meets the letter, and is at most every count that does
 --   lanes_found-none      it is one more than the most where no count meets the letter
 --   meets-of-kind         a case that meets a letter has a lane count of the kind
---   lanes_number          the number of its refusal
---   lanes-letter          a letter number that is not 1 to 5: 16
---   lanes-fields          a case that 1 to 9 or 19 refuse: that number
---   lanes-none, lanes_answer-none     no count: 14
---   lanes-found, lanes_answer-found   a count: that count
+--   lanes_answer-letter   a letter number that is not 1 to 5: 16
+--   lanes_answer-fields   a case that 1 to 9 or 19 refuse: that number
+--   lanes_answer-none     no count: 14
+--   lanes_answer-found    a count: that count
 -- Assumes nothing.
-use Rattle.std.proofs.Common.{◌≡◌, refl, sym, ◌∙◌, true, cond, List, [], ◌∷◌, ◌++◌, ℕ, suc, ◌≤◌, ◌<◌, T, ltb, Ok, Err, arith}
-use Rattle.std.proofs.lemmas.Bool.{lt-ltb, le-ltb}
+use Rattle.std.proofs.Common.{◌≡◌, refl, sym, ◌∙◌, true, cond, List, [], ◌∷◌, ◌++◌, ℕ, suc, ◌≤◌, ◌<◌, T, ltb, Ok, Err, arith, lt-ltb}
+use Rattle.std.proofs.Common.{le-ltb}
 use Rattle.numbers.proofs.SearchLaws.{least-passes, least-le-of, least-eq, least-none}
 use Rattle.checks.specs.declared.Refusal.{Refusal}
 use Rattle.checks.specs.Refusals.{Condition, refuses, first_refusal, outside}
@@ -53,39 +52,38 @@ module _ (case : Case) (l : ℕ) where
   unfolding lanes_found
   lanes_found-none none = least-none (lanes_meet case l) (suc (most_lanes case.road.kind)) (λ k h. none k (omega arith))
 
-  -- ---- the number of its refusal
-  abbrev pub lanes_number : ℕ
-  lanes_number = first_refusal (lanes_refusals case l)
+  -- ---- the answer
+  abbrev asked : ℕ
+  asked = first_refusal (lanes_refusals case l)
 
-  pub lanes-letter : outside 1 5 l ≡ true → 16 ≡ lanes_number
+  refused : (r : Refusal) → number r ≡ asked → lanes_answer case l ≡ Err r
+  refused r e = sym (ok_unless-err r asked (lanes_found case l) e)
+
+  pub lanes_answer-letter : outside 1 5 l ≡ true → lanes_answer case l ≡ Err Refusal.LetterUnknown
   unfolding lanes_refusals
-  lanes-letter o = rw o refl
+  lanes_answer-letter o = refused Refusal.LetterUnknown (rw o refl)
 
   last : List Condition
   last = refuses 14 (ltb (most_lanes case.road.kind) (lanes_found case l)) ∷ []
 
   module _ (low : 1 ≤ l) (high : l ≤ 5) where
     -- the refusal after 16
-    number-eq : lanes_number ≡ first_refusal (field_refusals case ++ last)
+    asked-next : asked ≡ first_refusal (field_refusals case ++ last)
     unfolding lanes_refusals last
-    number-eq = simp (inside 1 5 l low high)
+    asked-next = simp (inside 1 5 l low high)
 
-    pub lanes-fields : (r : Refusal) → number r ≡ first_refusal (field_refusals case) → number r ≡ lanes_number
-    lanes-fields r e = first_refusal-err (field_refusals case) last r e ∙ sym number-eq
+    pub lanes_answer-fields : (r : Refusal) → number r ≡ first_refusal (field_refusals case) → lanes_answer case l ≡ Err r
+    lanes_answer-fields r e = refused r (first_refusal-err (field_refusals case) last r e ∙ sym asked-next)
 
     module _ (z : FieldsFit case) where
-      number-last : lanes_number ≡ cond (ltb (most_lanes case.road.kind) (lanes_found case l)) 14 0
+      asked-last : asked ≡ cond (ltb (most_lanes case.road.kind) (lanes_found case l)) 14 0
       unfolding last
-      number-last = number-eq ∙ first_refusal-none (field_refusals case) last (fields-numbered case) z
-
-      pub lanes-none : most_lanes case.road.kind < lanes_found case l → 14 ≡ lanes_number
-      lanes-none h = sym (number-last ∙ simp (lt-ltb (most_lanes case.road.kind) (lanes_found case l) h))
-
-      pub lanes-found : lanes_found case l ≤ most_lanes case.road.kind → lanes_number ≡ 0
-      lanes-found h = number-last ∙ simp (le-ltb (most_lanes case.road.kind) (lanes_found case l) h)
+      asked-last = asked-next ∙ first_refusal-none (field_refusals case) last (fields-numbered case) z
 
       pub lanes_answer-none : most_lanes case.road.kind < lanes_found case l → lanes_answer case l ≡ Err Refusal.NoLaneCount
-      lanes_answer-none h = sym (ok_unless-err Refusal.NoLaneCount lanes_number (lanes_found case l) (lanes-none h))
+      lanes_answer-none h =
+          refused Refusal.NoLaneCount (sym (asked-last ∙ simp (lt-ltb (most_lanes case.road.kind) (lanes_found case l) h)))
 
       pub lanes_answer-found : lanes_found case l ≤ most_lanes case.road.kind → lanes_answer case l ≡ Ok (lanes_found case l)
-      lanes_answer-found h = ok_unless-none lanes_number (lanes_found case l) (lanes-found h)
+      lanes_answer-found h =
+          ok_unless-none asked (lanes_found case l) (asked-last ∙ simp (le-ltb (most_lanes case.road.kind) (lanes_found case l) h))

@@ -4,16 +4,8 @@
 --   figures-within-ends, refusals-within-ends, refusals-reach-ends, lanes-refusals-in-order, lanes-refused-as-the-case, counts-are-digits
 --   found-digit          the same of a count that is answered
 -- Assumes nothing.
-use Rattle.std.proofs.Common.{lit≤, Ok, Bool}
-use Rattle.std.proofs.Math.Nat.{le_trans}
-use mathlib.Core.Path.{◌≡◌, refl, sym, ap, ◌∙◌}
-use mathlib.Core.Logic.{⊎_elim}
-use mathlib.Core.List.{[], ◌∷◌}
-use Prim.Native.Nat.{ℕ, suc, ◌*◌, ◌≤◌}
-use native.Mathlib.Omega.{arith}
-use native.Mathlib.Nat.{eq-zero-or-pos, le_trans, mul-le-mul, mul-le-mul_left}
-use lib.Dec.{T, leb, leb→le}
-use lib.ListN.{length, get_or}
+use Rattle.std.proofs.Common.{lit≤, Ok, Bool, le_trans, ◌≡◌, refl, sym, ap, ◌∙◌, ⊎_elim, [], ◌∷◌, ℕ, suc, ◌*◌, ◌≤◌, arith, eq-zero-or-pos}
+use Rattle.std.proofs.Common.{mul-le-mul, mul-le-mul_left, T, leb, leb→le, length, get_or}
 use Rattle.numbers.specs.Search.{greatest}
 use Rattle.numbers.proofs.DivisionLaws.{div_up-le-iff, le-div_up}
 use Rattle.numbers.proofs.SearchLaws.{greatest-passes, least-le}

@@ -6,15 +6,8 @@
 --   demand-three                     the three together
 --   volume_in-accepted               the volume in an accepted case's answer is its service volume
 -- Assumes nothing.
-use mathlib.Core.Path.{◌≡◌, refl, sym, ap, ◌∙◌}
-use mathlib.Core.Logic.{◌↔◌, ⊎_elim, inl}
-use mathlib.Core.List.{[], ◌∷◌}
-use Prim.Native.Nat.{ℕ, zero, suc, ◌≤◌, ◌<◌}
-use native.Mathlib.Omega.{arith}
-use native.Mathlib.Decide.{dec_le}
-use lib.Dec.{T}
-use lib.ListN.{length, get_or}
-use Rattle.std.proofs.Common.{Ok, Err}
+use Rattle.std.proofs.Common.{◌≡◌, refl, sym, ap, ◌∙◌, ◌↔◌, ⊎_elim, inl, [], ◌∷◌, ℕ, zero, suc, ◌≤◌, ◌<◌, arith, T, length, get_or, Ok, Err}
+use Rattle.std.proofs.Math.Decide.{dec_le}
 use Rattle.checks.specs.declared.Refusal.{Refusal}
 use Rattle.checks.specs.Numbers.{refusal_number}
 use Rattle.curve.specs.Kinds.{most_lanes}

@@ -3,14 +3,8 @@
 --   tries-le   80 are counted at most, for any case
 --   example-tried, eight-lanes-tried, refused-tried
 -- Assumes nothing.
-use mathlib.Core.Path.{◌≡◌, refl, sym, ap, ◌∙◌}
-use mathlib.Core.List.{List, [], ◌++◌}
-use Prim.Native.Nat.{ℕ, zero, suc, ◌*◌, ◌≤◌, zero-le}
-use native.Mathlib.Omega.{arith}
-use native.Mathlib.Nat.{le_trans}
-use lib.Dec.{leb}
-use lib.ListN.{length, get_or}
-use borrow.Author.Tests.{lt-ltb}
+use Rattle.std.proofs.Common.{◌≡◌, refl, sym, ap, ◌∙◌, List, [], ◌++◌, ℕ, zero, suc, ◌*◌, ◌≤◌, zero-le, arith, le_trans, leb, length}
+use Rattle.std.proofs.Common.{get_or, lt-ltb}
 use Rattle.numbers.specs.Halving.{middle, tried_between, tried_up_to}
 use Rattle.numbers.proofs.BoolLaws.{leb-test}
 use Rattle.numbers.proofs.HalvingLaws.{tried_up_to-doublings, tried_up_to-some, tried_up_to-cong}

@@ -7,17 +7,10 @@
 --   done-end-le, done-tries-le    64 bits hold the end and the count
 --   tries-accepted, tries-refused   the count of an accepted case, and of a refused one
 -- Assumes nothing.
-use mathlib.Core.Path.{◌≡◌, refl, sym, ap, ◌∙◌}
-use mathlib.Core.Bool.{Bool}
-use mathlib.Core.List.{List, [], ◌∷◌}
-use Prim.Native.Nat.{ℕ, zero, suc, ◌+◌, ◌-◌, ◌*◌, ◌≤◌, ◌<◌, zero-le}
-use native.Mathlib.Omega.{arith}
-use native.Mathlib.Nat.{le_refl, le_trans}
-use native.Mathlib.Decide.{dec_le}
-use lib.Dec.{T, ltb}
-use lib.ListN.{length, length-append, set, length-set, get_or}
-use lib.Seq.{get_or-set_same, get_or-set_other}
-use borrow.Author.Tests.{lt-ltb, le-ltb}
+use Rattle.std.proofs.Common.{◌≡◌, refl, sym, ap, ◌∙◌, Bool, List, [], ◌∷◌, ℕ, zero, suc, ◌+◌, ◌-◌, ◌*◌, ◌≤◌, ◌<◌, zero-le, arith, le_refl}
+use Rattle.std.proofs.Common.{le_trans, T, ltb, length, length-append, set, length-set, get_or, get_or-set_same, get_or-set_other, lt-ltb}
+use Rattle.std.proofs.Common.{le-ltb}
+use Rattle.std.proofs.Math.Decide.{dec_le}
 use Rattle.numbers.specs.Search.{greatest}
 use Rattle.numbers.specs.Halving.{tried_up_to}
 use Rattle.numbers.proofs.SearchLaws.{greatest-le, greatest-mono, greatest-cong, greatest-within}

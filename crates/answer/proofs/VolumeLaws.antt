@@ -7,9 +7,7 @@
 --   service_volumes-with_demand   they are the same whatever the case's own demand is
 --   service_volume-iff    a demand meets a letter exactly when it is at most the service volume
 -- Assumes nothing.
-use Rattle.std.proofs.Common.{◌≡◌, refl, false, ◌↔◌, ℕ, ◌*◌, ◌≤◌, ◌<◌, T, leb, eqb, eqb→eq, arith}
-use Rattle.std.proofs.Math.Nat.{le_refl}
-use borrow.Author.Tests.{ne_eqb}
+use Rattle.std.proofs.Common.{◌≡◌, refl, false, ◌↔◌, ℕ, ◌*◌, ◌≤◌, ◌<◌, T, leb, eqb, eqb→eq, arith, le_refl, ne_eqb}
 use Rattle.numbers.specs.Search.{greatest, DownwardClosed}
 use Rattle.numbers.proofs.SearchLaws.{greatest-iff, greatest-cong}
 use Rattle.numbers.proofs.BoolLaws.{and-left, leb-test}

@@ -18,10 +18,10 @@ use Rattle.road.specs.declared.Terrain.TheVariants as Terrain
 use Rattle.road.specs.declared.Case.{Case}
 use Rattle.method.specs.Boundary as method
 use Rattle.checks.specs.Figures.{Figure, figure}
+use Rattle.checks.specs.Numbers.{refusal_number}
 use Rattle.method.specs.Boundary.{example, given, two_lanes_under, refused_by_all}
 use Rattle.road.specs.Cases.{road, loaded, with_demand, with_lanes, with_weather}
 use Rattle.answer.specs.Answers as answers
-use Rattle.checks.specs.Numbers.{refusal_number}
 use Rattle.answer.specs.Answers.{answer_to}
 use Rattle.answer.specs.Lanes as lanes
 use Rattle.answer.specs.Lanes.{lanes_answer}

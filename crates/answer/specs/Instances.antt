@@ -19,13 +19,13 @@
 --   ThreeLanesInSnow                 part 3 in snow: it needs 3 lanes for C
 -- Assumes nothing.
 use Rattle.std.specs.Prelude.{◌≡◌, [], ◌∷◌, ℕ, ◌≤◌}
+use Rattle.checks.specs.Numbers.{refusal_number}
 use Rattle.curve.specs.declared.kind.Kind.TheVariants as Kind
 use Rattle.curve.specs.Weather.{factors, clear}
 use Rattle.road.specs.declared.Terrain.TheVariants as Terrain
 use Rattle.road.specs.declared.Case.{Case}
 use Rattle.method.specs.Boundary.{example, given, two_lanes}
 use Rattle.road.specs.Cases.{loaded, with_lanes, with_weather}
-use Rattle.checks.specs.Numbers.{refusal_number}
 use Rattle.answer.specs.Answers.{answer_to}
 use Rattle.answer.specs.Lanes.{lanes_answer, values}
 use Rattle.answer.specs.Promises.{letter_in, Meets, AcceptedCount}

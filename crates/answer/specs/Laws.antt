@@ -10,11 +10,11 @@
 -- Assumes nothing.
 use Rattle.std.specs.Prelude.{◌≡◌, List, [], ◌∷◌, map, ℕ, ◌*◌, ◌≤◌}
 use Rattle.numbers.specs.Bounds.{AllAtMost}
+use Rattle.checks.specs.Numbers.{refusal_number}
 use Rattle.road.specs.declared.Case.{Case}
 use Rattle.road.specs.Refusals.{greatest_demand}
 use Rattle.method.specs.Refusals.{Accepted}
 use Rattle.answer.specs.Answers as answers
-use Rattle.checks.specs.Numbers.{refusal_number}
 use Rattle.answer.specs.Answers.{answer_to}
 use Rattle.answer.specs.Lanes as lanes
 use Rattle.answer.specs.Lanes.{lanes_refusals, lanes_answer}

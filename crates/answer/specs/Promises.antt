@@ -13,6 +13,8 @@
 --   DemandThree                     the three together
 -- Assumes nothing.
 use Rattle.std.specs.Prelude.{◌≡◌, ◌↔◌, ◌⊎◌, [], ◌∷◌, ℕ, ◌+◌, ◌≤◌, ◌<◌, get_or, Result}
+use Rattle.checks.specs.declared.Refusal.{Refusal}
+use Rattle.checks.specs.Numbers.{refusal_number}
 use Rattle.road.specs.declared.Way.TheVariants as Way
 use Rattle.road.specs.declared.Terrain.{Terrain}
 use Rattle.road.specs.declared.Case.{Case}
@@ -20,11 +22,9 @@ use Rattle.curve.specs.Kinds.{fewest_lanes, most_lanes}
 use Rattle.curve.specs.Weather.{clear}
 use Rattle.road.specs.Refusals.{greatest_demand, FieldsFit}
 use Rattle.method.specs.Refusals.{Accepted}
-use Rattle.checks.specs.declared.Refusal.{Refusal}
 use Rattle.answer.specs.declared.evaluate.Grade.{Grade}
 use Rattle.road.specs.Cases.{with_demand, with_lanes, SameRoad}
 use Rattle.answer.specs.Answers as answers
-use Rattle.checks.specs.Numbers.{refusal_number}
 use Rattle.answer.specs.Answers.{answer_to}
 use Rattle.answer.specs.Lanes as lanes
 use Rattle.answer.specs.Lanes.{lanes_answer}

@@ -1,21 +1,21 @@
 // The answer to a case.
 //   Volumes        the service volumes A to E
-//   Grade          letter, F, c, v, speed, density and the service volumes; values: its eleven figures, the letter by its number
+//   Grade          letter, F, c, v, speed, density and the service volumes
+//   Grade::new     the grade of what a case gets and its service volumes
+//   values         the eleven figures of a grade, the letter by its number
 //   Counted        what is found, and how many demands were tried for it
 //   service_volumes   the service volumes of an accepted case
 //   evaluate_counted   the grade of any case at all, or its refusal, with how many demands were tried
 //   evaluate       without the count
-ghost use Rattle.std.specs.Prelude.{◌≡◌, ◌≤◌, ℕ, length};
-ghost use Rattle.road.specs.declared.Case.{Case};
+ghost use Rattle.std.specs.Prelude.{◌≡◌, ◌≤◌, length};
 ghost use Rattle.road.specs.Refusals.{greatest_demand};
 ghost use Rattle.answer.specs.Volumes.{service_volumes};
 ghost use Rattle.answer.specs.Search.{demand_meets};
 ghost use Rattle.answer.specs.Answers.{grade_of, answer_to, values};
-ghost use Rattle.answer.specs.Tries.{demands_tried, tests_of, found, counted_answer};
+ghost use Rattle.answer.specs.Tries.{demands_tried, found, counted_answer};
 
 use checks::Refusal;
-use curve::service;
-use curve::service::Letter;
+use curve::service::{self, Letter};
 use method::assess::{AcceptedCase, Measures};
 use method::checked;
 use road::Case;
@@ -84,6 +84,7 @@ impl Grade {
 }
 
 // Whether a demand keeps to capacity and to a density.
+#[tactic(auto, unfolding(crate::specs::Search::demand_meets))]
 fn demand_meets(accepted: &AcceptedCase, limit: u64, demand: u64) -> bool
     requires limit_high { limit ≤ 450 }
     requires demand_high { demand ≤ greatest_demand }
@@ -142,6 +143,7 @@ pub fn service_volumes(accepted: &AcceptedCase) -> Volumes
     found_volumes(accepted).value
 }
 
+#[tactic(auto, unfolding(crate::specs::Answers::graded))]
 fn graded(accepted: &AcceptedCase) -> Counted<Result<Grade, Refusal>>
     ensures { result ≡ counted_answer accepted.now.case }
 {

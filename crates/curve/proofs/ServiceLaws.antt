@@ -21,7 +21,7 @@
 use mathlib.Core.Path.{◌≡◌, refl, ap}
 use mathlib.Core.Bool.{Bool, true, false, cond}
 use mathlib.Core.Logic.{◌↔◌}
-use Prim.Native.Nat.{ℕ, zero, suc, ◌*◌, ◌≤◌, ◌<◌}
+use Prim.Native.Nat.{ℕ, zero, suc, ◌*◌, ◌/◌, ◌≤◌, ◌<◌}
 use native.Mathlib.Omega.{arith}
 use native.Mathlib.Nat.{le_trans, le_of_eq, zero-mul, mul-le-mul_right, div-one}
 use native.Mathlib.Decide.{dec_le}
@@ -31,7 +31,7 @@ use Rattle.numbers.specs.declared.Fraction.{Fraction}
 use Rattle.numbers.specs.Division.{div_up}
 use Rattle.numbers.specs.Fraction.{over, whole, times, divided_by, rounded_down, AtMost}
 use Rattle.numbers.proofs.DivisionLaws.{div_up-le-iff, div_up-zero}
-use Rattle.numbers.proofs.FractionLaws.{AtMost-trans, rounded_down-mono, rounded_up-mono, rounded_up-eq, divided_by-mono, quotient-le-iff}
+use Rattle.numbers.proofs.FractionLaws.{AtMost-trans, rounded_down-mono, rounded_down-eq, rounded_up-mono, rounded_up-eq, divided_by-mono, quotient-le-iff}
 use Rattle.numbers.proofs.BoolLaws.{and-left, and-right, leb-iff, cond-le, le-cond, cond-leb-mono}
 use Rattle.curve.specs.declared.kind.Kind.{Kind}
 use Rattle.curve.specs.declared.Curve.{Curve}
@@ -39,7 +39,7 @@ use Rattle.curve.specs.declared.service.Letter.{Letter}
 use Rattle.curve.specs.Kinds.{lowest_speed, highest_speed}
 use Rattle.curve.specs.Curves.{capacity, curve_at, WellFormed}
 use Rattle.curve.specs.Speed.{speed, shown_speed, ExactSpeed}
-use Rattle.curve.specs.Service.{density, shown_density, density_letter, letter_at, meets_limit, density_limit, letter_number}
+use Rattle.curve.specs.Service.{density, shown_density, density_letter, letter_at, meets_limit, density_limit, letter_number, performance}
 use Rattle.curve.proofs.CurveLaws.{capacity-mono, curve_at-well_formed}
 use Rattle.curve.proofs.SpeedLaws.{speed-numerator-pos, speed-denominator-pos, speed-antitone, capacity_speed-le}
 use Rattle.curve.proofs.FreewayLaws.{freeway_speed-mono}
@@ -75,6 +75,24 @@ limit-exact curve v limit s ok h exact =
     simp (le-leb (100 * v) curve.capacity h)
     (leb-iff (10000 * v * s.denominator) (limit * s.numerator) (density curve v) limit
     (λ k. rw dense at (iff.1 k), λ k. iff.0 (rw dense k)))
+
+-- what the three are worked from such a fraction, and past capacity
+pub performance-exact : (curve : Curve) (v : ℕ) (s : Fraction) → WellFormed curve → 100 * v ≤ curve.capacity → ExactSpeed curve v s
+    → performance curve v
+    ≡ (let d = div_up (10000 * v * s.denominator) s.numerator in
+    record { speed = s.numerator / s.denominator; density = d; letter = density_letter d })
+unfolding performance shown_speed shown_density letter_at
+performance-exact curve v s ok h exact =
+    simp (
+      le-leb (100 * v) curve.capacity h,
+      density-exact curve v s ok h exact,
+      rounded_down-eq s (speed curve v) exact.denominator-pos (speed-denominator-pos curve v ok) exact.same,
+    )
+
+pub performance-beyond : (curve : Curve) (v : ℕ) → curve.capacity < 100 * v
+    → performance curve v ≡ record { speed = 0; density = 0; letter = Letter.F }
+unfolding performance shown_speed shown_density letter_at
+performance-beyond curve v h = simp (lt-leb (100 * v) curve.capacity h)
 
 pub density-mono : (curve₁ curve₂ : Curve) (v w : ℕ) → WellFormed curve₁ → WellFormed curve₂
     → 100 * v ≤ curve₁.capacity → 100 * w ≤ curve₂.capacity → v ≤ w → AtMost (speed curve₂ w) (speed curve₁ v)

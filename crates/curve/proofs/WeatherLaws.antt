@@ -4,8 +4,8 @@
 --   multilane-clear         factors that fit kind M are those of clear weather
 --   curve_under-fits        with factors and speeds between their ends it is well formed and within the sizes
 -- Assumes nothing.
-use mathlib.Core.Path.{◌≡◌, ap, sym, subst, ◌∙◌}
-use Prim.Native.Nat.{ℕ, ◌+◌, ◌*◌, ◌-◌, ◌≤◌}
+use mathlib.Core.Path.{◌≡◌, refl, ap, sym, subst, ◌∙◌}
+use Prim.Native.Nat.{ℕ, ◌+◌, ◌*◌, ◌-◌, ◌/◌, ◌≤◌}
 use native.Mathlib.Omega.{arith}
 use native.Mathlib.Nat.{mul-le-mul_left, mul-le-mul_right, le_trans}
 use Rattle.curve.specs.declared.kind.Kind.{Kind}
@@ -13,7 +13,8 @@ use Rattle.curve.specs.declared.Weather.{Weather}
 use Rattle.curve.specs.Kinds.{highest_speed, lowest_adjusted_speed}
 use Rattle.curve.specs.Curves.{capacity, breakpoint, curve_at, WellFormed, Sized}
 use Rattle.curve.specs.Weather.{factors, clear, FactorsFit, adjusted_speed, adjusted_capacity, adjusted_breakpoint, curve_under}
-use Rattle.curve.proofs.CurveLaws.{curve_at-well_formed, curve_at-sized}
+use Rattle.curve.proofs.KindLaws.{kind-ends}
+use Rattle.curve.proofs.CurveLaws.{capacity-le, breakpoint-le, curve_at-well_formed, curve_at-sized}
 
 pub adjusted_speed-le : (weather : Weather) (f : ℕ) → weather.speed_factor ≤ 1000 → adjusted_speed weather f ≤ f
 unfolding adjusted_speed
@@ -107,3 +108,19 @@ curve_under-fits Kind.Multilane weather f fit slow fast =
     let same = multilane-curve weather f fit slow in
     subst (λ curve. WellFormed curve × Sized curve) (sym same.0)
     (curve_at-well_formed Kind.Multilane f same.1 fast, curve_at-sized Kind.Multilane f same.1 fast)
+
+-- ---- what src works out
+pub curve_under-worked : (weather : Weather) (kind : Kind) (f : ℕ)
+    → curve_under weather kind f
+    ≡ (let g = adjusted_speed weather f in
+    let k = weather.capacity_factor in
+    record {
+      kind = kind;
+      free_flow_speed = g;
+      capacity = capacity kind g * k / 1000;
+      breakpoint = breakpoint kind g * (k * k) / 1000000;
+    })
+unfolding curve_under adjusted_capacity adjusted_breakpoint
+curve_under-worked weather kind f = refl
+
+pub ruleset curve_laws = (kind-ends, adjusted_speed-le, capacity-le, breakpoint-le, curve_under-worked)

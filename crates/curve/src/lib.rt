@@ -68,6 +68,7 @@ impl Kind {
 }
 
 impl Weather {
+    #[tactic(auto, unfolding(crate::specs::Weather::adjusted_speed))]
     fn adjusted_speed(self, speed: u64) -> u64
         requires speed_high { speed ≤ 75000 }
         requires factor_high { self.speed_factor ≤ 1000 }
@@ -79,6 +80,7 @@ impl Weather {
 
 impl Curve {
     // From a free-flow speed before its factor. Capacity and breakpoint are worked from the one after it.
+    #[tactic(auto, using(crate::proofs::WeatherLaws::curve_laws))]
     pub fn under(weather: Weather, kind: Kind, speed: u64) -> Curve
         requires speed_high { speed ≤ highest_speed kind }
         requires factors_fit { FactorsFit kind weather }

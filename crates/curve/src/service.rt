@@ -35,6 +35,7 @@ impl Letter {
         self as u64
     }
 
+    #[tactic(auto, unfolding(crate::specs::Service::density_limit, crate::specs::Service::density_letter))]
     fn of_density(density: u64) -> Letter
         ensures { result ≡ density_letter density }
     {
@@ -51,6 +52,7 @@ impl Letter {
 
 impl CurveTerms {
     // At any flow rate v.
+    #[tactic(auto, using(crate::proofs::TermsLaws::performance_laws))]
     pub fn performance_at(&self, v: u64) -> Performance
         ensures { result ≡ performance self.now.curve v }
     {
@@ -71,6 +73,7 @@ impl CurveTerms {
     }
 
     // The same question as a letter's, with no division on kind F.
+    #[tactic(auto, using(crate::proofs::TermsLaws::limit_laws))]
     pub fn meets_limit(&self, v: u64, limit: u64) -> bool
         requires { limit ≤ 450 }
         ensures { result ≡ meets_limit self.now.curve v limit }
@@ -84,6 +87,7 @@ impl CurveTerms {
 }
 
 // A to D by their numbers 1 to 4; any other number has E's.
+#[tactic(auto, unfolding(crate::specs::Service::density_limit))]
 pub fn density_limit(letter: u64) -> u64
     ensures { result ≡ density_limit letter }
 {

@@ -73,6 +73,7 @@ impl CurveTerms {
     }
 
     // The numerator of w, its denominator being in the terms.
+    #[tactic(auto, using(numbers::proofs::DivisionLaws::divisions), unfolding(crate::specs::Speed::fall_share_by))]
     fn share_numerator(&self, v: u64) -> u64
         requires { 100 * v ≤ self.now.curve.capacity }
         ensures { result ≡ (fall_share self.now.curve v).numerator }
@@ -85,6 +86,7 @@ impl CurveTerms {
     }
 
     // F - (F - 2c/9) x w, over 9 times the denominator of w.
+    #[tactic(auto, using(crate::proofs::TermsLaws::terms_fit))]
     pub(crate) fn exact_speed(&self, v: u64) -> Fraction
         requires { 100 * v ≤ self.now.curve.capacity }
         ensures { ExactSpeed self.now.curve v result }

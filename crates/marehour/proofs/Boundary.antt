@@ -8,7 +8,7 @@ use Prim.Native.String.{◌++◌ as ◌then◌}
 use Rattle.text.specs.Bytes.{bytes_of}
 use Rattle.text.specs.Parts.{on_first, parts}
 use Rattle.text.specs.Decimal.{decimal_up_to, decimal, figures_text, row_text}
-use Rattle.checks.specs.Numbers.{refusal_number}
+use Rattle.checks.specs.Numbers.{in_order, refusal_of, refusal_number}
 use Rattle.checks.specs.Figures.{Shown}
 use Rattle.road.specs.Refusals.{weather_unfit, road_refusals, load_refusals, field_refusals}
 use Rattle.method.specs.Refusals.{refusals}
@@ -44,7 +44,7 @@ line-read = refl
 line-shown : line_text (bytes_of printed_line) ≡ bytes_of printed_answer
 unfolding flat_map decimal_up_to decimal figures_text row_text text_of
 line-shown = line_text-case (bytes_of printed_line) example line-read
-    ∙ ap (text_of (answers.refusal_number (answer_to example))) answer-proofs.example-figures
+    ∙ ap (text_of (refusal_number (answer_to example))) answer-proofs.example-figures
 
 -- the printed line in snow, and with a factor that 19 refuses
 snow-shown : line_text (bytes_of (printed_line then "\t860\t780")) ≡ bytes_of snow_answer
@@ -55,7 +55,7 @@ snow-shown =
     ∙ ap (λ l. text_of (get_or l 0 0) (drop 1 l)) answer-proofs.example-in-snow
 
 factor-shown : line_text (bytes_of (printed_line then "\t99999\t1000")) ≡ bytes_of "X\t19\n"
-unfolding flat_map on_first parts decimal_up_to decimal figures_text row_text layout completed spelled number letter field_as values_of case_of
+unfolding in_order refusal_of flat_map on_first parts decimal_up_to decimal figures_text row_text layout completed spelled number letter field_as values_of case_of
     read_values read_line weather_unfit road_refusals load_refusals field_refusals refusals refusal_text text_of line_text
 factor-shown = refl
 

@@ -2,25 +2,28 @@
 --   replies-within-ends, buffer-too-short, no-demand-is-refused, last-refusal-is-reached, day-hands-back, day-call-is-the-day,
 --   position-is-the-lines-answer, daily-hands-back, forecast-hands-back
 -- Assumes nothing.
-use Rattle.std.proofs.Common.{◌≡◌, ℕ, ◌*◌, ◌≤◌, ◌<◌, Ok, List, length, pos, neg_ℤ, refl, sym, ap, subst, ◌∙◌, ⊎_elim, arith}
+use Rattle.std.proofs.Common.{◌≡◌, ℕ, ℤ, ◌*◌, ◌≤◌, ◌<◌, Result, Ok, lit≤, List, length, pos, neg_ℤ, refl, sym, ap, subst, ◌∙◌, ⊎_elim, arith}
 use Rattle.std.proofs.Common.{eq-zero-or-pos, zero-add}
 use Rattle.checks.specs.Refusals.{Condition, first_refusal}
-use Rattle.checks.proofs.RefusalLaws.{unless_refused-none, unless_refused-some, unless_refused-by, first_refusal-le}
+use Rattle.checks.proofs.RefusalLaws.{unless_refused-none, unless_refused-some, unless_refused-by, first_refusal-le, first_refusal-ge}
+use Rattle.checks.specs.declared.Refusal.{Refusal}
+use Rattle.checks.specs.Numbers as refusals
+use Rattle.checks.specs.Numbers.{in_order, refusal_of, refusal_number}
+use Rattle.checks.proofs.NumberLaws.{number-refusal_of, ok_unless-by, ok_unless-none, ok_unless-err}
+use Rattle.std.proofs.Math.Nat.{le_trans}
 use Rattle.text.specs.Buffer.{written}
 use Rattle.text.specs.Parts.{on_first, parts}
 use Rattle.road.specs.declared.Case.{Case}
 use Rattle.road.specs.Refusals.{weather_unfit, road_refusals, load_refusals, field_refusals}
 use Rattle.method.specs.Refusals.{refusals, refusal}
 use Rattle.method.proofs.RefusalLaws.{refusal-le}
-use Rattle.answer.specs.declared.evaluate.Answer.TheVariants as Answer
-use Rattle.answer.specs.declared.lanes.LanesAnswer.TheVariants as LanesAnswer
 use Rattle.answer.specs.Answers.{graded}
 use Rattle.answer.specs.Lanes.{lanes_found, lanes_refusals, values}
 use Rattle.answer.proofs.AnswerLaws.{answer_to-accepted}
 use Rattle.answer.proofs.Laws.{refusals-within-ends, counts-are-digits, lanes_answer-number}
-use Rattle.day.specs.Days.{most_demands, figure_count, lent_unfit, lent_refusals, LentFits, refusal_number, values as day_values}
+use Rattle.day.specs.Days.{most_demands, figure_count, lent_unfit, lent_refusals, LentFits, values as day_values}
 use Rattle.day.specs.Promises.{position}
-use Rattle.day.proofs.DayLaws.{day_figures-length, day_figures-count, lent-number, day-refused, day-answered}
+use Rattle.day.proofs.DayLaws.{day_figures-length, day_figures-count, day-refused, day-answered}
 use Rattle.day.proofs.Promises.{position-holds-the-answer, lent-fits-exactly}
 use Rattle.daily.specs.declared.Shares.{Shares}
 use Rattle.daily.specs.Daily as daily
@@ -47,21 +50,24 @@ use Rattle.marehour.specs.Laws.{NoDemandIsRefused, LastRefusalIsReached, HandsBa
 use Rattle.marehour.specs.Laws.{DayHandsBack, DayCallIsTheDay, PositionIsTheLinesAnswer}
 use Rattle.marehour.proofs.CallLaws.{FiguresFit, figures-written, figures-refused, count-length, buffer-short, buffer-fits}
 
+-- the refusal of a number that a list has
+refused-ends : (n last : ℕ) → 0 < n → n ≤ last → last ≤ 22 → (1 ≤ refusals.number (refusal_of n)) × (refusals.number (refusal_of n) ≤ last)
+refused-ends n last p h k = let e = number-refusal_of n p (le_trans h k) in (omega (arith, e, p), omega (arith, e, h))
+
 answer-ends : (case : Case) → WithinEnds 1 longest_answer last_refusal (case_reply case)
 answer-ends case =
-    unless_refused-by (refusal case) (Answer.Graded (graded case)) Answer.Refused
-    (λ a. WithinEnds 1 longest_answer last_refusal (answer_reply a))
-    (λ z. (answer_text-pos (Answer.Graded (graded case)), rw (answer_to-accepted case z) at (answer_text-le case)))
-    (λ p. (p, omega (arith, refusal-le case)))
+    ok_unless-by (refusal case) (graded case) (λ a. WithinEnds 1 longest_answer last_refusal (answer_reply a))
+    (λ z. (answer_text-pos (Ok (graded case)), rw (answer_to-accepted case z) at (answer_text-le case)))
+    (λ p. refused-ends (refusal case) last_refusal p (refusal-le case) (lit≤ tt))
 
 count-ends : (letter : ℕ) (case : Case) → WithinEnds 1 longest_answer last_refusal (lanes_reply letter case)
 count-ends letter case =
     let number : ℕ = first_refusal (lanes_refusals case letter) in
-    let found = LanesAnswer.Lanes (lanes_found case letter) in
-    unless_refused-by number found LanesAnswer.Refused (λ a. WithinEnds 1 longest_answer last_refusal (count_reply a))
-    (λ z. let long = count-length _
-    (counts-are-digits case letter _ (ap values (unless_refused-none number found LanesAnswer.Refused z))) in (omega arith, omega arith))
-    (λ p. (p, omega (arith, (refusals-within-ends case letter).1, lanes_answer-number case letter)))
+    let most : number ≤ last_refusal = omega (arith, (refusals-within-ends case letter).1, lanes_answer-number case letter) in
+    ok_unless-by number (lanes_found case letter) (λ a. WithinEnds 1 longest_answer last_refusal (count_reply a))
+    (λ z. let long = count-length _ (counts-are-digits case letter _ (ap values (ok_unless-none number (lanes_found case letter) z))) in
+    (omega arith, omega arith))
+    (λ p. refused-ends number last_refusal p most (lit≤ tt))
 
 day-ends : (demands : List ℕ) (room : ℕ) → LentFits (length demands) room → (case : Case)
     → WithinEnds figure_count (most_demands * figure_count) last_refusal (day_reply demands case)
@@ -80,7 +86,7 @@ figures-ends count last h number values fit =
 
 daily-fit : (shares : Shares) (traffic : ℕ) (case : Case)
     → let answer = daily_answer case shares traffic in
-    FiguresFit daily.figure_count last_daily_refusal (daily.refusal_number answer) (daily.values answer)
+    FiguresFit daily.figure_count last_daily_refusal (refusal_number answer) (daily.values answer)
 daily-fit shares traffic case =
     record {
       some = λ z. (figures-of-the-hour case shares traffic z).1;
@@ -90,7 +96,7 @@ daily-fit shares traffic case =
 
 forecast-fit : (forecast : Forecast) (case : Case)
     → let answer = forecast_answer case forecast in
-    FiguresFit forecasts.figure_count last_forecast_refusal (forecasts.refusal_number answer) (forecasts.values answer)
+    FiguresFit forecasts.figure_count last_forecast_refusal (refusal_number answer) (forecasts.values answer)
 forecast-fit forecast case =
     record {
       some = λ z. ap length (shown case forecast z);
@@ -135,8 +141,8 @@ unfolding lent_unfit lent_refusals
 no-demand-is-refused line room = refl
 
 pub last-refusal-is-reached : LastRefusalIsReached
-unfolding on_first parts layout completed spelled number letter field_as values_of case_of read_values read_line weather_unfit road_refusals
-    load_refusals field_refusals refusals lanes_refusals buffer_refusals shares_unfit traffic_refusals range_refusals forecast_refusals
+unfolding in_order refusal_of on_first parts layout completed spelled number letter field_as values_of case_of read_values read_line weather_unfit
+    road_refusals load_refusals field_refusals refusals lanes_refusals buffer_refusals shares_unfit traffic_refusals range_refusals forecast_refusals
 last-refusal-is-reached = (refl, refl, refl, refl)
 
 -- ---- a day
@@ -145,12 +151,17 @@ day-read : (line demands : List ℕ) (room : ℕ) → LentFits (length demands) 
     → day_call line demands room ≡ line_reply (day_reply demands) (read_line line)
 day-read line demands room z = unless_refused-none _ (line_reply (day_reply demands) (read_line line)) refusal_reply z
 
+lent-number : (n room : ℕ) → 0 < first_refusal (lent_refusals n room) → first_refusal (lent_refusals n room) ≡ 18
+unfolding lent_refusals
+lent-number n room p =
+    omega (arith, first_refusal-le 18 (lent_refusals n room) tt, first_refusal-ge 18 (lent_refusals n room) tt p)
+
 -- lent memory that does not
 day-unfit : (line demands : List ℕ) (room : ℕ) → 0 < first_refusal (lent_refusals (length demands) room)
     → day_call line demands room ≡ refusal_reply 18
 day-unfit line demands room p =
     unless_refused-some _ (line_reply (day_reply demands) (read_line line)) refusal_reply p
-    ∙ ap refusal_reply (lent-number (length demands) room _ refl p)
+    ∙ ap refusal_reply (lent-number (length demands) room p)
 
 day-case : (line demands : List ℕ) (room : ℕ) (case : Case) → LentFits (length demands) room → read_line line ≡ Ok case
     → day_call line demands room ≡ day_reply demands case
@@ -165,17 +176,18 @@ day-hands-back line demands room = (
 
 pub day-call-is-the-day : DayCallIsTheDay
 day-call-is-the-day line case e demands old =
+    let told : Result ℕ Refusal → ℤ = λ a. result_of (refusal_number a) (day_values a) in
     ⊎_elim
-    (λ z.
-    let answered = day-answered case demands old z in (
+    (λ z. (
       ap day_result (day-case line demands (length old) case z e) ∙ ap pos (day_figures-count case demands)
-          ∙ ap (λ a. result_of (refusal_number a) (day_values a)) answered.0,
-      ap (λ r. content r old) (day-case line demands (length old) case z e) ∙ answered.1,
+          ∙ ap told (sym (ok_unless-none _ (length demands) z)),
+      ap (λ r. content r old) (day-case line demands (length old) case z e) ∙ day-answered case demands old z,
     ))
     (λ p.
-    let refused = day-refused case demands old 18 (sym (lent-number (length demands) (length old) _ refl p)) (omega arith) in (
-      ap day_result (day-unfit line demands (length old) p) ∙ ap (λ a. result_of (refusal_number a) (day_values a)) refused.0,
-      ap (λ r. content r old) (day-unfit line demands (length old) p) ∙ refused.1,
+    let own = lent-number (length demands) (length old) p in (
+      ap day_result (day-unfit line demands (length old) p)
+          ∙ ap told (ok_unless-err Refusal.DayUnfit _ (length demands) (sym own)),
+      ap (λ r. content r old) (day-unfit line demands (length old) p) ∙ day-refused case demands old p,
     ))
     (eq-zero-or-pos (first_refusal (lent_refusals (length demands) (length old))))
 

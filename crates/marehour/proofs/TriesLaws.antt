@@ -1,7 +1,9 @@
 -- The call that counts the tried demands (specs/Tries).
 --   tries-hand-back, tries-of-lines
 -- Assumes nothing.
-use Rattle.std.proofs.Common.{refl, ap, ◌∙◌}
+use Rattle.std.proofs.Common.{refl, ap, ◌∙◌, pos, neg_ℤ, arith}
+use Rattle.checks.proofs.NumberLaws.{number-refusal_of}
+use Rattle.method.proofs.RefusalLaws.{refusal-le}
 use Rattle.text.specs.Bytes.{bytes_of}
 use Rattle.text.specs.Parts.{on_first, parts}
 use Rattle.method.specs.Boundary.{example}
@@ -21,7 +23,8 @@ tries-hand-back line = (
   λ r e. ap line_tries (read_line-refused line r e),
   λ case e. (
     λ a. let ends = at-most-80-tried case a in (ap line_tries e ∙ rw (answer_to-accepted case a, tries-accepted case a), ends.0, ends.1),
-    λ n r p. ap line_tries e ∙ ap (λ answer. tries_result answer (counted_answer case).tries) (answer_to-refused case n r p),
+    λ n r p. ap line_tries e ∙ ap (λ answer. tries_result answer (counted_answer case).tries) (answer_to-refused case n r p)
+        ∙ ap (λ m. neg_ℤ (pos m)) (number-refusal_of n p (omega (arith, r, refusal-le case))),
   ),
 )
 

@@ -11,10 +11,6 @@ pub loop-high-init : goal.loop-high-init
 loop-high-init c =
     let own = c.args.accepted.now in halved-start _ c.args.end (demand_meets-zero own.case c.args.limit own.accepted)
 
-pub overflow_add-tries : goal.overflow_add-tries
-overflow_add-tries c =
-    omega (arith, c.loop-high.invariant.near, c.requires.end_high)
-
 pub loop-high-preserved-then-demand_meets : goal.loop-high-preserved-then-demand_meets
 unfolding middle
 loop-high-preserved-then-demand_meets c =

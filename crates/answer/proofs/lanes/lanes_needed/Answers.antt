@@ -1,32 +1,24 @@
 -- `answer::lanes::lanes_needed` meets its contract: 16 first, then 1 to 9 and 19, then the count or 14.
 -- Assumes nothing.
-use Rattle.std.proofs.Common.{ap, Ok, T, ◌+◌, ◌<◌, sym, ◌∙◌, ℕ, ◌≤◌, rules, arith}
+use Rattle.std.proofs.Common.{ap, Ok, T, ◌+◌, ◌<◌, sym, ◌∙◌, ℕ, ◌≤◌, rules, arith, below_more}
 use Rattle.std.proofs.lemmas.Result.{err_from_is_err_and}
-use borrow.Author.Count.{below_more}
 use Rattle.numbers.proofs.BoolLaws.{T-true, T-false}
-use Rattle.checks.specs.declared.Refusal.{Refusal}
-use Rattle.checks.proofs.NumberLaws.{ok_unless-err}
 use Rattle.curve.specs.Kinds.{most_lanes}
 use Rattle.road.specs.Cases.{with_lanes}
 use Rattle.road.proofs.RefusalLaws.{fields-with_lanes}
-use Rattle.answer.specs.Lanes.{lanes_meet, lanes_found}
-use Rattle.answer.proofs.LanesLaws.{meets-of-kind, lanes_found-eq, lanes_found-none, lanes_number, lanes-letter, lanes-fields, lanes_answer-none}
-use Rattle.answer.proofs.LanesLaws.{lanes_answer-found}
+use Rattle.answer.specs.Lanes.{lanes_meet}
+use Rattle.answer.proofs.LanesLaws.{meets-of-kind, lanes_found-eq, lanes_found-none, lanes_answer-letter, lanes_answer-fields}
+use Rattle.answer.proofs.LanesLaws.{lanes_answer-none, lanes_answer-found}
 use Rattle.answer.proofs.lanes.lanes_needed.Goals as goal
 
 pub returns-then-not-contains : goal.returns-then-not-contains
-returns-then-not-contains c =
-    let a = c.args in
-    ok_unless-err Refusal.LetterUnknown (lanes_number a.case a.letter) (lanes_found a.case a.letter) (lanes-letter a.case a.letter (search rules))
+returns-then-not-contains c = sym (lanes_answer-letter c.args.case c.args.letter (search rules))
 
 pub returns-in_err-check_fields : goal.returns-in_err-check_fields
 returns-in_err-check_fields c =
-    let a = c.args in
-    let refused = c.in_err-check_fields.field-0.0 in
+    let failed = c.in_err-check_fields in
     let p = err_from_is_err_and c.from_residual.result c.from_residual.ensures.1 in
-    rw (p.1, p.2)
-    (ok_unless-err refused (lanes_number a.case a.letter) (lanes_found a.case a.letter)
-    (lanes-fields a.case a.letter (search rules) (search rules) refused c.in_err-check_fields.ensures))
+    rw (p.1, p.2) (sym (lanes_answer-fields c.args.case c.args.letter (search rules) (search rules) failed.field-0.0 failed.ensures))
 
 pub loop-lanes-init : goal.loop-lanes-init
 loop-lanes-init c =
@@ -50,12 +42,9 @@ returns-then-lanes_meet c =
     let l = c.loop-lanes in
     let within : l.lanes ≤ most_lanes a.case.road.kind = omega (arith, c.loop-lanes-test.true, c.most_lanes-lanes-end.ensures) in
     let own = lanes_found-eq a.case a.letter l.lanes within (T-true _ (sym c.lanes_meet.ensures ∙ c.if-lanes_meet.true)) l.invariant.1 in
-    sym (lanes_answer-found a.case a.letter (search rules) (search rules) (sym c.in_ok-check_fields.ensures) (omega (arith, own, within)) ∙ ap Ok own)
-
-pub loop-lanes-preserved : goal.loop-lanes-preserved
-loop-lanes-preserved c =
-    let inv = c.loop-lanes.invariant in
-    (omega (arith, inv.0), below_more _ _ inv.1 (T-false _ (sym c.lanes_meet.ensures ∙ c.if-lanes_meet.false)))
+    sym
+    (lanes_answer-found a.case a.letter (search rules) (search rules) (sym c.in_ok-check_fields.ensures) (omega (arith, own, within))
+    ∙ ap Ok own)
 
 pub returns-else-lanes_meet : goal.returns-else-lanes_meet
 returns-else-lanes_meet c =
