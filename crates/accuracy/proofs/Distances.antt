@@ -1,10 +1,7 @@
 -- The points of specs/Distances, worked out by whole powers.
 --   distances-shown, farthest-just-below
 -- Assumes nothing.
-use mathlib.Core.Path.{refl}
-use native.Mathlib.Omega.{arith}
-use native.Mathlib.Nat.{not-le_of_lt}
-use lib.Dec.{lit<, lit≤}
+use Rattle.std.proofs.Common.{refl, arith, not-le_of_lt, lit<, lit≤}
 use Rattle.numbers.specs.Division.{div_up}
 use Rattle.powers.proofs.PowerTable.{power_table}
 use Rattle.powers.proofs.PowerLaws.{power_table-at}

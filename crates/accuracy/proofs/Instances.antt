@@ -1,12 +1,7 @@
 -- The cases of specs/Instances with their answers.
 --   answer-to-farthest, answer-at-capacity, answer-above-capacity
 -- Assumes nothing.
-use mathlib.Core.Path.{◌≡◌, refl, ap}
-use mathlib.Core.List.{[], ◌∷◌}
-use native.Mathlib.Omega.{arith}
-use native.Mathlib.Nat.{le_of_eq, not-le_of_lt}
-use lib.Dec.{lit<, lit≤}
-use lib.ListN.{get_or}
+use Rattle.std.proofs.Common.{◌≡◌, refl, ap, [], ◌∷◌, arith, le_of_eq, not-le_of_lt, lit<, lit≤, get_or}
 use Rattle.numbers.specs.Division.{div_up}
 use Rattle.powers.proofs.PowerTable.{power_table}
 use Rattle.powers.proofs.PowerLaws.{power_table-at}

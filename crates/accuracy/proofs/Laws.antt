@@ -2,10 +2,8 @@
 --   lower-speeds-at-most, free-flow-speed-up-to-breakpoint, capacity-speed-at-capacity, no-faster-with-more-flow
 --   table-step-at-most-1310, table-step-reaches-1310
 -- Assumes nothing.
-use mathlib.Core.Path.{◌≡◌}
-use Prim.Native.Nat.{ℕ, ◌*◌, ◌-◌, ◌^◌, ◌<◌, zero-le}
-use native.Mathlib.Omega.{arith}
-use native.Mathlib.Nat.{mul-le-mul_left, mul-le-mul_right, mul-zero, pow-le-pow_left, le_trans, le_of_mul-le-mul_right, one-le-pow}
+use Rattle.std.proofs.Common.{◌≡◌, ℕ, ◌*◌, ◌-◌, ◌^◌, ◌<◌, zero-le, arith, mul-le-mul_left, mul-le-mul_right, mul-zero, le_trans, le_of_mul-le-mul_right}
+use native.Mathlib.Nat.{pow-le-pow_left, one-le-pow}
 use Rattle.curve.specs.declared.kind.Kind.TheVariants as Kind
 use Rattle.curve.specs.Curves.{capacity, breakpoint, curve_at, WellFormed}
 use Rattle.curve.specs.Speed.{beyond_breakpoint, span_to_capacity}

@@ -5,13 +5,9 @@
 -- Not so s + 26: it would be carried down to fall × (T(i) − 1,311) ≤ 9(F − s − 26) × 1,000,000, by the table's rule and step at the place
 -- before i. But fall × 1,311 is below 9 × 25,000,000, and the rounding takes off less than 1.
 -- Assumes nothing.
-use mathlib.Core.Path.{◌≡◌, refl}
-use mathlib.Core.Logic.{◌↔◌}
-use Prim.Native.Nat.{ℕ, ◌+◌, ◌*◌, ◌-◌, ◌/◌, ◌^◌, ◌≤◌, ◌<◌}
-use native.Mathlib.Omega.{arith}
-use native.Mathlib.Nat.{mul-le-mul, mul-le-mul_left, mul_comm, mul-sub, div-mul-le_self, lt-div-mul-add, one-le-pow, lt_of_not-le}
-use lib.Dec.{T, leb, lit<, leb→le}
-use borrow.Author.Tests.{le-leb, lt-leb}
+use Rattle.std.proofs.Common.{◌≡◌, refl, ◌↔◌, ℕ, ◌+◌, ◌*◌, ◌-◌, ◌/◌, ◌^◌, ◌≤◌, ◌<◌, arith, mul-le-mul, mul-le-mul_left, mul_comm, div-mul-le_self, lt_of_not-le, T, leb, lit<, leb→le, le-leb}
+use native.Mathlib.Nat.{mul-sub, lt-div-mul-add, one-le-pow}
+use borrow.Author.Tests.{lt-leb}
 use Rattle.numbers.specs.Division.{div_up}
 use Rattle.numbers.specs.Fraction.{over, AtMost}
 use Rattle.numbers.proofs.BoolLaws.{and-left}

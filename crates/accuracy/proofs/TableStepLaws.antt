@@ -3,14 +3,8 @@
 --   step-999       T(999) is 1,310 above T(998)
 --   step-reaches   T(i) less 1,311 is at most the power 1.31 of the place before i; of T(0) and T(1) nothing is left
 -- Assumes nothing.
-use mathlib.Core.Path.{◌≡◌, refl}
-use mathlib.Core.Bool.{Bool}
-use Prim.Native.Nat.{ℕ, zero, suc, ◌+◌, ◌*◌, ◌-◌, ◌^◌, ◌≤◌, zero-le}
-use native.Mathlib.Omega.{arith}
+use Rattle.std.proofs.Common.{◌≡◌, refl, Bool, ℕ, zero, suc, ◌+◌, ◌*◌, ◌-◌, ◌^◌, ◌≤◌, zero-le, arith, le_of_lt, lt_of_not-le, T, leb, leb→le, get_or}
 use native.Mathlib.Decide.{dec_le}
-use native.Mathlib.Nat.{le_of_lt, lt_of_not-le}
-use lib.Dec.{T, leb, leb→le}
-use lib.ListN.{get_or}
 use Rattle.numbers.specs.Table.{every_up_to}
 use Rattle.numbers.proofs.TableLaws.{every_up_to-at}
 use Rattle.powers.specs.Power.{power}

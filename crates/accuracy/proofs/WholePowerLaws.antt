@@ -5,11 +5,9 @@
 --   power-under     (p/q)^n is at most t^m / M^m, where p/q is at most i/K and i^n × R at most t^m
 --   power-over      (p/q)^n is at least u^m / M^m, where p/q is at least j/K and j^n × R at least u^m
 -- Assumes nothing.
-use mathlib.Core.Path.{◌≡◌, refl, ap}
-use Prim.Native.Nat.{ℕ, zero, suc, ◌*◌, ◌^◌, ◌≤◌, ◌<◌}
-use native.Mathlib.Omega.{arith}
+use Rattle.std.proofs.Common.{◌≡◌, refl, ap, ℕ, zero, suc, ◌*◌, ◌^◌, ◌≤◌, ◌<◌, arith, mul-le-mul_left, pow-suc}
 use native.Mathlib.Decide.{dec_le}
-use native.Mathlib.Nat.{mul-le-mul_left, pow-zero, pow-suc, pow-le-pow_left, pow-lt-pow_left}
+use native.Mathlib.Nat.{pow-zero, pow-le-pow_left, pow-lt-pow_left}
 use Rattle.numbers.specs.Fraction.{over, AtMost}
 
 pub power-order : (a b n : ℕ) → 0 < n → a ^ n ≤ b ^ n → a ≤ b

@@ -8,16 +8,17 @@
 --   above_capacity        M G 65000 120 60 60 D 0 2 4601 1000 0 L
 --   AnswerAboveCapacity   it gets F, and its speed is 0
 -- Assumes nothing.
-use Rattle.std.specs.Prelude.{◌≡◌, List, [], ◌∷◌, ℕ}
+use Rattle.std.specs.Prelude.{◌≡◌, List, [], ◌∷◌, ℕ, Result}
+use Rattle.checks.specs.declared.Refusal.{Refusal}
 use Rattle.curve.specs.declared.kind.Kind.TheVariants as Kind
 use Rattle.road.specs.declared.Case.{Case}
 use Rattle.method.specs.Boundary.{given, two_lanes}
-use Rattle.answer.specs.declared.evaluate.Answer.{Answer}
+use Rattle.answer.specs.declared.evaluate.Grade.{Grade}
 use Rattle.answer.specs.Answers.{answer_to}
 use Rattle.answer.specs.Promises.{letter_in}
 use Rattle.accuracy.specs.Promises.{free_flow_speed_in, capacity_in, flow_rate_in, speed_in, JustBelowIn, UpToCapacity}
 
-abbrev pub first_figures : Answer → List ℕ
+abbrev pub first_figures : Result Grade Refusal → List ℕ
 first_figures answer = letter_in answer ∷ free_flow_speed_in answer ∷ capacity_in answer ∷ flow_rate_in answer ∷ speed_in answer ∷ []
 
 abbrev pub AnsweredJustBelow : Case → List ℕ → Type 0

@@ -11,14 +11,15 @@
 --   AToEJustBelow                 so it holds with a letter from A to E
 --   NoSpeedAboveCapacity          above capacity the speed in the answer is 0; nothing is said of the curve there
 -- Assumes nothing.
-use Rattle.std.specs.Prelude.{◌≡◌, ◌↔◌, ℕ, ◌+◌, ◌*◌, ◌≤◌, get_or}
+use Rattle.std.specs.Prelude.{◌≡◌, ◌↔◌, ℕ, ◌+◌, ◌*◌, ◌≤◌, get_or, Result}
+use Rattle.checks.specs.declared.Refusal.{Refusal}
 use Rattle.curve.specs.declared.kind.Kind.TheVariants as Kind
 use Rattle.curve.specs.Kinds.{lowest_speed, highest_speed}
 use Rattle.curve.specs.Curves.{capacity, curve_at}
 use Rattle.curve.specs.Speed.{shown_speed}
 use Rattle.road.specs.declared.Case.{Case}
 use Rattle.method.specs.Refusals.{Accepted}
-use Rattle.answer.specs.declared.evaluate.Answer.{Answer}
+use Rattle.answer.specs.declared.evaluate.Grade.{Grade}
 use Rattle.answer.specs.Answers.{answer_to, values}
 use Rattle.answer.specs.Promises.{letter_in}
 use Rattle.accuracy.specs.ManualCurve.{AtMostManualCurve}
@@ -38,23 +39,23 @@ ShownSpeedJustBelow =
     → JustBelowManualCurve f v (shown_speed (curve_at Kind.Multilane f) v)
 
 -- of the eleven figures of an answer F is the second, c the third, v the fourth and the speed the fifth
-abbrev pub free_flow_speed_in : Answer → ℕ
+abbrev pub free_flow_speed_in : Result Grade Refusal → ℕ
 free_flow_speed_in answer = get_or (values answer) 1 0
 
-abbrev pub capacity_in : Answer → ℕ
+abbrev pub capacity_in : Result Grade Refusal → ℕ
 capacity_in answer = get_or (values answer) 2 0
 
-abbrev pub flow_rate_in : Answer → ℕ
+abbrev pub flow_rate_in : Result Grade Refusal → ℕ
 flow_rate_in answer = get_or (values answer) 3 0
 
-abbrev pub speed_in : Answer → ℕ
+abbrev pub speed_in : Result Grade Refusal → ℕ
 speed_in answer = get_or (values answer) 4 0
 
 -- of the speed in an answer, at the F and the v in it
-abbrev pub JustBelowIn : Answer → Type 0
+abbrev pub JustBelowIn : Result Grade Refusal → Type 0
 JustBelowIn answer = JustBelowManualCurve (free_flow_speed_in answer) (flow_rate_in answer) (speed_in answer)
 
-abbrev pub UpToCapacity : Answer → Type 0
+abbrev pub UpToCapacity : Result Grade Refusal → Type 0
 UpToCapacity answer = 100 * flow_rate_in answer ≤ capacity_in answer
 
 abbrev pub AnswerJustBelow : Type 0

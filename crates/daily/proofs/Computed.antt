@@ -2,9 +2,10 @@
 --   hourly-shown     hourly demands
 --   refusals-shown   the order of the refusals
 -- Assumes nothing.
-use mathlib.Core.Path.{refl}
+use Rattle.std.proofs.Common.{refl}
 use Rattle.numbers.specs.Division.{div_up}
 use Rattle.checks.specs.Figures.{Shown}
+use Rattle.checks.specs.Numbers.{in_order, refusal_of}
 use Rattle.road.specs.Refusals.{weather_unfit, road_refusals, load_refusals, field_refusals}
 use Rattle.method.specs.Refusals.{refusals}
 use Rattle.daily.specs.Daily.{shares_unfit, traffic_refusals, hourly_demand}
@@ -15,5 +16,5 @@ unfolding div_up hourly_demand hourly_instances
 hourly-shown = (refl, (refl, (refl, tt)))
 
 pub refusals-shown : Shown refusal_instances
-unfolding div_up weather_unfit road_refusals load_refusals field_refusals refusals shares_unfit traffic_refusals hourly_demand refusal_instances
+unfolding in_order refusal_of div_up weather_unfit road_refusals load_refusals field_refusals refusals shares_unfit traffic_refusals hourly_demand refusal_instances
 refusals-shown = (refl, (refl, (refl, (refl, (refl, (refl, (refl, (refl, (refl, (refl, (refl, (refl, tt))))))))))))

@@ -3,18 +3,12 @@
 --   no-traffic-meets-a  the printed road with no traffic
 --   instances-shown    each is what is to be shown
 -- Assumes nothing.
-use mathlib.Core.Path.{◌≡◌, refl, ap}
-use mathlib.Core.Logic.{◌↔◌}
-use mathlib.Core.Bool.{Bool, not, ◌&&◌}
-use mathlib.Core.List.{List, [], ◌∷◌, ◌++◌, map}
-use Prim.Native.Nat.{ℕ, suc, ◌≤◌, ◌<◌, zero-le}
-use native.Mathlib.Omega.{arith}
-use native.Mathlib.Nat.{lt_of_not-le}
-use lib.Dec.{T, T_not, leb, eqb, leb→le, le→leb, eqb→eq, lit≤, lit<}
-use lib.ListN.{drop}
+use Rattle.std.proofs.Common.{◌≡◌, refl, ap, ◌↔◌, Bool, not, ◌&&◌, List, [], ◌∷◌, ◌++◌, map, ℕ, suc, ◌≤◌, ◌<◌, zero-le, arith, rules, lt_of_not-le, T, T_not, leb, eqb, leb→le, lit≤, lit<, drop, Result}
 use Rattle.numbers.specs.Division.{div_up}
 use Rattle.numbers.specs.Search.{ends_at}
 use Rattle.numbers.proofs.BoolLaws.{and-left, and-right}
+use Rattle.checks.specs.declared.Refusal.{Refusal}
+use Rattle.checks.specs.Numbers.{in_order, refusal_of, refusal_number}
 use Rattle.checks.specs.Figures.{Shown}
 use Rattle.curve.specs.Curves.{capacity, breakpoint}
 use Rattle.curve.specs.Weather.{adjusted_speed, adjusted_capacity, adjusted_breakpoint, curve_under}
@@ -34,8 +28,8 @@ use Rattle.answer.specs.Boundary.{example_in_snow}
 use Rattle.answer.specs.Instances.{multilane_with}
 use Rattle.answer.proofs.Boundary.{example-accepted, snow-accepted, example-figures, example-in-snow}
 use Rattle.daily.specs.declared.Shares.{Shares}
-use Rattle.daily.specs.declared.DailyAnswer.{DailyAnswer}
-use Rattle.daily.specs.Daily.{shares_of, shares_unfit, traffic_refusals, hourly_demand, hourly_case, daily_answer, refusal_number}
+use Rattle.daily.specs.declared.DailyGrade.{DailyGrade}
+use Rattle.daily.specs.Daily.{shares_of, shares_unfit, traffic_refusals, hourly_demand, hourly_case, daily_answer}
 use Rattle.daily.specs.Daily.{values}
 use Rattle.daily.specs.Promises.{AcceptedTraffic, letter_in, daily_volume_in, MeetsByDay, by_the_day}
 use Rattle.daily.specs.Instances.{urban, rural, eight_lanes, told, letters_at, volumes_in, printed_figures, rural_figures, snow_figures}
@@ -104,18 +98,12 @@ no-traffic-meets-a = (meets-up-to-the-daily-volume example urban 40404 printed-a
 
 -- ---- 8 lanes at 75,000
 -- whether an answer has no number, and letter number n or a better one
-met : DailyAnswer → ℕ → Bool
+met : Result DailyGrade Refusal → ℕ → Bool
 met a n = eqb (refusal_number a) 0 && leb (letter_in a) n
 
-met-iff : (a : DailyAnswer) (n : ℕ) → T (met a n) ↔ ((refusal_number a ≡ 0) × (letter_in a ≤ n))
+met-iff : (a : Result DailyGrade Refusal) (n : ℕ) → T (met a n) ↔ ((refusal_number a ≡ 0) × (letter_in a ≤ n))
 unfolding met
-met-iff a n = (
-  λ t. (
-    eqb→eq (refusal_number a) 0 (and-left (eqb (refusal_number a) 0) (leb (letter_in a) n) t),
-    leb→le (letter_in a) n (and-right (eqb (refusal_number a) 0) (leb (letter_in a) n) t),
-  ),
-  λ m. rw m.0 (le→leb (letter_in a) n m.1),
-)
+met-iff a n = (λ t. search rules, λ m. search rules)
 
 -- a daily service volume: it meets the letter, and one more does not
 volume-is : (shares : Shares) (n daily : ℕ) → AcceptedTraffic eight_lanes shares 0 → T (leb 1 n) → T (leb n 5)
@@ -156,6 +144,7 @@ worked-out : (letters_at eight_lanes (shares_of 1000 1000) (19200 ∷ 19201 ∷ 
 unfolding div_up uncapped_by free_flow_speed_of weather_unfit road_refusals load_refusals field_refusals adjusted_speed speed_refusals refusals capacity
     breakpoint adjusted_capacity adjusted_breakpoint curve_under curve_of heavy_factor_of flow_rate_of fall_share_by speed shown_speed density
     shown_density density_limit density_letter letter_at performance measures graded shares_unfit traffic_refusals hourly_demand ends_at met ends
+    in_order refusal_of
 worked-out = (
   refl,
   refl,

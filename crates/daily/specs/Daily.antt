@@ -10,25 +10,27 @@
 --   hourly_case case shares daily  the case with that demand in the place of its own
 --   daily_volume case shares n     the daily service volume of letter number n
 --   daily_volumes case shares      those of A to E
---   with_volumes a volumes         the engine's answer with daily service volumes behind it
---   daily_answer case shares daily   the answer to a case, or the number of the first of 20, 21 and the engine's refusals
+--   daily_refusals case shares daily   20, 21 and the engine's refusals
+--   daily_grade case shares daily  the engine's grade with daily service volumes behind it
+--   daily_answer case shares daily   that grade, or the first of 20, 21 and the engine's refusals
 --   figure_count                   how many numbers an answer has
---   refusal_number a               the number of the refusal, 0 where there is none
 --   values a                       the eleven figures of the engine's answer, then the daily service volumes A to E; of a refusal no value
 -- Assumes nothing.
-use Rattle.std.specs.Prelude.{ℕ, ◌*◌, ◌≤◌, ◌≡◌, Bool, ◌||◌, List, [], ◌∷◌, ◌++◌, ltb}
+use Rattle.std.specs.Prelude.{ℕ, ◌*◌, ◌≤◌, ◌≡◌, Bool, ◌||◌, List, [], ◌∷◌, ◌++◌, ltb, Result, Ok, Err}
 use Rattle.numbers.specs.Division.{div_up}
 use Rattle.numbers.specs.Search.{greatest}
-use Rattle.checks.specs.Refusals.{Refusal, refuses, first_refusal, unless_refused, outside}
+use Rattle.checks.specs.declared.Refusal.{Refusal}
+use Rattle.checks.specs.Refusals.{Refusal as Condition, refuses, first_refusal, outside}
+use Rattle.checks.specs.Numbers.{ok_unless}
 use Rattle.road.specs.declared.Case.{Case}
 use Rattle.road.specs.Cases.{with_demand}
+use Rattle.method.specs.Refusals.{refusals}
 use Rattle.answer.specs.declared.evaluate.Volumes.{Volumes}
-use Rattle.answer.specs.declared.evaluate.Answer.{Answer}
 use Rattle.answer.specs.Volumes.{meets}
 use Rattle.answer.specs.Answers as answers
-use Rattle.answer.specs.Answers.{answer_to}
+use Rattle.answer.specs.Answers.{graded}
 use Rattle.daily.specs.declared.Shares.{Shares}
-use Rattle.daily.specs.declared.DailyAnswer.{DailyAnswer}
+use Rattle.daily.specs.declared.DailyGrade.{DailyGrade}
 
 -- "daily traffic above 4,000,000,000"
 abbrev pub greatest_daily_traffic : ℕ
@@ -46,7 +48,7 @@ unfoldable pub shares_unfit : Shares → Bool
 shares_unfit shares = outside 1 1000 shares.peak || outside 1 1000 shares.direction
 
 -- "20 .. before 1; 21 .. right after 20"
-unfoldable pub traffic_refusals : Shares → ℕ → List Refusal
+unfoldable pub traffic_refusals : Shares → ℕ → List Condition
 traffic_refusals shares daily = refuses 20 (shares_unfit shares) ∷ refuses 21 (ltb greatest_daily_traffic daily) ∷ []
 
 abbrev pub TrafficFits : Shares → ℕ → Type 0
@@ -75,26 +77,21 @@ daily_volumes case shares =
       e = daily_volume case shares 5;
     }
 
--- "It answers the engine's answer for that demand and the five daily service volumes"
-abbrev pub with_volumes : Answer → Volumes → DailyAnswer
-with_volumes (Answer.Graded grade) volumes = DailyAnswer.Graded grade volumes
-with_volumes (Answer.Refused number) volumes = DailyAnswer.Refused number
-
 -- "The hourly demand is then checked as V is", behind 20 and 21
-abbrev pub daily_answer : Case → Shares → ℕ → DailyAnswer
-daily_answer case shares daily =
-    unless_refused (first_refusal (traffic_refusals shares daily))
-    (with_volumes (answer_to (hourly_case case shares daily)) (daily_volumes case shares)) DailyAnswer.Refused
+abbrev pub daily_refusals : Case → Shares → ℕ → List Condition
+daily_refusals case shares daily = traffic_refusals shares daily ++ refusals (hourly_case case shares daily)
+
+-- "It answers the engine's answer for that demand and the five daily service volumes"
+abbrev pub daily_grade : Case → Shares → ℕ → DailyGrade
+daily_grade case shares daily = record { grade = graded (hourly_case case shares daily); volumes = daily_volumes case shares }
+
+abbrev pub daily_answer : Case → Shares → ℕ → Result DailyGrade Refusal
+daily_answer case shares daily = ok_unless (first_refusal (daily_refusals case shares daily)) (daily_grade case shares daily)
 
 -- the eleven figures of the engine's answer and five daily service volumes
 abbrev pub figure_count : ℕ
 figure_count = 16
 
-abbrev pub refusal_number : DailyAnswer → ℕ
-refusal_number (DailyAnswer.Graded grade volumes) = 0
-refusal_number (DailyAnswer.Refused n) = n
-
-abbrev pub values : DailyAnswer → List ℕ
-values (DailyAnswer.Graded grade volumes) =
-    answers.values (Answer.Graded grade) ++ (volumes.a ∷ volumes.b ∷ volumes.c ∷ volumes.d ∷ volumes.e ∷ [])
-values (DailyAnswer.Refused n) = []
+abbrev pub values : Result DailyGrade Refusal → List ℕ
+values (Ok d) = answers.values (Ok d.grade) ++ (d.volumes.a ∷ d.volumes.b ∷ d.volumes.c ∷ d.volumes.d ∷ d.volumes.e ∷ [])
+values (Err r) = []

@@ -12,7 +12,9 @@
 --   NoTrafficMeetsA  the printed road meets A with no traffic
 --   hourly_instances, refusal_instances, daily_instances   what is worked out, and what is to be shown
 -- Assumes nothing.
-use Rattle.std.specs.Prelude.{List, [], ◌∷◌, ◌++◌, map, ℕ, suc}
+use Rattle.std.specs.Prelude.{List, [], ◌∷◌, ◌++◌, map, ℕ, suc, Result}
+use Rattle.checks.specs.declared.Refusal.{Refusal}
+use Rattle.checks.specs.Numbers.{refusal_number}
 use Rattle.checks.specs.Figures.{Figure, figure}
 use Rattle.curve.specs.declared.kind.Kind.TheVariants as Kind
 use Rattle.curve.specs.Weather.{clear}
@@ -24,8 +26,8 @@ use Rattle.method.specs.Boundary.{example, given, two_lanes, refused_by_all}
 use Rattle.answer.specs.Boundary.{example_in_snow, refused_by19}
 use Rattle.answer.specs.Instances.{multilane_with}
 use Rattle.daily.specs.declared.Shares.{Shares}
-use Rattle.daily.specs.declared.DailyAnswer.{DailyAnswer}
-use Rattle.daily.specs.Daily.{shares_of, hourly_demand, daily_answer, refusal_number, values}
+use Rattle.daily.specs.declared.DailyGrade.{DailyGrade}
+use Rattle.daily.specs.Daily.{shares_of, hourly_demand, daily_answer, values}
 use Rattle.daily.specs.Promises.{letter_in, daily_volume_in, MeetsByDay}
 
 abbrev pub urban : Shares
@@ -43,13 +45,13 @@ narrow = two_lanes (given Kind.Freeway 75000 99) 0
 abbrev pub peaked : Case
 peaked = loaded (given Kind.Freeway 75000 120) 2 1000000 1 0 Terrain.Level clear
 
-abbrev pub told : DailyAnswer → List ℕ
+abbrev pub told : Result DailyGrade Refusal → List ℕ
 told a = refusal_number a ∷ values a
 
 abbrev pub letters_at : Case → Shares → List ℕ → List ℕ
 letters_at case shares dailies = map (λ daily. letter_in (daily_answer case shares daily)) dailies
 
-abbrev pub volumes_in : DailyAnswer → List ℕ
+abbrev pub volumes_in : Result DailyGrade Refusal → List ℕ
 volumes_in a = map (daily_volume_in a) (1 ∷ 2 ∷ 3 ∷ 4 ∷ 5 ∷ [])
 
 abbrev pub hour_figures : List ℕ

@@ -12,26 +12,28 @@
 --   RefusedInOrder                the refusals as one list: 20, 21, and those of the case with the hourly demand
 --   RefusedExactly                20 exactly by a share out of range, 21 exactly by the traffic, else what the engine says
 -- Assumes nothing.
-use Rattle.std.specs.Prelude.{◌≡◌, ◌↔◌, ◌++◌, map, ℕ, ◌+◌, ◌*◌, ◌/◌, ◌≤◌, ◌<◌, min, length, drop, get_or}
+use Rattle.std.specs.Prelude.{◌≡◌, ◌↔◌, ◌++◌, map, ℕ, ◌+◌, ◌*◌, ◌/◌, ◌≤◌, ◌<◌, min, length, drop, get_or, Result}
+use Rattle.checks.specs.declared.Refusal.{Refusal}
 use Rattle.checks.specs.Refusals.{first_refusal}
+use Rattle.checks.specs.Numbers.{refusal_number}
 use Rattle.road.specs.declared.Case.{Case}
 use Rattle.road.specs.Cases.{with_demand}
 use Rattle.method.specs.Refusals.{refusals}
 use Rattle.answer.specs.Answers as answers
 use Rattle.answer.specs.Answers.{answer_to}
 use Rattle.daily.specs.declared.Shares.{Shares}
-use Rattle.daily.specs.declared.DailyAnswer.{DailyAnswer}
+use Rattle.daily.specs.declared.DailyGrade.{DailyGrade}
 use Rattle.daily.specs.Daily.{greatest_daily_traffic, SharesInRange, traffic_refusals, hourly_demand, daily_answer}
-use Rattle.daily.specs.Daily.{figure_count, refusal_number, values}
+use Rattle.daily.specs.Daily.{figure_count, values}
 
 abbrev pub AcceptedTraffic : Case → Shares → ℕ → Type 0
 AcceptedTraffic case shares daily = refusal_number (daily_answer case shares daily) ≡ 0
 
 -- of the sixteen figures the first is the letter, and the last five are the daily service volumes A to E
-abbrev pub letter_in : DailyAnswer → ℕ
+abbrev pub letter_in : Result DailyGrade Refusal → ℕ
 letter_in answer = get_or (values answer) 0 0
 
-abbrev pub daily_volume_in : DailyAnswer → ℕ → ℕ
+abbrev pub daily_volume_in : Result DailyGrade Refusal → ℕ → ℕ
 daily_volume_in answer n = get_or (values answer) (10 + n) 0
 
 abbrev pub MeetsByDay : Case → Shares → ℕ → ℕ → Type 0
@@ -85,4 +87,4 @@ RefusedExactly =
     ((number ≡ 20) ↔ (SharesInRange shares → ⊥))
     × ((number ≡ 21) ↔ (SharesInRange shares × (greatest_daily_traffic < daily)))
     × (SharesInRange shares → daily ≤ greatest_daily_traffic
-    → number ≡ answers.refusal_number (answer_to (with_demand case (hourly_demand shares daily))))
+    → number ≡ refusal_number (answer_to (with_demand case (hourly_demand shares daily))))

@@ -3,17 +3,12 @@
 --   begun, answered-one, stopped   at the start; one line more; at the end
 --   last-none, last-one  what is left is empty, or one line
 -- Assumes nothing.
-use mathlib.Core.Path.{◌≡◌, refl, sym, ap, ◌∙◌}
-use mathlib.Core.List.{List, [], ◌∷◌, ◌++◌, flat_map, append_assoc, append-nil}
-use Prim.Native.Nat.{ℕ, suc, ◌+◌, ◌-◌, ◌≤◌, ◌<◌}
-use native.Mathlib.Omega.{arith}
-use lib.ListN.{length, take, drop, length-drop}
-use lib.Seq.{drop-drop, length-take-le}
-use borrow.Author.Tests.{ne_eqb}
+use Rattle.std.proofs.Common.{◌≡◌, ℕ, suc, ◌+◌, ◌-◌, ◌≤◌, ◌<◌, List, [], ◌∷◌, ◌++◌, length, take, drop, refl, sym, ap, ◌∙◌, append_assoc, append-nil, length-drop, length-take-le, drop-drop, ne_eqb, arith}
+use mathlib.Core.List.{flat_map}
 use Rattle.text.specs.Bytes.{newline}
 use Rattle.text.specs.Parts.{count_before}
 use Rattle.text.specs.Buffer.{Wrote}
-use Rattle.text.proofs.BufferLaws.{then, none-written}
+use Rattle.text.proofs.BufferLaws.{nothing, then}
 use Rattle.stream.specs.Stream.{LineTexts, texts, last_line, lines_of}
 use Rattle.stream.specs.Turns.{answered, size}
 use Rattle.stream.proofs.StreamLaws.{texts-append, size-append, lines_of-last, next-line}
@@ -32,7 +27,7 @@ unfolding flat_map texts size
 begun t block old = record {
   done = [];
   all = ap (λ (r : ℕ). answered t r block) (omega arith);
-  wrote = record { content = sym (none-written 0 old); ends = refl };
+  wrote = nothing;
   reads = refl;
   within = omega arith;
   room = omega arith;
@@ -79,7 +74,7 @@ module _ (t : LineTexts) (block old mid : List ℕ) (p w e : ℕ) (a : Answering
 module _ (t : LineTexts) (held : List ℕ) (h : count_before newline held ≡ length held) where
   pub last-none : (old : List ℕ) → length held ≡ 0 → Wrote (texts t (lines_of held)) 0 old old 0
   unfolding flat_map texts last_line
-  last-none old z = rw (lines_of-last held h, z) (record { content = sym (none-written 0 old); ends = refl })
+  last-none old z = rw (lines_of-last held h, z) nothing
 
   pub last-one : (length held ≡ 0 → ⊥) → texts t (lines_of held) ≡ t.text held
   unfolding last_line

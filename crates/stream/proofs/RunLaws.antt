@@ -1,16 +1,10 @@
 -- Runs over an input in pieces (specs/Runs).
 --   any-pieces, some-run   the theorem, and that there is a run for any pieces
 -- Assumes nothing.
-use mathlib.Core.Path.{◌≡◌, sym, ap, ◌∙◌}
-use mathlib.Core.List.{List, [], ◌∷◌, ◌++◌, append_assoc, append-nil}
-use mathlib.Core.Logic.{⊎_elim}
-use Prim.Native.Nat.{ℕ, zero, suc, ◌≤◌, ◌<◌}
-use native.Mathlib.Nat.{eq-or-lt_of_le}
-use native.Mathlib.Omega.{arith}
-use lib.ListN.{length, drop, length-drop}
+use Rattle.std.proofs.Common.{◌≡◌, ℕ, zero, suc, ◌≤◌, ◌<◌, List, [], ◌∷◌, ◌++◌, length, drop, sym, ap, ◌∙◌, ⊎_elim, append_assoc, append-nil, length-drop, arith}
 use Rattle.text.specs.Bytes.{newline}
 use Rattle.text.specs.Parts.{count_before}
-use Rattle.text.proofs.PartsLaws.{count_before-le}
+use Rattle.text.proofs.PartsLaws.{count_before-le, count_before-cases}
 use Rattle.stream.specs.Stream.{LineTexts, texts, output_of}
 use Rattle.stream.specs.Turns.{answered, size, carried}
 use Rattle.stream.specs.Runs.{Run, feed, turn, end, joined_pieces, TooLongAlike, AnyPieces, SomeRun}
@@ -44,7 +38,7 @@ module _ (t : LineTexts) (room : ℕ) (fits : t.longest_text ≤ room) where
   ending : (k : ℕ) (held : List ℕ) → length held ≤ k → (out : List ℕ) × Run t room held [] out
   ending zero held h = (_, end held (omega (arith, count_before-le newline held)))
   ending (suc k) held h = ⊎_elim (λ e. (_, end held e))
-      (λ l. more (ending k (carried t room held) (omega (arith, carried-less held l)))) (eq-or-lt_of_le (count_before-le newline held))
+      (λ l. more (ending k (carried t room held) (omega (arith, carried-less held l)))) (count_before-cases newline held)
     where
       more : (out : List ℕ) × Run t room (carried t room held) [] out → (out : List ℕ) × Run t room held [] out
       more (out, r) = (_, turn held [] out r)

@@ -6,22 +6,15 @@
 --   lines_of-last where no newline is held, the lines are the last one
 --   nothing-left, carried-newline   where there is room and nothing is printed, no whole line is left, and none is carried over
 -- Assumes nothing.
-use mathlib.Core.Path.{◌≡◌, refl, sym, ap, ◌∙◌}
-use mathlib.Core.Bool.{Bool, true, false, cond}
-use mathlib.Core.Logic.{⊎_elim}
-use mathlib.Core.List.{List, [], ◌∷◌, ◌++◌, flat_map, append_assoc}
-use Prim.Native.Nat.{ℕ, zero, suc, ◌+◌, ◌-◌, ◌≤◌, ◌<◌}
-use native.Mathlib.Nat.{eq-or-lt_of_le}
+use Rattle.std.proofs.Common.{◌≡◌, ℕ, zero, suc, ◌+◌, ◌-◌, ◌≤◌, ◌<◌, List, [], ◌∷◌, ◌++◌, length, take, drop, refl, sym, ap, ◌∙◌, ⊎_elim, append_assoc, length-append, length-drop, length-take-le, drop-drop, take_all, lt-ltb, le-ltb, ne_eqb, arith}
+use Rattle.std.proofs.lemmas.Bool.Decides.{nat_tests}
+use Rattle.std.proofs.lemmas.List.{take-append-le, drop-append-le}
+use mathlib.Core.List.{flat_map}
 use native.Mathlib.Decide.{dec_le}
-use native.Mathlib.Omega.{arith}
-use lib.Dec.{eqb}
-use lib.ListN.{length, take, drop, length-append, length-drop}
-use lib.Seq.{drop-drop, length-take-le, take-append-le, drop-append-le, take_all}
-use borrow.Author.Tests.{lt-ltb, le-ltb, ne_eqb}
 use Rattle.numbers.proofs.RowsLaws.{rows-append}
 use Rattle.text.specs.Bytes.{newline}
 use Rattle.text.specs.Parts.{parts, count_before, on_first}
-use Rattle.text.proofs.PartsLaws.{count_before-le, parts-one, parts-more}
+use Rattle.text.proofs.PartsLaws.{count_before-le, count_before-cases, parts-one, parts-more, parts-pos}
 use Rattle.stream.specs.Stream.{LineTexts, texts, last_line, without_empty_last, lines_of, output_of}
 use Rattle.stream.specs.Turns.{ended_parts, fitting, answered, size, cut_off, carried}
 use Rattle.stream.specs.Runs.{TooLongAlike}
@@ -33,17 +26,16 @@ first_line bs = take (count_before newline bs) bs
 abbrev pub after_first : List ℕ → List ℕ
 after_first bs = drop (suc (count_before newline bs)) bs
 
--- a line put before parted bytes: it is ended, since at least one part follows
-ended_parts-cons : (l bs : List ℕ) → ended_parts (l ∷ parts newline bs) ≡ l ∷ ended_parts (parts newline bs)
+-- a line before others: it is ended, and kept even where it is empty
+ended_parts-cons : (l : List ℕ) (ps : List (List ℕ)) → 0 < length ps → ended_parts (l ∷ ps) ≡ l ∷ ended_parts ps
 unfolding ended_parts
-ended_parts-cons l bs = ⊎_elim (λ e. rw (parts-one newline bs e)) (λ h. rw (parts-more newline bs h))
-    (eq-or-lt_of_le (count_before-le newline bs))
+ended_parts-cons l [] h = absurd (omega arith)
+ended_parts-cons l (p ∷ ps) h = refl
 
--- and it is not the last part, so it is kept even where it is empty
-without_empty_last-cons : (l bs : List ℕ) → without_empty_last (l ∷ parts newline bs) ≡ l ∷ without_empty_last (parts newline bs)
+without_empty_last-cons : (l : List ℕ) (ps : List (List ℕ)) → 0 < length ps → without_empty_last (l ∷ ps) ≡ l ∷ without_empty_last ps
 unfolding without_empty_last
-without_empty_last-cons l bs = ⊎_elim (λ e. rw (parts-one newline bs e)) (λ h. rw (parts-more newline bs h))
-    (eq-or-lt_of_le (count_before-le newline bs))
+without_empty_last-cons l [] h = absurd (omega arith)
+without_empty_last-cons l (p ∷ ps) h = refl
 
 -- sizes add up
 pub size-append : (a b : List (List ℕ)) → size (a ++ b) ≡ size a + size b
@@ -55,13 +47,7 @@ size-append (l ∷ a) b = omega (arith, size-append a b)
 count_before-append : (a f : List ℕ) → count_before newline a < length a → count_before newline (a ++ f) ≡ count_before newline a
 unfolding count_before
 count_before-append [] f h = absurd (omega arith)
-count_before-append (b ∷ a) f h = go (eqb b newline) h (λ k. count_before-append a f k)
-  where
-    go : (v : Bool) → cond v 0 (suc (count_before newline a)) < suc (length a)
-        → (count_before newline a < length a → count_before newline (a ++ f) ≡ count_before newline a)
-        → cond v 0 (suc (count_before newline (a ++ f))) ≡ cond v 0 (suc (count_before newline a))
-    go true h r = refl
-    go false h r = ap suc (r (omega arith))
+count_before-append (b ∷ a) f h = grind (arith, nat_tests, count_before-append a f)
 
 -- ---- bytes with no newline
 -- what is taken of bytes without a newline has none
@@ -69,26 +55,14 @@ no-newline : (k : ℕ) (r : List ℕ) → count_before newline r ≡ length r �
 unfolding count_before
 no-newline zero r h = refl
 no-newline (suc k) [] h = refl
-no-newline (suc k) (b ∷ r) h = go (eqb b newline) h (λ e. no-newline k r e)
-  where
-    go : (v : Bool) → cond v 0 (suc (count_before newline r)) ≡ suc (length r)
-        → (count_before newline r ≡ length r → count_before newline (take k r) ≡ length (take k r))
-        → cond v 0 (suc (count_before newline (take k r))) ≡ suc (length (take k r))
-    go true h f = absurd (omega arith)
-    go false h f = ap suc (f (omega arith))
+no-newline (suc k) (b ∷ r) h = grind (arith, nat_tests, no-newline k r)
 
 -- bytes without a newline go to the front of the first part of what follows
 parts-front : (r f p : List ℕ) (ps : List (List ℕ)) → count_before newline r ≡ length r → parts newline f ≡ p ∷ ps
     → parts newline (r ++ f) ≡ (r ++ p) ∷ ps
 unfolding parts count_before on_first
 parts-front [] f p ps h e = e
-parts-front (b ∷ r) f p ps h e = go (eqb b newline) h (λ k. parts-front r f p ps k e)
-  where
-    go : (v : Bool) → cond v 0 (suc (count_before newline r)) ≡ suc (length r)
-        → (count_before newline r ≡ length r → parts newline (r ++ f) ≡ (r ++ p) ∷ ps)
-        → cond v ([] ∷ parts newline (r ++ f)) (on_first b (parts newline (r ++ f))) ≡ (b ∷ (r ++ p)) ∷ ps
-    go true h k = absurd (omega arith)
-    go false h k = ap (on_first b) (k (omega arith))
+parts-front (b ∷ r) f p ps h e = grind (arith, nat_tests, parts-front r f p ps)
 
 -- bytes without a newline are one part, and so the last line
 pub lines_of-last : (held : List ℕ) → count_before newline held ≡ length held → lines_of held ≡ last_line held
@@ -114,7 +88,7 @@ module _ (t : LineTexts) where
   pub next-line : (room : ℕ) (bs : List ℕ) → t.longest_text ≤ room → count_before newline bs < length bs
       → answered t room bs ≡ first_line bs ∷ answered t (room - length (t.text (first_line bs))) (after_first bs)
   unfolding answered fitting
-  next-line room bs h l = rw (parts-more newline bs l, ended_parts-cons (first_line bs) (after_first bs), le-ltb room t.longest_text h)
+  next-line room bs h l = rw (parts-more newline bs l, ended_parts-cons (first_line bs) (parts newline (after_first bs)) (parts-pos newline (after_first bs)), le-ltb room t.longest_text h)
 
   -- texts of two stretches of lines
   pub texts-append : (a b : List (List ℕ)) → texts t (a ++ b) ≡ texts t a ++ texts t b
@@ -126,7 +100,7 @@ module _ (t : LineTexts) where
   unfolding flat_map texts lines_of output_of
   first-line bs h =
       ap (λ (ps : List (List ℕ)). texts t (without_empty_last ps)) (parts-more newline bs h)
-      ∙ ap (texts t) (without_empty_last-cons (first_line bs) (after_first bs))
+      ∙ ap (texts t) (without_empty_last-cons (first_line bs) (parts newline (after_first bs)) (parts-pos newline (after_first bs)))
 
   -- the same where more follows: the first newline is that of the first stretch
   first-of : (a f : List ℕ) → count_before newline a < length a
@@ -145,7 +119,7 @@ module _ (t : LineTexts) where
       ⊎_elim (λ e. rw (none-left room a e))
       (λ l. go l (dec_le t.longest_text room)
       (λ r. lines-law k r (after_first a) f (omega (arith, length-drop (suc (count_before newline a)) a))))
-      (eq-or-lt_of_le (count_before-le newline a))
+      (count_before-cases newline a)
     where
       go : count_before newline a < length a → Dec (t.longest_text ≤ room)
           → ((r : ℕ) → output_of t (after_first a ++ f) ≡ texts t (answered t r (after_first a)) ++ output_of t
@@ -176,26 +150,26 @@ module _ (t : LineTexts) where
     too-long : (r f : List ℕ) → count_before newline r ≡ length r → suc t.longest_line < length r
         → output_of t (r ++ f) ≡ output_of t (take (suc t.longest_line) r ++ f)
     unfolding lines_of output_of
-    too-long r f h l = ⊎_elim (λ e. by (parts-one newline f e)) (λ m. by (parts-more newline f m))
-        (eq-or-lt_of_le (count_before-le newline f))
+    too-long r f h l = by (parts newline f) refl (parts-pos newline f)
       where
-        by : {p : List ℕ} {ps : List (List ℕ)} → parts newline f ≡ p ∷ ps
-            → texts t (without_empty_last (parts newline (r ++ f)))
-            ≡ texts t (without_empty_last (parts newline (take (suc t.longest_line) r ++ f)))
-        by {p} {ps} e =
-            let cut : List ℕ = take (suc t.longest_line) r in
-            ap (λ (x : List (List ℕ)). texts t (without_empty_last x)) (parts-front r f p ps h e)
-            ∙ same-texts (r ++ p) (cut ++ p) ps (omega (arith, length-append r p))
-            (omega (arith, length-append (take (suc t.longest_line) r) p, length-take-le (suc t.longest_line) r (omega arith)))
-            ∙ sym (ap (λ (x : List (List ℕ)). texts t (without_empty_last x))
-            (parts-front cut f p ps (no-newline (suc t.longest_line) r h) e))
+        cut : List ℕ
+        cut = take (suc t.longest_line) r
+
+        by : (ps : List (List ℕ)) → parts newline f ≡ ps → 0 < length ps
+            → texts t (without_empty_last (parts newline (r ++ f))) ≡ texts t (without_empty_last (parts newline (cut ++ f)))
+        by [] e n = absurd (omega arith)
+        by (p ∷ ps) e n =
+            let long = length-take-le (suc t.longest_line) r in
+            rw (parts-front r f p ps h e, parts-front cut f p ps (no-newline (suc t.longest_line) r h) e)
+            (same-texts (r ++ p) (cut ++ p) ps (omega (arith, length-append r p))
+            (omega (arith, length-append cut p, long (omega arith))))
 
     -- what is carried over stands for the bytes that it is cut from: these are whole where a newline or few bytes are left
     cut-law : (r f : List ℕ) → output_of t (r ++ f) ≡ output_of t (cut_off (suc t.longest_line) r ++ f)
     unfolding cut_off
     cut-law r f =
         ⊎_elim (λ e. rw (le-ltb (count_before newline r) (length r) (omega arith)) (by e (dec_le (length r) (suc t.longest_line))))
-        (λ l. rw (lt-ltb (count_before newline r) (length r) l)) (eq-or-lt_of_le (count_before-le newline r))
+        (λ l. rw (lt-ltb (count_before newline r) (length r) l)) (count_before-cases newline r)
       where
         by : count_before newline r ≡ length r → Dec (length r ≤ suc t.longest_line)
             → output_of t (r ++ f) ≡ output_of t (take (suc t.longest_line) r ++ f)
@@ -216,7 +190,7 @@ module _ (t : LineTexts) where
   unfolding flat_map texts
   nothing-left room held some h e =
       ⊎_elim (λ s. s) (λ l. absurd (by l (ap (λ (ls : List (List ℕ)). length (texts t ls)) (next-line room held h l))))
-      (eq-or-lt_of_le (count_before-le newline held))
+      (count_before-cases newline held)
     where
       rest : List (List ℕ)
       rest = answered t (room - length (t.text (first_line held))) (after_first held)

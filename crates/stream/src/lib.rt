@@ -2,36 +2,23 @@
 //   carry_over   the bytes behind the answered lines, to the start of the buffer
 #![tactic(auto)]
 
-ghost use Rattle.std.specs.Prelude.{◌≡◌, ◌++◌, ◌+◌, ◌-◌, ◌≤◌, length, take, drop};
+ghost use Rattle.std.specs.Prelude.{◌≡◌, ◌++◌, ◌-◌, ◌≤◌, length, take, drop};
 ghost use Rattle.stream.specs.Turns.{cut_off};
 
 // How many bytes are carried over of some that follow the answered lines: of a line that is too long only `kept`.
+#[tactic(auto, using(crate::proofs::CarryLaws::length_cut_off))]
 fn carried_length(bytes: &[u8], kept: usize) -> usize
     ensures { result ≡ length (cut_off kept bytes.now) }
 {
-    let n = bytes.len();
-    if n <= kept {
-        return n;
-    }
-    if text::parts::find(bytes, 0, b'\n') < n {
-        return n;
-    }
-    kept
-}
-
-// Moves n bytes from `from` to the start.
-fn move_to_start(buffer: &mut [u8], from: usize, n: usize)
-    requires { from + n ≤ length buffer.old }
-    ensures { buffer.new ≡ take n (drop from buffer.old) ++ drop n buffer.old }
-{
-    let mut i = 0;
-    while i < n {
-        buffer[i] = buffer[from + i];
-        i += 1;
+    if bytes.len() <= kept || bytes.contains(&b'\n') {
+        bytes.len()
+    } else {
+        kept
     }
 }
 
 // Of the bytes held those from `from` on are carried over; of a line that is too long only `kept`. Answers how many they are.
+#[tactic(auto, using(crate::proofs::CarryLaws::length_cut_off))]
 pub fn carry_over(buffer: &mut [u8], from: usize, held: usize, kept: usize) -> usize
     requires { (from ≤ held) × (held ≤ length buffer.old) }
     ensures count { result ≡ length (cut_off kept (take (held - from) (drop from buffer.old))) }
@@ -39,6 +26,6 @@ pub fn carry_over(buffer: &mut [u8], from: usize, held: usize, kept: usize) -> u
         ≡ cut_off kept (take (held - from) (drop from buffer.old)) ++ drop result buffer.old }
 {
     let n = carried_length(&buffer[from..held], kept);
-    move_to_start(buffer, from, n);
+    buffer.copy_within(from..from + n, 0);
     n
 }

@@ -2,65 +2,51 @@
 --   length-written, none-written   a buffer keeps its length; no text leaves it as it was
 --   twice-written    one piece after another
 --   set-written, set-before   a byte at a place; a byte before text that was written behind its place
---   first-byte, then, then-byte    pieces written one after the other
+--   nothing, first-byte, then, then-byte    pieces written one after the other
 -- Assumes nothing.
-use mathlib.Core.Path.{◌≡◌, refl, sym, ap, ◌∙◌}
-use mathlib.Core.List.{List, [], ◌∷◌, ◌++◌, append_assoc}
-use Prim.Native.Nat.{ℕ, suc, ◌+◌, ◌≤◌, ◌<◌}
-use native.Mathlib.Nat.{add_assoc, add-zero}
-use native.Mathlib.Numerals.{add-one}
-use native.Mathlib.Omega.{arith}
-use lib.ListN.{length, take, drop, get_or, set, length-append, length-take, length-drop, take-append-drop}
-use lib.Seq.{drop-cons, take_at, drop_at, take-suc, drop-drop, set_at, length-take-le}
+use Rattle.std.proofs.Common.{◌≡◌, ℕ, suc, ◌+◌, ◌≤◌, ◌<◌, List, [], ◌∷◌, ◌++◌, length, set, take, get_or, refl, sym, ap, ◌∙◌, add-one, add-zero, append_assoc, length-append, length-take-le, arith}
+use Rattle.std.proofs.lemmas.Grind.{common_steps}
+use Rattle.std.proofs.lemmas.List.{set_split, set_at, take_more}
+use Rattle.std.proofs.Math.Seq.{paste}
+use Rattle.std.proofs.lemmas.List.Edits.{paste_all, paste-paste}
 use Rattle.text.specs.Buffer.{written, Wrote}
 
 pub length-written : (t : List ℕ) (at : ℕ) (old : List ℕ) → at + length t ≤ length old → length (written t at old) ≡ length old
 unfolding written
-length-written t at old h = simp (length-append, length-take, length-drop) (omega arith)
+length-written t at old h = grind (arith, common_steps)
 
 pub none-written : (at : ℕ) (old : List ℕ) → written [] at old ≡ old
 unfolding written
-none-written at old = rw (add-zero at) (take-append-drop at old)
+none-written at old = grind (arith, common_steps)
+
+-- the same in std's words
+pasted : (t : List ℕ) (at : ℕ) (old : List ℕ) → paste old at t (length t) ≡ written t at old
+unfolding written
+pasted t at old = paste_all old at t (length t) refl
 
 -- one piece after another
 pub twice-written : (s t : List ℕ) (at : ℕ) (old : List ℕ) → at + length s + length t ≤ length old
     → written t (at + length s) (written s at old) ≡ written (s ++ t) at old
-unfolding written
 twice-written s t at old h =
-    let n : length (take at old) ≡ at = length-take-le at old (omega arith) in
-    let a : take (at + length s) (take at old ++ (s ++ drop (at + length s) old)) ≡ take at old ++ s =
-    ap (take (at + length s)) (sym (append_assoc (take at old) s (drop (at + length s) old)))
-    ∙ take_at (take at old ++ s) (drop (at + length s) old) (at + length s)
-    (length-append (take at old) s ∙ ap (λ (x : ℕ). x + length s) n) in
-    let b : drop (at + length s + length t) (take at old ++ (s ++ drop (at + length s) old)) ≡ drop (at + length (s ++ t)) old =
-    ap (λ (l : List ℕ). drop (at + length s + length t) l) (sym (append_assoc (take at old) s (drop (at + length s) old)))
-    ∙ sym (drop-drop (length t) (at + length s) (((take at old ++ s) ++ drop (at + length s) old)))
-    ∙ ap (drop (length t))
-    (drop_at (take at old ++ s) (drop (at + length s) old) (at + length s) (length-append (take at old) s ∙ ap (λ (x : ℕ). x + length s) n))
-    ∙ drop-drop (length t) (at + length s) old
-    ∙ ap (λ (x : ℕ). drop x old) (add_assoc at (length s) (length t) ∙ ap (λ (x : ℕ). at + x) (sym (length-append s t))) in
-    rw (a, b) (append_assoc (take at old) s (t ++ drop (at + length (s ++ t)) old)
-    ∙ ap (λ (l : List ℕ). take at old ++ l) (sym (append_assoc s t (drop (at + length (s ++ t)) old))))
+    rw (← pasted s at old, ← pasted t (at + length s) (paste old at s (length s)), ← pasted (s ++ t) at old, length-append s t)
+    (paste-paste old at s t (length s) (length t) refl refl (omega arith))
 
 -- a byte
 pub set-written : (old : List ℕ) (at b : ℕ) → at < length old → set old at b ≡ written (b ∷ []) at old
 unfolding written
-set-written old at b h =
-    rw (add-one at)
-    (ap (λ (l : List ℕ). set l at b) (sym (take-append-drop at old) ∙ ap (λ (l : List ℕ). take at old ++ l) (drop-cons old at 0 h))
-    ∙ set_at (take at old) (get_or old at 0) (drop (suc at) old) b at (length-take-le at old (omega arith)))
+set-written old at b h = rw add-one (set_split old at b h)
 
 -- a byte before text that was written behind its place
 pub set-before : (b : ℕ) (s : List ℕ) (at : ℕ) (old : List ℕ) → at + 1 + length s ≤ length old
     → set (written s (at + 1) old) at b ≡ written (b ∷ s) at old
 unfolding written
 set-before b s at old h =
-    let rest : List ℕ = s ++ drop (at + 1 + length s) old in
+    let within : at < length old = omega arith in
     let e : at + suc (length s) ≡ at + 1 + length s = omega arith in
-    let t : take (at + 1) old ≡ take at old ++ (get_or old at 0 ∷ []) = ap (λ (x : ℕ). take x old) (add-one at)
-    ∙ take-suc old at 0 (omega arith) in
-    rw (e, t) (ap (λ (l : List ℕ). set l at b) (append_assoc (take at old) (get_or old at 0 ∷ []) rest)
-    ∙ set_at (take at old) (get_or old at 0) rest b at (length-take-le at old (omega arith)))
+    rw (e, take_more old at 0, append_assoc) (set_at (take at old) (get_or old at 0) _ b at (length-take-le at old (omega arith)))
+
+pub nothing : {at : ℕ} {old : List ℕ} → Wrote [] at old old at
+nothing {at} {old} = record { content = sym (none-written at old); ends = sym (add-zero at) }
 
 pub first-byte : (old : List ℕ) (at b : ℕ) → at < length old → Wrote (b ∷ []) at old (set old at b) (at + 1)
 first-byte old at b h = record { content = set-written old at b h; ends = refl }

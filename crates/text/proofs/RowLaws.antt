@@ -1,15 +1,12 @@
 -- Numbers and rows written into a buffer (specs/Decimal), over proofs/DigitLaws and proofs/BufferLaws.
---   Filling, nothing-filled, one-filled, digits-left, all-filled, number-written   digits written from the last to the first
+--   Filling, nothing-filled, one-filled, all-filled   digits written from the last to the first
 --   next-number, row-written       a turn of put_figures; a whole row
---   figures_text-next, figures_text-room, next-room, row_text-length, row_text-one   the room that figures and rows take
+--   figures_text-next, figures_text-room, next-room, row_text-length, row_text-one   the room that figures and rows take; room: what code asks of it
 --   figures_text-mono   smaller numbers take no more room
 -- Assumes nothing.
-use mathlib.Core.Path.{◌≡◌, sym, ap, ◌∙◌}
-use mathlib.Core.List.{List, [], ◌∷◌, ◌++◌, flat_map, append_assoc, append-nil}
-use Prim.Native.Nat.{ℕ, suc, ◌+◌, ◌-◌, ◌/◌, ◌%◌, ◌^◌, ◌≤◌, ◌<◌}
-use native.Mathlib.Nat.{add-zero}
-use native.Mathlib.Omega.{arith}
-use lib.ListN.{length, take, drop, get_or, set, length-append, take-append-drop}
+use Rattle.std.proofs.Common.{◌≡◌, ℕ, ◌+◌, ◌/◌, ◌%◌, ◌^◌, ◌≤◌, ◌<◌, List, [], ◌∷◌, ◌++◌, length, get_or, take, drop, set, sym, refl, ap, ◌∙◌, append_assoc, append-nil, arith, length-append, take-append-drop, length-set}
+use mathlib.Core.List.{flat_map}
+use Rattle.std.proofs.lemmas.List.{length_push}
 use Rattle.numbers.specs.Bounds.{AllAtMost}
 use Rattle.numbers.proofs.RowsLaws.{rows-append, rows-next}
 use Rattle.text.specs.Bytes.{tab}
@@ -20,58 +17,48 @@ use Rattle.text.proofs.BufferLaws.{none-written, set-before, first-byte, then, t
 
 -- ---- a number, from its last digit on
 -- the digits of n behind those of rest are written
-pub record Filling (n end : ℕ) (old new : List ℕ) (rest p : ℕ) : Type 0 where
+pub record Filling (n at : ℕ) (old new : List ℕ) (rest place : ℕ) : Type 0 where
   pub later : List ℕ
   pub all : decimal n ≡ decimal rest ++ later
-  pub place : p + length later ≡ end
-  pub content : new ≡ written later p old
+  pub ends : place ≡ at + length (decimal rest)
+  pub within : place ≤ at + length (decimal n)
+  pub content : new ≡ written later place old
 
-pub nothing-filled : (n end : ℕ) (old : List ℕ) → Filling n end old old n end
-nothing-filled n end old = record {
+pub nothing-filled : (n at : ℕ) (old : List ℕ) → Filling n at old old n (at + length (decimal n))
+nothing-filled n at old = record {
   later = [];
   all = sym (append-nil (decimal n));
-  place = add-zero end;
-  content = sym (none-written end old);
+  ends = refl;
+  within = omega arith;
+  content = sym (none-written _ old);
 }
 
-module _ (n end : ℕ) (old new : List ℕ) (rest p : ℕ) (f : Filling n end old new rest p) (room : end ≤ length old) where
-  -- one digit more, before those that are written
-  pub one-filled : (q : ℕ) → 10 ≤ rest → rest < 2 ^ 64 → p ≡ q + 1 → Filling n end old (set new q (48 + rest % 10)) (rest / 10) q
-  one-filled q h k e = record {
-    later = (48 + rest % 10) ∷ f.later;
-    all = f.all ∙ ap (λ (l : List ℕ). l ++ f.later) (decimal-more rest h k)
-        ∙ append_assoc (decimal (rest / 10)) ((48 + rest % 10) ∷ []) f.later;
-    place = omega (arith, f.place);
-    content = ap (λ (l : List ℕ). set l q (48 + rest % 10)) (f.content ∙ ap (λ (x : ℕ). written f.later x old) e)
-        ∙ set-before (48 + rest % 10) f.later q old (omega (arith, f.place));
-  }
+module _ {n at rest place : ℕ} {old new : List ℕ} (f : Filling n at old new rest place) (room : at + length (decimal n) ≤ length old) where
+  -- a digit before those that are written
+  before : (q digit : ℕ) → place ≡ q + 1 → set new q digit ≡ written (digit ∷ f.later) q old
+  before q digit e =
+      ap (λ x. set x q digit) (f.content ∙ ap (λ x. written f.later x old) e)
+      ∙ set-before digit f.later q old (omega (arith, f.ends, ap length f.all, length-append (decimal rest) f.later))
 
-  -- the digits of rest still have room
-  pub digits-left : length (decimal n) ≤ end → length (decimal rest) ≤ p
-  digits-left h = omega (arith, f.place, ap length f.all, length-append (decimal rest) f.later)
+  pub one-filled : (q : ℕ) → place ≡ q + 1 → 9 < rest → rest < 2 ^ 64 → Filling n at old (set new q (48 + rest % 10)) (rest / 10) q
+  one-filled q e h fits =
+      let digits : decimal rest ≡ decimal (rest / 10) ++ ((48 + rest % 10) ∷ []) = decimal-more rest h fits in
+      record {
+        later = (48 + rest % 10) ∷ f.later;
+        all = f.all ∙ ap (λ x. x ++ f.later) digits ∙ append_assoc (decimal (rest / 10)) ((48 + rest % 10) ∷ []) f.later;
+        ends = omega (arith, f.ends, ap length digits, length_push (decimal (rest / 10)) (48 + rest % 10));
+        within = omega (arith, f.within);
+        content = before q (48 + rest % 10) e;
+      }
 
-  pub all-filled : rest < 10 → (decimal n ≡ (48 + rest) ∷ drop 1 (decimal n))
-      × (new ≡ written (drop 1 (decimal n)) (end - length (drop 1 (decimal n))) old)
+  pub all-filled : rest < 10 → Wrote (decimal n) at old (set new at (48 + rest)) (at + length (decimal n))
   all-filled h =
-      let whole : decimal n ≡ (48 + rest) ∷ f.later = f.all ∙ ap (λ (l : List ℕ). l ++ f.later) (decimal-small rest h) in
-      let later : drop 1 (decimal n) ≡ f.later = ap (drop 1) whole in
-      let at : end - length f.later ≡ p = omega (arith, f.place) in
-      rw later (whole, rw at f.content)
-
--- the first digit, before the others
-pub number-written : (n at end first : ℕ) (old mid : List ℕ) → at + length (decimal n) ≤ length old → end ≡ at + length (decimal n)
-    → decimal n ≡ (48 + first) ∷ drop 1 (decimal n) → mid ≡ written (drop 1 (decimal n)) (end - length (drop 1 (decimal n))) old
-    → Wrote (decimal n) at old (set mid at (48 + first)) end
-number-written n at end first old mid room ends whole content =
-    let long : length (decimal n) ≡ suc (length (drop 1 (decimal n))) = ap length whole in
-    let behind : end - length (drop 1 (decimal n)) ≡ at + 1 = omega arith in
-    record {
-      content =
-          ap (λ (l : List ℕ). set l at (48 + first)) (content ∙ ap (λ (x : ℕ). written (drop 1 (decimal n)) x old) behind)
-          ∙ set-before (48 + first) (drop 1 (decimal n)) at old (omega arith)
-          ∙ ap (λ (l : List ℕ). written l at old) (sym whole);
-      ends = ends;
-    }
+      let digit : decimal rest ≡ (48 + rest) ∷ [] = decimal-small rest h in
+      let all : (48 + rest) ∷ f.later ≡ decimal n = sym (f.all ∙ ap (λ x. x ++ f.later) digit) in
+      record {
+        content = before at (48 + rest) (omega (arith, f.ends, ap length digit)) ∙ ap (λ x. written x at old) all;
+        ends = refl;
+      }
 
 -- ---- numbers after tabs
 pub figures_text-next : (ns : List ℕ) (i : ℕ) → i < length ns
@@ -103,21 +90,23 @@ next-room ns i h = omega (
   length-append (figures_text (take i ns)) (9 ∷ decimal (get_or ns i 0)),
 )
 
+-- the room that put_figures and put_row ask for
+pub ruleset room = (next-room, row_text-length, length-set)
+
 -- a turn: a tab, and the number
 pub next-number : {old out new : List ℕ} {at p e : ℕ} (ns : List ℕ) (i : ℕ) → i < length ns → at + length (figures_text ns) ≤ length old
     → Wrote (figures_text (take i ns)) at old out p → Wrote (decimal (get_or ns i 0)) (p + 1) (set out p 9) new e
     → Wrote (figures_text (take (i + 1) ns)) at old new e
 next-number {old} {out} {new} {at} {p} {e} ns i h room w v =
-    let r : length (figures_text (take i ns)) + 1 + length (decimal (get_or ns i 0)) ≤ length (figures_text ns) = next-room ns i h in
-    let t : length (figures_text (take i ns) ++ (9 ∷ [])) ≡ length (figures_text (take i ns)) + 1 =
-    length-append (figures_text (take i ns)) (9 ∷ []) in
+    let fits = next-room ns i h in
+    let tabbed = length_push (figures_text (take i ns)) 9 in
     rw (figures_text-next ns i h) (rw append_assoc at (then (then-byte 9 w (omega arith)) v (omega arith)))
 
 pub row-written : {old out : List ℕ} {at p : ℕ} (b : ℕ) (ns : List ℕ) → at + length (row_text b ns) ≤ length old
     → Wrote (figures_text ns) (at + 1) (set old at b) out p → Wrote (row_text b ns) at old (set out p 10) (p + 1)
 unfolding row_text
 row-written {old} {out} {at} {p} b ns room w =
-    let l : length (figures_text ns ++ (10 ∷ [])) ≡ length (figures_text ns) + 1 = length-append (figures_text ns) (10 ∷ []) in
+    let ended = length_push (figures_text ns) 10 in
     then-byte 10 (then (first-byte old at b (omega arith)) w (omega arith)) (omega arith)
 
 pub row_text-one : (b n : ℕ) → length (row_text b (n ∷ [])) ≤ 23

@@ -3,16 +3,12 @@
 ghost use Rattle.std.specs.Prelude.{◌+◌, ◌≤◌, length};
 ghost use Rattle.text.specs.Buffer.{Wrote};
 
+#[tactic(auto, unfolding(crate::specs::Buffer::written))]
 pub fn put_numbers(numbers: &[u64], out: &mut [u64], at: usize) -> usize
     requires { at + length numbers.now ≤ length out.old }
     ensures { Wrote numbers.now at out.old out.new result }
 {
-    let mut p = at;
-    let mut i = 0;
-    while i < numbers.len() {
-        out[p] = numbers[i];
-        p += 1;
-        i += 1;
-    }
-    p
+    let end = at + numbers.len();
+    out[at..end].copy_from_slice(numbers);
+    end
 }

@@ -9,12 +9,6 @@ pub fn find(bytes: &[u8], from: usize, b: u8) -> usize
     ensures value { result ≡ from + count_before b (drop from bytes.now) }
     ensures upper_bound { result ≤ length bytes.now }
 {
-    let mut i = from;
-    while i < bytes.len() {
-        if bytes[i] == b {
-            return i;
-        }
-        i += 1;
-    }
-    i
+    let rest = &bytes[from..];
+    from + rest.iter().position(|x| *x == b).unwrap_or(rest.len())
 }

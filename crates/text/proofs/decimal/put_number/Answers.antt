@@ -1,18 +1,16 @@
--- `text::decimal::put_number` meets its contract: the digits behind the first are written, and the first before them.
+-- `text::decimal::put_number` meets its contract: the digits behind those of the rest are written, and then its one digit.
 -- Assumes nothing.
-use mathlib.Core.Path.{ap}
-use native.Mathlib.Omega.{arith}
-use lib.ListN.{length}
-use Rattle.text.proofs.RowLaws.{number-written}
+use Rattle.std.proofs.Common.{arith}
+use Rattle.text.proofs.DigitLaws.{decimal_pos}
+use Rattle.text.proofs.RowLaws.{nothing-filled, one-filled, all-filled}
 use Rattle.text.proofs.decimal.put_number.Goals as goal
 
-pub bounds-out-at : goal.bounds-out-at
-bounds-out-at c =
-    let d = c.put_later_digits-first in
-    omega (arith, c.requires, d.auto.out, ap length d.ensures.upper_bound.1)
+pub loop-rest-init : goal.loop-rest-init
+loop-rest-init c = rw c.digit_count.ensures (nothing-filled _ _ _)
+
+pub loop-rest-preserved : goal.loop-rest-preserved
+loop-rest-preserved c =
+    one-filled c.loop-rest.invariant c.requires _ (omega (arith, decimal_pos c.loop-rest.rest, c.loop-rest.invariant.ends)) (omega arith) (omega arith)
 
 pub returns : goal.returns
-returns c =
-    let a = c.args in let d = c.put_later_digits-first in
-    number-written a.n a.at _ d.result a.out.now _ c.requires
-    (omega (arith, c.digit_count.ensures)) d.ensures.upper_bound.1 d.ensures.out_after
+returns c = rw c.digit_count.ensures (all-filled c.loop-rest.invariant c.requires (omega arith))

@@ -1,34 +1,16 @@
--- `text::parts::find` meets its contract: the bytes passed are not the one sought, so the count from the start and the count from here
--- differ by them.
+-- `text::parts::find` meets its contract: what std says of `position`.
 -- Assumes nothing.
-use mathlib.Core.Path.{refl, sym, ◌∙◌}
-use native.Mathlib.Omega.{arith}
-use Rattle.text.proofs.PartsLaws.{count_before-hit, count_before-miss, count_before-end}
-use borrow.Author.Rules.{rules}
+use Rattle.std.proofs.Common.{◌≡◌, drop, eqb, position, rules, tests}
+use Rattle.std.proofs.lemmas.Iterator.{YieldsList-from_slice}
+use Rattle.std.proofs.lemmas.Iterator.Search.{position_from_yields_List}
+use Rattle.std.proofs.lemmas.List.{take_rest}
+use Rattle.text.proofs.PartsLaws.{found}
 use Rattle.text.proofs.parts.find.Goals as goal
 
-pub loop-i-init : goal.loop-i-init
-loop-i-init c =
-    (search rules, refl)
-
-pub returns-then-bytes-i : goal.returns-then-bytes-i
-returns-then-bytes-i c =
-    record {
-      value = sym (c.loop-i.invariant.1 ∙ count_before-hit c.args.b c.args.bytes.now c.loop-i.i (omega arith)
-          c.if-bytes-i.true);
-      upper_bound = search rules;
-    }
-
-pub loop-i-preserved : goal.loop-i-preserved
-loop-i-preserved c = (
-  search rules,
-  c.loop-i.invariant.1 ∙ count_before-miss c.args.b c.args.bytes.now c.loop-i.i
-      (omega arith) c.if-bytes-i.false,
-)
-
-pub returns : goal.returns
-returns c =
-    record {
-      value = sym (c.loop-i.invariant.1 ∙ count_before-end c.args.b c.args.bytes.now c.loop-i.i (omega arith));
-      upper_bound = search rules;
-    }
+pub returns-clause-value : goal.returns-clause-value
+returns-clause-value c =
+    let rest = take_rest c.args.bytes.now c.args.from in
+    let place : c.position.result ≡ position (λ x. eqb x c.args.b) (drop c.args.from c.args.bytes.now) =
+    position_from_yields_List (λ x. eqb x c.args.b) _ _ _ c.position.ensures.ran (YieldsList-from_slice _ (cc rest))
+    (λ x b q k. search (rules, tests)) in
+    cc (rest, found c.args.b (drop c.args.from c.args.bytes.now))
