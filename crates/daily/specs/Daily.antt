@@ -20,7 +20,7 @@ use Rattle.std.specs.Prelude.{ℕ, ◌*◌, ◌≤◌, ◌≡◌, Bool, ◌||◌
 use Rattle.numbers.specs.Division.{div_up}
 use Rattle.numbers.specs.Search.{greatest}
 use Rattle.checks.specs.declared.Refusal.{Refusal}
-use Rattle.checks.specs.Refusals.{Refusal as Condition, refuses, first_refusal, outside}
+use Rattle.checks.specs.Refusals.{Condition, refuses, first_refusal, outside}
 use Rattle.checks.specs.Numbers.{ok_unless}
 use Rattle.road.specs.declared.Case.{Case}
 use Rattle.road.specs.Cases.{with_demand}
