@@ -2,12 +2,9 @@
 --   every_combination-at, every_combination-of   every combination within the ends passes; the converse
 --   some_combination-of, some_combination-none   a combination within the ends that passes; none that does
 -- Assumes nothing.
-use mathlib.Core.Bool.{Bool, not, ◌||◌}
-use Prim.Native.Nat.{ℕ, ◌≤◌}
-use native.Mathlib.Omega.{arith}
-use native.Mathlib.Decide.{dec_le}
-use borrow.Author.Tests.{lt-ltb, le-ltb}
-use lib.Dec.{T, T_not, not_T, ltb}
+use Rattle.std.proofs.Common.{Bool, not, ◌||◌, ℕ, ◌≤◌, arith, lt-ltb, le-ltb, T, T_not, ltb}
+use Rattle.std.proofs.Math.Decide.{dec_le}
+use Rattle.std.proofs.Math.Dec.{not_T}
 use Rattle.numbers.proofs.TableLaws.{every_up_to-at, every_up_to-of}
 use Rattle.forecast.specs.declared.Range.{Range}
 use Rattle.forecast.specs.declared.Forecast.{Forecast}

@@ -2,10 +2,11 @@
 --   computed-shown   the best and the worst letter by their definitions
 --   refusals-shown   the order of the refusals
 -- Assumes nothing.
-use mathlib.Core.Path.{refl}
+use Rattle.std.proofs.Common.{refl}
 use Rattle.numbers.specs.Division.{div_up}
 use Rattle.numbers.specs.Search.{least_from, least}
 use Rattle.checks.specs.Figures.{Shown}
+use Rattle.checks.specs.Numbers.{in_order, refusal_of}
 use Rattle.curve.specs.Curves.{capacity, breakpoint}
 use Rattle.curve.specs.Weather.{adjusted_speed, adjusted_capacity, adjusted_breakpoint, curve_under}
 use Rattle.curve.specs.Speed.{fall_share_by, speed, shown_speed}
@@ -29,6 +30,6 @@ unfolding div_up least_from least uncapped_by free_flow_speed_of weather_unfit r
 computed-shown = (refl, (refl, (refl, (refl, tt))))
 
 pub refusals-shown : Shown refusal_instances
-unfolding uncapped_by free_flow_speed_of weather_unfit road_refusals load_refusals adjusted_speed speed_refusals range_refusals forecast_refusals
-    refusal_instances
+unfolding in_order refusal_of uncapped_by free_flow_speed_of weather_unfit road_refusals load_refusals adjusted_speed speed_refusals range_refusals
+    forecast_refusals refusal_instances
 refusals-shown = (refl, (refl, (refl, (refl, (refl, (refl, (refl, (refl, (refl, tt)))))))))

@@ -1,8 +1,12 @@
--- Forecasts (specs/Forecasts, specs/Ends): what is refused, and the letters at the ends. NoBetterUnderMoreLoad, demand 3's part 1, carries
+-- Forecasts (specs/Forecasts): what is refused, and the letters at the ends. NoBetterUnderMoreLoad, demand 3's part 1, carries
 -- ends-between, by its name.
 --   letter-accepted     the letter in the answer to an accepted case, by what the case gets
 --   best_case, worst_case   the case with the combinations at the two ends
 --   at-best, at-worst   what holds of every combination within the ends holds there
+--   end_outcomes        the letters at the two ends, each with its combination
+--   last_refusals case   19 and 10
+--   plain-joined, forecast-joined   the lists of a case and of a forecast from their front: 1 to 6; 7 to 9, or 22 and 7 to 9 of both ends;
+--                       19 and 10
 --   forecast-number     the number of an answer is that of its list
 --   number-le           it is at most 22
 --   refused-values      an answer with a number above 0 has no values
@@ -10,32 +14,30 @@
 --   best-accepted, worst-accepted   those at the ends too
 --   ends-between        the letter of a combination within the ends is between those at the ends
 --   answer-accepted     these are the best and the worst, so that they are answered
---   found-accepted, ends-accepted, answer-refused   what is answered by what the check found
+--   refused-section, refused-range, last-asked, refused-weather   which of the code's checks decides, in their order
+--   best-on-curve, worst-on-curve, answer-passed   where none of them refuses: the curve of the case is that of the combinations at the
+--                       two ends too, and the letters there are answered
+--   asked_in_turn       the exits of the code's checks, and its calls behind them, for tactics
 -- Assumes nothing.
-use mathlib.Core.Path.{◌≡◌, refl, sym, ap, ◌∙◌}
-use mathlib.Core.Bool.{Bool}
-use mathlib.Core.Logic.{◌↔◌, inr}
-use mathlib.Core.List.{[], ◌++◌}
-use Prim.Native.Nat.{ℕ, ◌≤◌, ◌<◌}
-use native.Mathlib.Omega.{arith}
-use native.Mathlib.Nat.{le_refl, le_trans}
-use lib.Dec.{T}
+use Rattle.std.proofs.Common.{◌≡◌, refl, sym, ap, ◌∙◌, Bool, ◌↔◌, inr, List, [], ◌++◌, ℕ, ◌≤◌, ◌<◌, arith, le_refl, le_trans, T, Result, Ok, Err}
 use Rattle.numbers.proofs.SearchLaws.{least-eq}
-use Rattle.checks.specs.Refusals.{first_refusal, found}
-use Rattle.checks.proofs.RefusalLaws.{first_refusal-none, first_refusal-le, unless_refused-none, unless_refused-some, unless_refused-number}
+use Rattle.checks.specs.declared.Refusal.{Refusal}
+use Rattle.checks.specs.Refusals.{Condition, first_refusal}
+use Rattle.checks.specs.Numbers.{number, refusal_number}
+use Rattle.checks.proofs.RefusalLaws.{first_refusal-none, first_refusal-le}
+use Rattle.checks.proofs.NumberLaws.{number-above, refusal_of-number, ok_unless-none, ok_unless-found, refusal_number-ok_unless}
+use Rattle.checks.proofs.NumberLaws.{first_refusal-err, first_refusal-ok}
 use Rattle.curve.specs.declared.Curve.{Curve}
 use Rattle.curve.specs.declared.service.Letter.{Letter}
 use Rattle.curve.specs.Service.{letter_number}
 use Rattle.curve.proofs.ServiceLaws.{letter_number-le}
 use Rattle.road.specs.declared.Case.{Case}
-use Rattle.road.specs.Refusals.{road_refusals, load_refusals, weather_refusals, field_refusals, SectionFits}
-use Rattle.road.proofs.RefusalLaws.{loads-exactly, load-numbered}
-use Rattle.method.specs.declared.checked.Checked.TheVariants as Checked
-use Rattle.method.specs.Refusals.{speed_refusals, refusals_with, refusals, Accepted}
-use Rattle.method.specs.Checked.{case_curve, checked_with}
+use Rattle.road.specs.Refusals.{road_refusals, section_refusals, load_refusals, weather_refusals, field_refusals, SectionFits}
+use Rattle.road.proofs.RefusalLaws.{loads-exactly, section-numbered, load-numbered}
+use Rattle.method.specs.Refusals.{speed_refusals, refusals, refusal, Accepted}
+use Rattle.method.specs.Checked.{case_curve, checked_curve, checked}
 use Rattle.method.specs.Assess.{measures}
-use Rattle.method.proofs.RefusalLaws.{refusals_with-found, with-accepted, with-of}
-use Rattle.method.proofs.CheckedLaws.{found-curve, found-refusal}
+use Rattle.method.proofs.RefusalLaws.{refusals_with-joined, with-accepted, with-of}
 use Rattle.answer.specs.Answers.{graded, answer_to}
 use Rattle.answer.specs.Volumes.{meets}
 use Rattle.answer.specs.Promises.{letter_in}
@@ -43,11 +45,10 @@ use Rattle.answer.proofs.AnswerLaws.{answer_to-accepted, answer_to-number, Meets
 use Rattle.answer.proofs.Promises.{no-better-under-more-load}
 use Rattle.forecast.specs.declared.Forecast.{Forecast}
 use Rattle.forecast.specs.declared.Combination.{Combination}
-use Rattle.forecast.specs.declared.ForecastAnswer.{ForecastAnswer}
+use Rattle.forecast.specs.declared.Outcomes.{Outcomes}
 use Rattle.forecast.specs.Forecasts.{with_combination, every_combination, some_combination, best_letter, worst_letter, letter_of}
-use Rattle.forecast.specs.Forecasts.{best_combination, worst_combination, range_refusals, forecast_refusals, forecast_answer}
-use Rattle.forecast.specs.Forecasts.{refusal_number, values}
-use Rattle.forecast.specs.Ends.{AcceptedWith, EndsAccepted, end_outcomes}
+use Rattle.forecast.specs.Forecasts.{best_combination, worst_combination, range_refusals, forecast_refusals, forecast_answer, values}
+use Rattle.forecast.specs.Ends.{outcome_of}
 use Rattle.forecast.specs.Promises.{AcceptedForecast, case_with, EveryInside, Ordered, DemandPasses, FactorPasses, SharePasses}
 use Rattle.forecast.proofs.RangeLaws.{range-numbered, range-exactly}
 use Rattle.forecast.proofs.CombinationLaws.{every_combination-at, every_combination-of, some_combination-of, some_combination-none}
@@ -74,9 +75,9 @@ letter-lt case a = omega (arith, letter-accepted case a, letter_number-le (measu
 meets-exactly : (case : Case) → Accepted case → (n : ℕ) → (letter_in (answer_to case) ≤ n) ↔ T (meets case n)
 meets-exactly case a n = (λ h. (Meets-iff case n).0 (answer_to-number case ∙ a, h), λ t. ((Meets-iff case n).1 t).1)
 
-pub refused-values : (a : ForecastAnswer) → 0 < refusal_number a → values a ≡ []
-refused-values (ForecastAnswer.Graded best worst) p = absurd (omega arith)
-refused-values (ForecastAnswer.Refused n) p = refl
+pub refused-values : (a : Result Outcomes Refusal) → 0 < refusal_number a → values a ≡ []
+refused-values (Ok o) p = absurd (omega arith)
+refused-values (Err r) p = refl
 
 -- ---- the two ends
 abbrev pub best_case : Case → Forecast → Case
@@ -84,6 +85,10 @@ best_case case forecast = with_combination case (best_combination forecast)
 
 abbrev pub worst_case : Case → Forecast → Case
 worst_case case forecast = with_combination case (worst_combination forecast)
+
+abbrev pub end_outcomes : Case → Forecast → Outcomes
+end_outcomes case forecast =
+    record { best = outcome_of case (best_combination forecast); worst = outcome_of case (worst_combination forecast) }
 
 -- what holds of every combination within the ends holds there
 module _ (forecast : Forecast) (ordered : Ordered forecast) (P : (demand share factor : ℕ) → Type 0) (all : EveryInside forecast P) where
@@ -94,23 +99,39 @@ module _ (forecast : Forecast) (ordered : Ordered forecast) (P : (demand share f
   at-worst = all _ _ _ (ordered.0, le_refl _) (ordered.1, le_refl _) (le_refl _, ordered.2)
 
 -- ---- refusals
+-- 19 and 10, of what no forecast changes
+abbrev pub last_refusals : Case → List Condition
+last_refusals case = weather_refusals case ++ speed_refusals case.road case.weather case.lanes
+
+pub plain-joined : (case : Case) → refusal case ≡ first_refusal (section_refusals case ++ (load_refusals case ++ last_refusals case))
+unfolding field_refusals refusals
+plain-joined case = ap first_refusal (refusals_with-joined (load_refusals case) case)
+
 module _ (case : Case) (forecast : Forecast) where
+  pub forecast-joined : first_refusal (forecast_refusals case forecast)
+      ≡ first_refusal (section_refusals case ++ (range_refusals case forecast ++ last_refusals case))
+  unfolding forecast_refusals
+  forecast-joined = ap first_refusal (refusals_with-joined (range_refusals case forecast) case)
+
+  list-le : first_refusal (forecast_refusals case forecast) ≤ 22
+  unfolding road_refusals load_refusals speed_refusals range_refusals forecast_refusals
+  list-le = first_refusal-le 22 (forecast_refusals case forecast) tt
+
   pub forecast-number : refusal_number (forecast_answer case forecast) ≡ first_refusal (forecast_refusals case forecast)
-  forecast-number = unless_refused-number _ _ ForecastAnswer.Refused refusal_number refl (λ k. refl)
+  forecast-number = refusal_number-ok_unless _ _ list-le
 
   pub number-le : refusal_number (forecast_answer case forecast) ≤ 22
-  unfolding road_refusals load_refusals speed_refusals range_refusals forecast_refusals
-  number-le = rw forecast-number (first_refusal-le 22 (forecast_refusals case forecast) tt)
+  number-le = rw forecast-number list-le
 
   -- a combination changes none of 1 to 6, 19 and 10
   combination-accepted : (demand share factor : ℕ) → SectionFits case
       → first_refusal (load_refusals (case_with case demand share factor)) ≡ 0
-      → first_refusal (weather_refusals case ++ speed_refusals case.road case.weather case.lanes) ≡ 0
+      → first_refusal (last_refusals case) ≡ 0
       → Accepted (case_with case demand share factor)
   unfolding field_refusals refusals
-  combination-accepted demand share factor section loads rest =
+  combination-accepted demand share factor section loads last =
       let asked = case_with case demand share factor in
-      with-of (load_refusals asked) asked (load-numbered asked) section loads ∙ rest
+      with-of (load_refusals asked) asked (load-numbered asked) section loads ∙ last
 
   module _ (z : AcceptedForecast case forecast) where
     parts : SectionFits case × (first_refusal (range_refusals case forecast) ≡ 0)
@@ -189,40 +210,67 @@ module _ (case : Case) (forecast : Forecast) where
         ))
 
     -- the best and the worst letter are those at the ends
-    pub answer-accepted : forecast_answer case forecast ≡ end_outcomes case forecast
+    pub answer-accepted : forecast_answer case forecast ≡ Ok (end_outcomes case forecast)
     answer-accepted =
         let shown : (c : Case) → Accepted c → letter_of (letter_in (answer_to c)) ≡ (measures c).performance.letter =
         λ c a. ap letter_of (letter-accepted c a) ∙ letter_of-number _ in
-        unless_refused-none _ _ ForecastAnswer.Refused (sym forecast-number ∙ z)
+        ok_unless-none _ _ (sym forecast-number ∙ z)
         ∙ rw (best_letter-eq, worst_letter-eq, shown (best_case case forecast) best-accepted, shown (worst_case case forecast) worst-accepted)
 
-  -- ---- what is answered by what the check found
-  module _ (number : ℕ) (own : number ≡ first_refusal (range_refusals case forecast)) where
-    checked-number : first_refusal (refusals_with (found number) case) ≡ first_refusal (forecast_refusals case forecast)
+  -- ---- the code's checks, in their order
+  pub refused-section : (r : Refusal) → number r ≡ first_refusal (section_refusals case)
+      → number r ≡ first_refusal (forecast_refusals case forecast)
+  refused-section r e =
+      first_refusal-err (section_refusals case) (range_refusals case forecast ++ last_refusals case) r e ∙ sym forecast-joined
+
+  module _ (section : 0 ≡ first_refusal (section_refusals case)) where
+    pub refused-range : (r : Refusal) → number r ≡ first_refusal (range_refusals case forecast)
+        → number r ≡ first_refusal (forecast_refusals case forecast)
+    refused-range r e =
+        first_refusal-ok (section_refusals case) (range_refusals case forecast ++ last_refusals case) (number r)
+        (section-numbered case) section
+        (first_refusal-err (range_refusals case forecast) (last_refusals case) r e)
+        ∙ sym forecast-joined
+
+    pub last-asked : 0 ≡ first_refusal (range_refusals case forecast)
+        → first_refusal (forecast_refusals case forecast) ≡ first_refusal (last_refusals case)
     unfolding forecast_refusals
-    checked-number = rw own (refusals_with-found (range_refusals case forecast) case (range-numbered case forecast))
+    last-asked range = with-of (range_refusals case forecast) case (range-numbered case forecast) (sym section) (sym range)
 
-    module _ (curve : Curve) (e : checked_with (found number) case ≡ Checked.Accepted curve) where
-      passed : (first_refusal (refusals_with (found number) case) ≡ 0) × (curve ≡ case_curve case)
-      passed = found-curve _ (case_curve case) curve e
+    pub refused-weather : (r : Refusal) → 0 ≡ first_refusal (range_refusals case forecast) → number r ≡ first_refusal (weather_refusals case)
+        → number r ≡ first_refusal (forecast_refusals case forecast)
+    refused-weather r range e =
+        first_refusal-err (weather_refusals case) (speed_refusals case.road case.weather case.lanes) r e ∙ sym (last-asked range)
 
-      pub found-accepted : AcceptedForecast case forecast
-      found-accepted = forecast-number ∙ sym checked-number ∙ passed.0
+  -- none of them refuses
+  module _ (section : 0 ≡ first_refusal (section_refusals case)) (range : 0 ≡ first_refusal (range_refusals case forecast))
+      (weather : 0 ≡ first_refusal (weather_refusals case)) (curve : Curve)
+      (e : checked_curve case.road case.weather case.lanes ≡ Ok curve) where
+    passed : (first_refusal (speed_refusals case.road case.weather case.lanes) ≡ 0) × (curve ≡ case_curve case)
+    passed = ok_unless-found (first_refusal (speed_refusals case.road case.weather case.lanes)) (case_curve case) curve e
 
-      -- no combination changes the curve
-      on-curve : (combination : Combination) → Accepted (with_combination case combination) → AcceptedWith case combination curve
-      on-curve combination a = unless_refused-none _ _ Checked.Refused a ∙ ap Checked.Accepted (sym passed.1)
+    passed-accepted : AcceptedForecast case forecast
+    passed-accepted =
+        forecast-number
+        ∙ last-asked section range
+        ∙ first_refusal-none (weather_refusals case) (speed_refusals case.road case.weather case.lanes) tt (sym weather)
+        ∙ passed.0
 
-      pub ends-accepted : EndsAccepted case forecast curve
-      ends-accepted =
-          record {
-            at-best = on-curve (best_combination forecast) (best-accepted found-accepted);
-            at-worst = on-curve (worst_combination forecast) (worst-accepted found-accepted);
-          }
+    -- no combination changes the curve
+    on-curve : (combination : Combination) → Accepted (with_combination case combination)
+        → checked (with_combination case combination) ≡ Ok curve
+    on-curve combination a =
+        ok_unless-none (refusal (with_combination case combination)) (case_curve case) a ∙ ap Ok (sym passed.1)
 
-    pub answer-refused : (n : ℕ) → checked_with (found number) case ≡ Checked.Refused n
-        → ForecastAnswer.Refused n ≡ forecast_answer case forecast
-    answer-refused n e =
-        let (some, is) = found-refusal _ (case_curve case) n e in
-        sym (unless_refused-some _ _ ForecastAnswer.Refused (rw checked-number at some)
-        ∙ ap ForecastAnswer.Refused (sym checked-number ∙ is))
+    pub best-on-curve : checked (best_case case forecast) ≡ Ok curve
+    best-on-curve = on-curve (best_combination forecast) (best-accepted passed-accepted)
+
+    pub worst-on-curve : checked (worst_case case forecast) ≡ Ok curve
+    worst-on-curve = on-curve (worst_combination forecast) (worst-accepted passed-accepted)
+
+    pub answer-passed : Ok (end_outcomes case forecast) ≡ forecast_answer case forecast
+    answer-passed = sym (answer-accepted passed-accepted)
+
+-- the exits of the code's checks, and its calls behind them, for tactics
+pub ruleset asked_in_turn =
+    (refused-section, refused-range, last-asked, refused-weather, number-above, refusal_of-number, best-on-curve, worst-on-curve)

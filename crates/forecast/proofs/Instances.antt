@@ -3,11 +3,7 @@
 --   letter-between, target-kept, target-missed
 --   instances-shown    each is what is to be shown
 -- Assumes nothing.
-use mathlib.Core.Path.{◌≡◌, refl, ap}
-use Prim.Native.Nat.{ℕ}
-use native.Mathlib.Omega.{arith}
-use lib.ListN.{drop, get_or}
-use mathlib.Core.List.{[], ◌∷◌}
+use Rattle.std.proofs.Common.{◌≡◌, refl, ap, ℕ, arith, drop, get_or, [], ◌∷◌}
 use Rattle.numbers.specs.Division.{div_up}
 use Rattle.checks.specs.Figures.{Shown}
 use Rattle.curve.specs.Curves.{capacity, breakpoint}

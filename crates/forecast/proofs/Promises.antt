@@ -4,20 +4,15 @@
 --   accepted-exactly
 -- proofs/RefusedExactly has the last one.
 -- Assumes nothing.
-use mathlib.Core.Path.{◌≡◌, refl, sym, ap, ◌∙◌}
-use mathlib.Core.List.{[], ◌∷◌}
-use Prim.Native.Nat.{ℕ}
-use native.Mathlib.Omega.{arith}
-use native.Mathlib.Nat.{le_refl, le_trans, lt_of_not-le}
-use borrow.Author.Tests.{le-ltb}
-use lib.ListN.{get_or}
-use Rattle.checks.specs.Refusals.{first_refusal}
-use Rattle.checks.proofs.RefusalLaws.{first_refusal-none, lesser_refusal-same}
+use Rattle.std.proofs.Common.{◌≡◌, refl, sym, ap, ◌∙◌, T, cond, ⊎_elim, eq-zero-or-pos, List, [], ◌∷◌, ◌++◌, ℕ, arith, le_refl, le_trans}
+use Rattle.std.proofs.Common.{lt_of_not-le, le-ltb, get_or}
+use Rattle.checks.specs.Refusals.{Condition, first_refusal}
+use Rattle.checks.proofs.RefusalLaws.{numbered, first_refusal-none, first_refusal-some, lesser_refusal-same}
 use Rattle.road.specs.declared.Case.{Case}
-use Rattle.road.specs.Refusals.{road_refusals, load_refusals, weather_refusals, field_refusals}
+use Rattle.road.specs.Refusals.{road_refusals, section_refusals, load_refusals, weather_refusals, field_refusals}
 use Rattle.road.proofs.RefusalLaws.{load-numbered, loads-exactly}
 use Rattle.method.specs.Refusals.{speed_refusals, refusals, Accepted}
-use Rattle.method.proofs.RefusalLaws.{refusals_with-found, refusals-with, with-accepted, with-of}
+use Rattle.method.proofs.RefusalLaws.{with-accepted, with-of}
 use Rattle.answer.specs.Answers.{answer_to}
 use Rattle.answer.specs.Promises.{letter_in, Meets}
 use Rattle.answer.proofs.AnswerLaws.{answer_to-number}
@@ -27,8 +22,9 @@ use Rattle.forecast.specs.Forecasts.{forecast_answer, values}
 use Rattle.forecast.specs.Promises.{AcceptedForecast, best_letter_in, worst_letter_in, case_with, EveryLetterBetween}
 use Rattle.forecast.specs.Promises.{ShownAtTheEnds, MetThroughout, EqualEnds, OwnLoadIsNotRead, AcceptedExactly}
 use Rattle.forecast.specs.Promises.{own_ends, RefusalsInOrder}
-use Rattle.forecast.proofs.RangeLaws.{range-numbered, range-number, range-exactly}
-use Rattle.forecast.proofs.ForecastLaws.{letter-accepted, best_case, worst_case, at-best, at-worst, forecast-number}
+use Rattle.forecast.proofs.RangeLaws.{range-numbered, range-exactly, range-ends}
+use Rattle.forecast.proofs.ForecastLaws.{letter-accepted, best_case, worst_case, at-best, at-worst, last_refusals, plain-joined}
+use Rattle.forecast.proofs.ForecastLaws.{forecast-joined, forecast-number}
 use Rattle.forecast.proofs.ForecastLaws.{accepted-ordered, inside-accepted, best-accepted, worst-accepted, ends-between}
 use Rattle.forecast.proofs.ForecastLaws.{answer-accepted}
 
@@ -93,21 +89,26 @@ met-throughout case forecast z n = (
 -- 22 refuses none, and the two ends are one
 equal-range : (case : Case) → first_refusal (range_refusals case (own_ends case)) ≡ first_refusal (load_refusals case)
 equal-range case =
-    range-number case (own_ends case)
-    ∙ rw (
-      le-ltb case.demand case.demand (le_refl _),
-      le-ltb case.heavy_share case.heavy_share (le_refl _),
-      le-ltb case.peak_hour_factor case.peak_hour_factor (le_refl _),
-    )
-    (lesser_refusal-same (first_refusal (load_refusals case)))
+    range-ends case (own_ends case) (le-ltb case.demand case.demand (le_refl _)) (le-ltb case.heavy_share case.heavy_share (le_refl _))
+    (le-ltb case.peak_hour_factor case.peak_hour_factor (le_refl _))
+    ∙ lesser_refusal-same (first_refusal (load_refusals case))
+
+-- lists that refuse alike do so within a longer list
+refuse-alike : (rs xs ys ss : List Condition) → T (numbered xs) → T (numbered ys) → first_refusal xs ≡ first_refusal ys
+    → first_refusal (rs ++ (xs ++ ss)) ≡ first_refusal (rs ++ (ys ++ ss))
+refuse-alike [] xs ys ss t u e =
+    ⊎_elim (λ z. first_refusal-none xs ss t z ∙ sym (first_refusal-none ys ss u (sym e ∙ z)))
+    (λ p. first_refusal-some xs ss p ∙ e ∙ sym (first_refusal-some ys ss (rw (sym e) p))) (eq-zero-or-pos (first_refusal xs))
+refuse-alike (r ∷ rs) xs ys ss t u e = ap (cond r.met r.number) (refuse-alike rs xs ys ss t u e)
 
 pub equal-ends : EqualEnds
-unfolding forecast_refusals
 equal-ends case =
     let own = own_ends case in (
       forecast-number case own
-          ∙ sym (refusals_with-found (range_refusals case own) case (range-numbered case own))
-          ∙ rw (equal-range case) (refusals-with case)
+          ∙ forecast-joined case own
+          ∙ refuse-alike (section_refusals case) (range_refusals case own) (load_refusals case) (last_refusals case) (range-numbered case own)
+          (load-numbered case) (equal-range case)
+          ∙ sym (plain-joined case)
           ∙ sym (answer_to-number case),
       shown case own,
     )

@@ -4,17 +4,12 @@
 --   range-numbered   every number is above 0
 --   range-tests      the four tests, each with its number, stand for the list, whatever is asked behind it
 --   range-exactly    a forecast that they let pass, by its ends
---   range-number     behind 22 the number is the lesser of those at the two ends
+--   range-ends       where no range is reversed the number is the lesser of those at the two ends
 -- Assumes nothing.
-use mathlib.Core.Path.{◌≡◌, refl, sym, ap, ◌∙◌}
-use mathlib.Core.Bool.{Bool, true, false, cond, ◌||◌, true≢false}
-use mathlib.Core.Logic.{◌↔◌}
-use mathlib.Core.List.{List, [], ◌∷◌, ◌++◌}
-use Prim.Native.Nat.{ℕ, ◌≤◌}
-use borrow.Author.Tests.{ltb-false, le-ltb}
-use lib.Dec.{T, ltb}
-use Rattle.checks.specs.Refusals.{Refusal, refuses, first_refusal, lesser_refusal, outside}
-use Rattle.checks.proofs.RefusalLaws.{numbered, rises_with, first_refusal-by_turns, none-met, none-of, within, inside}
+use Rattle.std.proofs.Common.{◌≡◌, refl, sym, ap, ◌∙◌, Bool, true, false, cond, ◌||◌, true≢false, ◌↔◌, List, [], ◌∷◌, ◌++◌, ℕ, ◌≤◌}
+use Rattle.std.proofs.Common.{ltb-false, le-ltb, T, ltb}
+use Rattle.checks.specs.Refusals.{Condition, refuses, first_refusal, by_turns, lesser_refusal, outside}
+use Rattle.checks.proofs.RefusalLaws.{numbered, first_refusal-by_turns, none-met, none-of, within, inside}
 use Rattle.road.specs.declared.Case.{Case}
 use Rattle.road.specs.Refusals.{greatest_demand, load_refusals}
 use Rattle.forecast.specs.declared.Range.{Range}
@@ -77,20 +72,22 @@ module _ (forecast : Forecast) where
   pub share-passes : (over-share ≡ false) ↔ SharePasses forecast
   share-passes = none-above 1000 forecast.heavy_share
 
-  abbrev tests : List Refusal
+  abbrev tests : List Condition
   tests = refuses 22 some-reversed ∷ refuses 7 over-demand ∷ refuses 8 unfit-factor ∷ refuses 9 over-share ∷ []
 
 -- ---- the list
-loads-rise : (c d : Case) → T (rises_with (load_refusals c) (load_refusals d))
+loads-by_turns : (c d : Case)
+    → first_refusal (by_turns (load_refusals c) (load_refusals d))
+    ≡ lesser_refusal (first_refusal (load_refusals c)) (first_refusal (load_refusals d))
 unfolding load_refusals
-loads-rise c d = tt
+loads-by_turns c d = first_refusal-by_turns (load_refusals c) (load_refusals d) tt
 
 module _ (case : Case) (forecast : Forecast) where
   pub range-numbered : T (numbered (range_refusals case forecast))
   unfolding load_refusals range_refusals
   range-numbered = tt
 
-  pub range-tests : (rest : List Refusal)
+  pub range-tests : (rest : List Condition)
       → first_refusal (range_refusals case forecast ++ rest)
       ≡ cond (some-reversed forecast) 22
       (cond (over-demand forecast) 7 (cond (unfit-factor forecast) 8 (cond (over-share forecast) 9 (first_refusal rest))))
@@ -127,13 +124,11 @@ module _ (case : Case) (forecast : Forecast) where
             ),
       )
 
-  pub range-number : first_refusal (range_refusals case forecast)
-      ≡ cond (reversed forecast.demand) 22
-      (cond (reversed forecast.heavy_share) 22
-      (cond (reversed forecast.peak_hour_factor) 22
-      (lesser_refusal (first_refusal (load_refusals (with_combination case (best_combination forecast))))
-      (first_refusal (load_refusals (with_combination case (worst_combination forecast)))))))
+  -- where no range is reversed
+  pub range-ends : reversed forecast.demand ≡ false → reversed forecast.heavy_share ≡ false → reversed forecast.peak_hour_factor ≡ false
+      → first_refusal (range_refusals case forecast)
+      ≡ lesser_refusal (first_refusal (load_refusals (with_combination case (best_combination forecast))))
+      (first_refusal (load_refusals (with_combination case (worst_combination forecast))))
   unfolding range_refusals
-  range-number =
-      rw (first_refusal-by_turns _ _
-      (loads-rise (with_combination case (best_combination forecast)) (with_combination case (worst_combination forecast))))
+  range-ends v s h =
+      rw (v, s, h) (loads-by_turns (with_combination case (best_combination forecast)) (with_combination case (worst_combination forecast)))

@@ -1,30 +1,25 @@
 -- Exactly when each number refuses a forecast (specs/Promises RefusedExactly), proved.
 --   refused-exactly
 -- Assumes nothing.
-use mathlib.Core.Path.{◌≡◌, refl, sym, ap, ◌∙◌}
-use mathlib.Core.Bool.{Bool, true, false, cond, true≢false}
-use mathlib.Core.Logic.{◌↔◌, ⊎_elim}
-use mathlib.Core.List.{List, ◌∷◌, ◌++◌}
-use Prim.Native.Nat.{ℕ, ◌≤◌, ◌<◌}
-use native.Mathlib.Omega.{arith}
-use native.Mathlib.Nat.{eq-zero-or-pos}
-use lib.Dec.{T}
-use Rattle.checks.specs.Refusals.{Refusal, refuses, first_refusal}
+use Rattle.std.proofs.Common.{◌≡◌, refl, sym, ◌∙◌, Bool, true, false, cond, true≢false, ◌↔◌, ⊎_elim, List, ◌∷◌, ◌++◌, ℕ, ◌≤◌, ◌<◌, arith}
+use Rattle.std.proofs.Common.{eq-zero-or-pos, T}
+use Rattle.checks.specs.Numbers.{refusal_number}
+use Rattle.checks.specs.Refusals.{Condition, refuses, first_refusal}
 use Rattle.checks.proofs.RefusalLaws.{numbered, first_refusal-none, first_refusal-some, up_to, first_refusal-le, at_least, first_refusal-ge}
 use Rattle.road.specs.declared.Case.{Case}
-use Rattle.road.specs.Refusals.{road_refusals, section_refusals, load_refusals, weather_refusals, field_refusals, SectionFits}
+use Rattle.road.specs.Refusals.{road_refusals, section_refusals, load_refusals, field_refusals, SectionFits}
 use Rattle.road.proofs.RefusalLaws.{section-numbered, load-numbered, loads-exactly}
 use Rattle.method.specs.Refusals.{speed_refusals, refusals, refusal}
-use Rattle.method.proofs.RefusalLaws.{refusals_with-joined, with-of}
+use Rattle.method.proofs.RefusalLaws.{with-of}
 use Rattle.forecast.specs.declared.Forecast.{Forecast}
-use Rattle.forecast.specs.Forecasts.{range_refusals, forecast_refusals, forecast_answer, refusal_number}
+use Rattle.forecast.specs.Forecasts.{range_refusals, forecast_answer}
 use Rattle.forecast.specs.Promises.{Ordered, DemandPasses, FactorPasses, SharePasses, RefusedExactly}
 use Rattle.forecast.proofs.RangeLaws.{some-reversed, over-demand, unfit-factor, over-share}
 use Rattle.forecast.proofs.RangeLaws.{none-reversed, demand-passes, factor-passes, share-passes, range-tests}
-use Rattle.forecast.proofs.ForecastLaws.{best_case, forecast-number}
+use Rattle.forecast.proofs.ForecastLaws.{best_case, last_refusals, forecast-number, forecast-joined, plain-joined}
 
 -- two lists that begin alike with numbers up to 6, and go on with greater ones, agree on these
-small-alike : (rs xs ys : List Refusal) → T (up_to 6 rs) → T (numbered rs) → T (at_least 7 xs) → T (at_least 7 ys) → (n : ℕ) → 1 ≤ n → n ≤ 6
+small-alike : (rs xs ys : List Condition) → T (up_to 6 rs) → T (numbered rs) → T (at_least 7 xs) → T (at_least 7 ys) → (n : ℕ) → 1 ≤ n → n ≤ 6
     → first_refusal (rs ++ xs) ≡ n → first_refusal (rs ++ ys) ≡ n
 small-alike rs xs ys u t a b n h k e =
     ⊎_elim
@@ -35,29 +30,24 @@ module _ (case : Case) (forecast : Forecast) where
   abbrev number : ℕ
   number = refusal_number (forecast_answer case forecast)
 
-  abbrev rest : List Refusal
-  rest = weather_refusals case ++ speed_refusals case.road case.weather case.lanes
+  abbrev rest : List Condition
+  rest = last_refusals case
 
   joined : number ≡ first_refusal (section_refusals case ++ (range_refusals case forecast ++ rest))
-  unfolding forecast_refusals
-  joined = forecast-number case forecast ∙ ap first_refusal (refusals_with-joined (range_refusals case forecast) case)
-
-  plain-joined : refusal case ≡ first_refusal (section_refusals case ++ (load_refusals case ++ rest))
-  unfolding field_refusals refusals
-  plain-joined = ap first_refusal (refusals_with-joined (load_refusals case) case)
+  joined = forecast-number case forecast ∙ forecast-joined case forecast
 
   -- 1 to 6 come first, whatever the ends are
   first : (n : ℕ) → 1 ≤ n → n ≤ 6 → (number ≡ n) ↔ (refusal case ≡ n)
   unfolding road_refusals load_refusals speed_refusals range_refusals
   first n h k = (
     λ e.
-        plain-joined
+        plain-joined case
         ∙ small-alike (section_refusals case) (range_refusals case forecast ++ rest) (load_refusals case ++ rest) tt tt tt tt n h k
         (sym joined ∙ e),
     λ e.
         joined
         ∙ small-alike (section_refusals case) (load_refusals case ++ rest) (range_refusals case forecast ++ rest) tt tt tt tt n h k
-        (sym plain-joined ∙ e),
+        (sym (plain-joined case) ∙ e),
   )
 
   -- where 1 to 6 do not refuse, the ends decide, and then 19 and 10

@@ -14,16 +14,17 @@
 --   reversed range                  a range that 22 refuses
 --   range_refusals case forecast    22, and 7 to 9 of both ends
 --   forecast_refusals case forecast   1 to 6, these, 19 and 10
---   forecast_answer case forecast   the best letter and the worst, each with its combination, or the number of the first that refuses
+--   forecast_answer case forecast   the best letter and the worst, each with its combination, or the first that refuses
 --   figure_count                    how many numbers an answer has
---   refusal_number a                the number of the refusal, 0 where there is none
 --   values a                        best letter, its demand, share and factor; worst letter, its demand, share and factor; of a refusal
 --                                   no value
 -- Assumes nothing.
-use Rattle.std.specs.Prelude.{ℕ, ◌≤◌, Bool, cond, not, ◌||◌, List, [], ◌∷◌, leb, ltb}
+use Rattle.std.specs.Prelude.{ℕ, ◌≤◌, Bool, cond, not, ◌||◌, List, [], ◌∷◌, leb, ltb, Result, Ok, Err}
 use Rattle.numbers.specs.Search.{least}
 use Rattle.numbers.specs.Table.{every_up_to}
-use Rattle.checks.specs.Refusals.{Refusal, refuses, first_refusal, by_turns, unless_refused}
+use Rattle.checks.specs.declared.Refusal.{Refusal}
+use Rattle.checks.specs.Refusals.{Condition, refuses, first_refusal, by_turns}
+use Rattle.checks.specs.Numbers.{ok_unless}
 use Rattle.curve.specs.declared.service.Letter.{Letter}
 use Rattle.curve.specs.Service.{letter_number}
 use Rattle.road.specs.declared.Case.{Case}
@@ -34,7 +35,7 @@ use Rattle.answer.specs.Volumes.{meets}
 use Rattle.forecast.specs.declared.Range.{Range}
 use Rattle.forecast.specs.declared.Forecast.{Forecast}
 use Rattle.forecast.specs.declared.Combination.{Combination}
-use Rattle.forecast.specs.declared.ForecastAnswer.{ForecastAnswer}
+use Rattle.forecast.specs.declared.Outcomes.{Outcomes}
 
 abbrev pub range_of : (low high : ℕ) → Range
 range_of low high = record { low = low; high = high }
@@ -99,7 +100,7 @@ abbrev pub reversed : Range → Bool
 reversed range = ltb range.high range.low
 
 -- "22 .. before 7", "Checks 7 to 9 hold for both ends": each of them looks at both ends before the next is asked
-unfoldable pub range_refusals : Case → Forecast → List Refusal
+unfoldable pub range_refusals : Case → Forecast → List Condition
 range_refusals case forecast =
     refuses 22 (reversed forecast.demand)
     ∷ refuses 22 (reversed forecast.heavy_share)
@@ -107,29 +108,25 @@ range_refusals case forecast =
     ∷ by_turns (load_refusals (with_combination case (best_combination forecast)))
     (load_refusals (with_combination case (worst_combination forecast)))
 
-unfoldable pub forecast_refusals : Case → Forecast → List Refusal
+unfoldable pub forecast_refusals : Case → Forecast → List Condition
 forecast_refusals case forecast = refusals_with (range_refusals case forecast) case
 
 -- "Answer the best and the worst letter .., and a combination that gets each"
-abbrev pub forecast_answer : Case → Forecast → ForecastAnswer
+abbrev pub forecast_answer : Case → Forecast → Result Outcomes Refusal
 forecast_answer case forecast =
-    unless_refused (first_refusal (forecast_refusals case forecast))
-    (ForecastAnswer.Graded
-    (record { letter = letter_of (best_letter case forecast); combination = best_combination forecast })
-    (record { letter = letter_of (worst_letter case forecast); combination = worst_combination forecast }))
-    ForecastAnswer.Refused
+    ok_unless (first_refusal (forecast_refusals case forecast))
+    (record {
+      best = record { letter = letter_of (best_letter case forecast); combination = best_combination forecast };
+      worst = record { letter = letter_of (worst_letter case forecast); combination = worst_combination forecast };
+    })
 
 -- two letters, each with a combination
 abbrev pub figure_count : ℕ
 figure_count = 8
 
-abbrev pub refusal_number : ForecastAnswer → ℕ
-refusal_number (ForecastAnswer.Graded best worst) = 0
-refusal_number (ForecastAnswer.Refused n) = n
-
-abbrev pub values : ForecastAnswer → List ℕ
-values (ForecastAnswer.Graded best worst) =
-    letter_number best.letter ∷ best.combination.demand ∷ best.combination.heavy_share ∷ best.combination.peak_hour_factor
-    ∷ letter_number worst.letter ∷ worst.combination.demand ∷ worst.combination.heavy_share
-    ∷ worst.combination.peak_hour_factor ∷ []
-values (ForecastAnswer.Refused n) = []
+abbrev pub values : Result Outcomes Refusal → List ℕ
+values (Ok o) =
+    letter_number o.best.letter ∷ o.best.combination.demand ∷ o.best.combination.heavy_share ∷ o.best.combination.peak_hour_factor
+    ∷ letter_number o.worst.letter ∷ o.worst.combination.demand ∷ o.worst.combination.heavy_share
+    ∷ o.worst.combination.peak_hour_factor ∷ []
+values (Err r) = []

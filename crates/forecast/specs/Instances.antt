@@ -15,7 +15,9 @@
 --   TargetKept, TargetMissed   on the same road C is met with every demand from 0 to 2,642, and with none from 2,643 to 4,000
 --   computed_instances, refusal_instances, forecast_instances   what is worked out, and what is to be shown
 -- Assumes nothing.
-use Rattle.std.specs.Prelude.{◌≡◌, List, [], ◌∷◌, map, ℕ, ◌≤◌}
+use Rattle.std.specs.Prelude.{◌≡◌, List, [], ◌∷◌, map, ℕ, ◌≤◌, Result}
+use Rattle.checks.specs.declared.Refusal.{Refusal}
+use Rattle.checks.specs.Numbers.{refusal_number}
 use Rattle.checks.specs.Figures.{Figure, figure}
 use Rattle.curve.specs.declared.kind.Kind.TheVariants as Kind
 use Rattle.road.specs.declared.Case.{Case}
@@ -26,11 +28,11 @@ use Rattle.answer.specs.Promises.{letter_in, Meets}
 use Rattle.answer.specs.Boundary.{example_in_snow, refused_by19}
 use Rattle.answer.specs.Instances.{multilane_with}
 use Rattle.forecast.specs.declared.Forecast.{Forecast}
-use Rattle.forecast.specs.declared.ForecastAnswer.{ForecastAnswer}
-use Rattle.forecast.specs.Forecasts.{forecast_of, best_letter, worst_letter, forecast_answer, refusal_number, values}
+use Rattle.forecast.specs.declared.Outcomes.{Outcomes}
+use Rattle.forecast.specs.Forecasts.{forecast_of, best_letter, worst_letter, forecast_answer, values}
 use Rattle.forecast.specs.Promises.{best_letter_in, worst_letter_in, case_with, EveryInside}
 
-abbrev pub told : ForecastAnswer → List ℕ
+abbrev pub told : Result Outcomes Refusal → List ℕ
 told a = refusal_number a ∷ values a
 
 abbrev pub letters_of : Case → Forecast → List ℕ

@@ -20,28 +20,29 @@
 --   RefusedExactly               1 to 6 as the engine has them, whatever the ends; then 22 exactly by a reversed range; then 7, 8 and 9
 --                                each exactly by an end; then 19 and 10 as the engine has them
 -- Assumes nothing.
-use Rattle.std.specs.Prelude.{◌≡◌, ◌↔◌, [], ◌∷◌, map, ℕ, ◌≤◌, ◌<◌, get_or}
+use Rattle.std.specs.Prelude.{◌≡◌, ◌↔◌, [], ◌∷◌, map, ℕ, ◌≤◌, ◌<◌, get_or, Result}
+use Rattle.checks.specs.declared.Refusal.{Refusal}
 use Rattle.checks.specs.Refusals.{first_refusal}
+use Rattle.checks.specs.Numbers.{refusal_number}
 use Rattle.road.specs.declared.Case.{Case}
 use Rattle.road.specs.Cases.{loaded}
 use Rattle.road.specs.Refusals.{greatest_demand, SectionFits}
 use Rattle.method.specs.Refusals.{refusal, Accepted}
-use Rattle.answer.specs.Answers as answers
 use Rattle.answer.specs.Answers.{answer_to}
 use Rattle.answer.specs.Promises.{letter_in, Meets}
 use Rattle.forecast.specs.declared.Range.{Range}
 use Rattle.forecast.specs.declared.Forecast.{Forecast}
-use Rattle.forecast.specs.declared.ForecastAnswer.{ForecastAnswer}
-use Rattle.forecast.specs.Forecasts.{forecast_of, Within, forecast_refusals, forecast_answer, refusal_number, values}
+use Rattle.forecast.specs.declared.Outcomes.{Outcomes}
+use Rattle.forecast.specs.Forecasts.{forecast_of, Within, forecast_refusals, forecast_answer, values}
 
 abbrev pub AcceptedForecast : Case → Forecast → Type 0
 AcceptedForecast case forecast = refusal_number (forecast_answer case forecast) ≡ 0
 
 -- of the eight figures the first is the best letter, and the fifth the worst
-abbrev pub best_letter_in : ForecastAnswer → ℕ
+abbrev pub best_letter_in : Result Outcomes Refusal → ℕ
 best_letter_in answer = get_or (values answer) 0 0
 
-abbrev pub worst_letter_in : ForecastAnswer → ℕ
+abbrev pub worst_letter_in : Result Outcomes Refusal → ℕ
 worst_letter_in answer = get_or (values answer) 4 0
 
 -- from the fields, and not by this crate's own with_combination
@@ -94,7 +95,7 @@ EqualEnds =
     (case : Case)
     → let answer = forecast_answer case (own_ends case) in
     let letter = letter_in (answer_to case) in
-    (refusal_number answer ≡ answers.refusal_number (answer_to case))
+    (refusal_number answer ≡ refusal_number (answer_to case))
     × (refusal_number answer ≡ 0
     → values answer
     ≡ letter ∷ case.demand ∷ case.heavy_share ∷ case.peak_hour_factor

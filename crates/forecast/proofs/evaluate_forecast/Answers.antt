@@ -1,26 +1,21 @@
--- `forecast::evaluate_forecast` meets its contract: the check finds a refusal, or the curve on which the letters at the ends are the best
--- and the worst.
+-- `forecast::evaluate_forecast` meets its contract: where none of the checks refuses, the letters at the ends are the best and the worst.
 -- Assumes nothing.
-use mathlib.Core.Path.{sym, ◌∙◌}
-use Rattle.forecast.proofs.ForecastLaws.{found-accepted, ends-accepted, answer-accepted, answer-refused}
+use Rattle.std.proofs.Common.{sym, ◌∙◌}
+use Rattle.road.proofs.RefusalLaws.{section-road, weather-fits}
+use Rattle.forecast.proofs.ForecastLaws.{answer-passed}
 use Rattle.forecast.proofs.evaluate_forecast.Goals as goal
 
-pub outcomes-requires : goal.outcomes-requires
-outcomes-requires c =
-    let a = c.args in
-    ends-accepted a.case a.forecast _ c.range_refusal.ensures _
-    (sym c.check_with-checked.ensures ∙ c.in-Accepted.is)
+pub checked_curve-requires : goal.checked_curve-requires
+checked_curve-requires c =
+    let case = c.args.case in
+    record {
+      road_fits = section-road case (sym c.in_ok-check_section.ensures);
+      factors_fit = weather-fits case (sym c.in_ok-check_weather.ensures);
+    }
 
-pub returns-in-Accepted : goal.returns-in-Accepted
-returns-in-Accepted c =
+pub returns : goal.returns
+returns c =
     let a = c.args in
-    c.outcomes.ensures
-    ∙ sym (answer-accepted a.case a.forecast
-    (found-accepted a.case a.forecast _ c.range_refusal.ensures _
-    (sym c.check_with-checked.ensures ∙ c.in-Accepted.is)))
-
-pub returns-in-Refused : goal.returns-in-Refused
-returns-in-Refused c =
-    let a = c.args in
-    answer-refused a.case a.forecast _ c.range_refusal.ensures _
-    (sym c.check_with-checked.ensures ∙ c.in-Refused.is)
+    rw (c.new.ensures, c.new-2.ensures, c.best.ensures, c.worst.ensures)
+    (answer-passed a.case a.forecast c.in_ok-check_section.ensures c.in_ok-check_ranges.ensures c.in_ok-check_weather.ensures
+    c.in_ok-curve.curve (sym c.checked_curve.ensures ∙ c.in_ok-curve.was))
