@@ -3,12 +3,15 @@
 //   - every public definition of the crates' specs/ and every must-fail edit is named in docs/MAP.md.
 //
 // A name is written between backticks on one line, outside fenced blocks, without a blank, in one of these forms:
-//   CRATE::ITEM             a function, type or constant of crates/CRATE/src/lib.rt or main.rt
-//   CRATE::MODULE::ITEM     the same of crates/CRATE/src/MODULE.rt
-//   CRATE/specs/FILE.NAME   a definition of crates/CRATE/specs/FILE.antt; the same with proofs/ for a law
-//   CRATE/must-fail/NAME    an edit
-//   a path with a slash     from the root; before a * only the folder is looked for
-//   a file's name           with one of ENDINGS, in any folder
+//   CRATE::ITEM                   a function, type, constant or static of crates/CRATE/src/lib.rt or main.rt, outside of any block
+//   CRATE::MODULE::ITEM           the same of crates/CRATE/src/MODULE.rt
+//   CRATE::TYPE::MEMBER           a function or constant in an impl of TYPE in crates/CRATE/src/lib.rt or main.rt, or a variant of the enum
+//                                 TYPE there; TYPE begins with a capital
+//   CRATE::MODULE::TYPE::MEMBER   the same of crates/CRATE/src/MODULE.rt, where the impl stands
+//   CRATE/specs/FILE.NAME         a definition of crates/CRATE/specs/FILE.antt; the same with proofs/ for a law
+//   CRATE/must-fail/NAME          an edit
+//   a path with a slash           from the root; before a * only the folder is looked for
+//   a file's name                 with one of ENDINGS, in any folder
 // What has such a form and is not in the tree is wrong, also where its crate is unknown. Passed over are: paths under target/ and build/,
 // which a build makes, and under /dev/; paths with one of PLACEHOLDERS; A::B where A is one of OUTSIDE, a crate that crates.txt names only
 // after a colon (the toolchain's), or begins with no small letter; what begins with a hyphen; any other text.
@@ -28,7 +31,9 @@ const PLACEHOLDERS: [char; 4] = ['<', '{', '$', '('];
 const OUTSIDE: [&str; 18] =
     ["std", "bool", "char", "str", "f32", "f64", "u8", "u16", "u32", "u64", "u128", "usize", "i8", "i16", "i32", "i64", "i128", "isize"];
 const QUALIFIERS: [&str; 4] = ["pub", "pub(crate)", "extern", "\"C\""];
-const ITEMS: [&str; 4] = ["fn", "struct", "enum", "const"];
+const ITEMS: [&str; 6] = ["fn", "struct", "enum", "type", "const", "static"];
+// How far in the members of a block stand, as `rt fmt` lays out.
+const MEMBER_INDENT: usize = 4;
 
 #[derive(Clone, Copy, Debug, PartialEq)]
 enum Verdict {
@@ -98,11 +103,43 @@ fn first_identifier(word: &str) -> &str {
     word.split(|c: char| !c.is_alphanumeric() && c != '_').next().unwrap_or("")
 }
 
-// Whether a source file declares the item.
+fn indent(line: &str) -> usize {
+    line.len() - line.trim_start().len()
+}
+
+fn begins_with_capital(name: &str) -> bool {
+    name.starts_with(|c: char| c.is_ascii_uppercase())
+}
+
+// What a line of a source file declares, if anything: one of ITEMS, and its name.
+fn declaration(line: &str) -> Option<(&str, &str)> {
+    let mut words = line.split_whitespace().skip_while(|word| QUALIFIERS.contains(word));
+    let kind = words.next().filter(|kind| ITEMS.contains(kind))?;
+    words.next().map(|word| (kind, first_identifier(word)))
+}
+
+// The type whose impl begins on a line, of a trait or not, if any.
+fn implemented(line: &str) -> Option<&str> {
+    let rest = line.strip_prefix("impl")?;
+    let rest = if rest.starts_with('<') { rest.split_once("> ")?.1 } else { rest };
+    Some(first_identifier(rest.split_once(" for ").map_or(rest, |(_, of)| of).trim_start()))
+}
+
+// Whether a source file declares the item outside of any block.
 fn declares(source: &str, item: &str) -> bool {
-    source.lines().any(|line| {
-        let mut words = line.split_whitespace().skip_while(|word| QUALIFIERS.contains(word));
-        words.next().is_some_and(|kind| ITEMS.contains(&kind)) && words.next().is_some_and(|word| first_identifier(word) == item)
+    source.lines().any(|line| indent(line) == 0 && declaration(line).is_some_and(|(_, name)| name == item))
+}
+
+// Whether a source file has the member in an impl of the type or among its variants. A line that is not indented begins or ends a block.
+fn has_member(source: &str, owner: &str, member: &str) -> bool {
+    let (mut in_impl, mut in_enum) = (false, false);
+    source.lines().filter(|line| !line.trim().is_empty()).any(|line| {
+        if indent(line) == 0 {
+            (in_impl, in_enum) = (implemented(line) == Some(owner), declaration(line) == Some(("enum", owner)));
+        }
+        let is_variant = in_enum && begins_with_capital(member) && first_identifier(line.trim_start()) == member;
+        let is_item = in_impl && declaration(line).is_some_and(|(_, name)| name == member);
+        indent(line) == MEMBER_INDENT && (is_variant || is_item)
     })
 }
 
@@ -117,16 +154,24 @@ fn declared(line: &str) -> Option<&str> {
 }
 
 fn judge_item(tree: &Tree, name: &str) -> Verdict {
-    let (first, rest) = name.split_once("::").unwrap_or((name, ""));
+    let parts: Vec<&str> = name.split("::").collect();
+    let first = parts[0];
     let small = first.starts_with(|c: char| c.is_ascii_lowercase());
     if !small || OUTSIDE.contains(&first) || tree.is_toolchain_crate(first) {
         return Verdict::PassedOver;
     }
-    let (modules, item) = match rest.split_once("::") {
-        None => (vec!["lib", "main"], rest),
-        Some((module, item)) => (vec![module], item),
+    let root = vec!["lib", "main"];
+    let (modules, owner, item) = match parts[1..] {
+        [item] => (root, None, item),
+        [owner, member] if begins_with_capital(owner) => (root, Some(owner), member),
+        [module, item] => (vec![module], None, item),
+        [module, owner, member] if begins_with_capital(owner) => (vec![module], Some(owner), member),
+        _ => return Verdict::Missing,
     };
-    let in_module = |module: &&str| declares(tree.text(&format!("crates/{first}/src/{module}.rt")), item);
+    let in_module = |module: &&str| {
+        let source = tree.text(&format!("crates/{first}/src/{module}.rt"));
+        owner.map_or(declares(source, item), |owner| has_member(source, owner, item))
+    };
     if tree.has_crate(first) && modules.iter().any(in_module) {
         Verdict::Stands
     } else {
@@ -259,8 +304,19 @@ fn check(tree: &Tree) -> Report {
 // The small tree that the check tries itself on. Its documents have the faults of SAMPLE_FAULTS and no others.
 const SAMPLE: [(&str, &str); 15] = [
     ("crates.txt", "# low: halves\nlow:\n# high: the program\nhigh: low io\n"),
-    ("crates/low/src/lib.rt", "pub mod kind;\npub fn halved(n: u64) -> u64\n// the fn spoken of\n"),
-    ("crates/low/src/kind.rt", "struct Step {\nimpl Step {\n    pub const MOST: u64 = 8;\npub extern \"C\" fn called(n: u64)\n"),
+    (
+        "crates/low/src/lib.rt",
+        "pub mod kind;\npub fn halved(n: u64) -> u64\n// the fn spoken of\npub enum Refusal {\n    TooLow = 1,\n}\n\
+         impl Refusal {\n    pub fn number(self) -> u64\n}\n",
+    ),
+    (
+        "crates/low/src/kind.rt",
+        "struct Step {\n    pub most: u64,\n}\nimpl Step {\n    pub const MOST: u64 = 8;\n    // the fn spoken of\n    \
+         fn taken(&self) -> u64\n    {\n        const INNER: u64 = 1;\n    }\n}\npub extern \"C\" fn called(n: u64)\n\
+         pub(crate) static TABLE: [u64; 2] = [\n    1, 2,\n];\npub type Pair = [u64; 2];\n\
+         pub enum Way<T> {\n    // Down of two\n    Up(T),\n\n    Around { steps: u64 },\n}\n\
+         impl<T> Way<T> {\n    pub fn turned(self) -> Way<T>\n}\nimpl Iterator for Step {\n    fn next(&mut self) -> u64\n}\n",
+    ),
     (
         "crates/low/specs/Half.antt",
         "abbrev pub half : N\nunfoldable pub twice : N\npub data Side where\npub record Parts where\n  pub left : N\nhidden : N\n",
@@ -291,11 +347,21 @@ const SAMPLE_FAULTS: [&str; 10] = [
     "docs/MAP.md does not name `low/specs/Half.Parts`",
 ];
 
-const SAMPLE_STANDS: [&str; 20] = [
+const SAMPLE_STANDS: [&str; 30] = [
     "low::halved",
+    "low::Refusal",
+    "low::Refusal::TooLow",
+    "low::Refusal::number",
     "low::kind::Step",
-    "low::kind::MOST",
+    "low::kind::Step::MOST",
+    "low::kind::Step::taken",
+    "low::kind::Step::next",
     "low::kind::called",
+    "low::kind::TABLE",
+    "low::kind::Pair",
+    "low::kind::Way::Up",
+    "low::kind::Way::Around",
+    "low::kind::Way::turned",
     "high::main",
     "low/specs/Half.half",
     "low/specs/Half.twice",
@@ -314,17 +380,35 @@ const SAMPLE_STANDS: [&str; 20] = [
     "Half.antt",
 ];
 
-const SAMPLE_MISSING: [&str; 29] = [
+const SAMPLE_MISSING: [&str; 47] = [
     "lw::halved",
     "lw::kind::Step",
+    "lw::Refusal::number",
     "unlisted::stale",
     "low::halve",
     "low::halved()",
     "low::spoken",
     "low::MOST",
+    "low::number",
+    "low::TooLow",
+    "low::Refusal::TooHigh",
+    "low::Refusal::halved",
     "low::kind::halved",
+    "low::kind::MOST",
+    "low::kind::taken",
+    "low::kind::Up",
+    "low::kind::Refusal::number",
+    "low::kind::Step::most",
+    "low::kind::Step::spoken",
+    "low::kind::Step::INNER",
+    "low::kind::Step::called",
+    "low::kind::Step::turned",
+    "low::kind::Way::MOST",
+    "low::kind::Way::Down",
+    "low::kind::Way::steps",
+    "low::kind::Way::Up::turned",
+    "low::kind::Way::",
     "low::kinds::Step",
-    "low::kind::Step::MOST",
     "low::",
     "lw/specs/Half.half",
     "unlisted/specs/Stale.stale",
