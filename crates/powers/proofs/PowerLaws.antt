@@ -85,3 +85,5 @@ power-mono i (suc j) h k = go (λ l. power-mono i j l (omega arith)) (dec_le i j
     go : (i ≤ j → power i ≤ power j) → Dec (i ≤ j) → power i ≤ power (suc j)
     go below (yes l) = le_trans (below l) (power-next j k)
     go below (no l) = let e : i ≡ suc j = omega arith in rw e (le_refl (power (suc j)))
+
+pub ruleset table_entries = (power_table-at)

@@ -49,10 +49,12 @@ weighted_sum-between row step j t p h = go (dec_le (suc t) step)
         let all : step - 0 ≡ step = omega arith in
         rw (e, at, none, within row step (suc j) 0 p, all) (omega arith)
 
-pub interpolated-rise : (row : List ℕ) (step x : ℕ) → 0 < step → entry_before row step x ≤ entry_after row step x
-    → interpolated row step x ≡ entry_before row step x + (entry_after row step x - entry_before row step x) * (x % step) / step
-unfolding weighted_sum interpolated
-interpolated-rise row step x p h = rise (entry_before row step x) (entry_after row step x) (x % step) h (mod-lt x p)
+-- over rising entries, the one before x and the one after
+pub interpolated-rise : (row : List ℕ) (step x : ℕ) → 0 < step → get_or row (x / step) 0 ≤ get_or row (div_up x step) 0
+    → interpolated row step x
+    ≡ get_or row (x / step) 0 + (get_or row (div_up x step) 0 - get_or row (x / step) 0) * (x % step) / step
+unfolding entry_before entry_after weighted_sum interpolated
+interpolated-rise row step x p h = rise (get_or row (x / step) 0) (get_or row (div_up x step) 0) (x % step) h (mod-lt x p)
   where
     rise : (b a t : ℕ) → b ≤ a → t < step → (b * (step - t) + a * t) / step ≡ b + (a - b) * t / step
     rise b a t k l =

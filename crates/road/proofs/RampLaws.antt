@@ -69,3 +69,5 @@ module _ (k : ℕ) (h : k ≤ 48) where
         leb→le (entry ^ 25 * 6 ^ 21) (3220 ^ 25 * k ^ 21) (ends_at-passes (ramp_at_most k) entry entry-ends),
         λ t e. ends_at-most (ramp_at_most k) entry t (ramp_at_most-falls k) entry-ends (le→leb (t ^ 25 * 6 ^ 21) (3220 ^ 25 * k ^ 21) e),
       )
+
+pub ruleset table_entries = (ramp_table-at)

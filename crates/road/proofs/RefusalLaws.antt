@@ -20,6 +20,7 @@ use Rattle.numbers.proofs.BoolLaws.{or-false}
 use Rattle.checks.specs.Refusals.{first_refusal, found, outside}
 use Rattle.checks.proofs.RefusalLaws.{numbered, first_refusal-none, first_refusal-join, first_refusal-found, found-none, none-met, none-of}
 use Rattle.checks.proofs.RefusalLaws.{within, inside}
+use Rattle.checks.proofs.NumberLaws.{in_turn}
 use Rattle.curve.specs.declared.kind.Kind.{Kind}
 use Rattle.curve.specs.declared.Weather.{Weather}
 use Rattle.curve.specs.Kinds.{lowest_factor, fewest_lanes, most_lanes}
@@ -47,7 +48,8 @@ pub fields-numbered : (case : Case) → T (numbered (field_refusals case))
 unfolding field_refusals road_refusals load_refusals
 fields-numbered case = tt
 
-pub ruleset numbered_parts = (road-numbered, section-numbered, load-numbered)
+-- for tactics, where code asks one part after another
+pub ruleset asked_in_turn = (in_turn, road-numbered, section-numbered, load-numbered)
 
 pub field_refusals-found : (case : Case)
     → first_refusal (field_refusals_with (found (first_refusal (load_refusals case))) case) ≡ first_refusal (field_refusals case)
@@ -87,18 +89,22 @@ pub fields-road : (case : Case) → FieldsFit case → RoadFits case.road
 fields-road case z = section-road case (fields-parts case z).0
 
 -- ---- the ends that they leave
-pub record RoadEnds (road : Road) : Type 0 where
-  pub speed-low : 30000 ≤ road.speed
-  pub access-high : road.access ≤ most_access road.kind
-
-pub road-ends : (road : Road) → RoadFits road → RoadEnds road
+road-ends : (road : Road) → RoadFits road → (30000 ≤ road.speed) × (road.access ≤ most_access road.kind)
 unfolding road_refusals
 road-ends road z =
     let none = none-met (road_refusals road) tt z in
-    record {
-      speed-low = (within 30000 90000 road.speed none.0).0;
-      access-high = ltb-false (most_access road.kind) road.access none.1.1.1.1.0;
-    }
+    ((within 30000 90000 road.speed none.0).0, ltb-false (most_access road.kind) road.access none.1.1.1.1.0)
+
+pub road-speed-low : (road : Road) → RoadFits road → 30000 ≤ road.speed
+road-speed-low road z = (road-ends road z).0
+
+pub freeway-ramps-high : (road : Road) → RoadFits road → road.kind ≡ Kind.Freeway → road.access ≤ 48
+freeway-ramps-high road z e = rw e at (road-ends road z).1
+
+pub multilane-access-high : (road : Road) → RoadFits road → road.kind ≡ Kind.Multilane → road.access ≤ 200
+multilane-access-high road z e = rw e at (road-ends road z).1
+
+pub ruleset road_ends = (road-speed-low, freeway-ramps-high, multilane-access-high)
 
 pub loads-exactly : (case : Case)
     → (first_refusal (load_refusals case) ≡ 0)
