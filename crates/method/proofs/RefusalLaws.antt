@@ -24,6 +24,11 @@ use Rattle.checks.proofs.RefusalLaws.{numbered, first_refusal-none, first_refusa
 use Rattle.checks.proofs.RefusalLaws.{first_refusal-met, first_refusal-found, none-met}
 use Rattle.curve.specs.Kinds.{lowest_speed, lowest_adjusted_speed}
 use Rattle.curve.specs.Weather.{adjusted_speed}
+use Rattle.curve.proofs.WeatherLaws.{curve_under-worked}
+use Rattle.checks.specs.declared.Refusal.TheVariants as Refusal
+use Rattle.checks.specs.Numbers.{refusal_of}
+use Rattle.checks.proofs.NumberLaws.{refusal_of-number}
+use Rattle.road.proofs.FreeFlowSpeedLaws.{free_flow_speed_of-le}
 use Rattle.road.specs.declared.Case.{Case}
 use Rattle.road.specs.Cases.{with_demand}
 use Rattle.road.specs.FreeFlowSpeed.{free_flow_speed_of}
@@ -119,3 +124,9 @@ accepted-with_demand case demand a h =
     refusal-within (with_demand case demand) h
     ∙ sym (refusal-within case (load-ends case (accepted-fields case a)).demand-high)
     ∙ a
+
+pub refusal_of-ten : refusal_of 10 ≡ Refusal.SpeedBelowLowerEnd
+refusal_of-ten = refusal_of-number Refusal.SpeedBelowLowerEnd
+
+-- for tactics
+pub ruleset ten_laws = (free_flow_speed_of-le, curve_under-worked, refusal_of-ten)
