@@ -28,6 +28,7 @@ pub fn checked_curve(road: &Road, weather: Weather, lanes: u64) -> Result<Curve,
     Ok(curve)
 }
 
+#[tactic(auto, using(crate::proofs::CheckedLaws::check_laws))]
 pub fn check(case: &Case) -> Result<Curve, Refusal>
     ensures { result ≡ checked case.now }
 {
