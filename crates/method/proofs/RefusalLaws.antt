@@ -96,6 +96,9 @@ parts case a = first_refusal-join (field_refusals case) (own_speed case) (fields
 pub accepted-fields : (case : Case) → Accepted case → FieldsFit case
 accepted-fields case a = (parts case a).0
 
+pub accepted-demand : (case : Case) → Accepted case → case.demand ≤ greatest_demand
+accepted-demand case a = (load-ends case (accepted-fields case a)).demand-high
+
 pub accepted-speed : (case : Case) → Accepted case → lowest_speed case.road.kind ≤ free_flow_speed_of case.road case.lanes
 unfolding speed_refusals
 accepted-speed case a =
@@ -122,11 +125,13 @@ refusal-above case h =
 pub accepted-with_demand : (case : Case) (demand : ℕ) → Accepted case → demand ≤ greatest_demand → Accepted (with_demand case demand)
 accepted-with_demand case demand a h =
     refusal-within (with_demand case demand) h
-    ∙ sym (refusal-within case (load-ends case (accepted-fields case a)).demand-high)
+    ∙ sym (refusal-within case (accepted-demand case a))
     ∙ a
 
 pub refusal_of-ten : refusal_of 10 ≡ Refusal.SpeedBelowLowerEnd
 refusal_of-ten = refusal_of-number Refusal.SpeedBelowLowerEnd
 
 -- for tactics
+pub ruleset accepted_ends = (accepted-demand)
+
 pub ruleset ten_laws = (free_flow_speed_of-le, curve_under-worked, refusal_of-ten)

@@ -62,6 +62,7 @@ impl AcceptedCase {
         }
     }
 
+    #[tactic(auto, using(crate::proofs::RefusalLaws::accepted_ends))]
     pub fn measures(&self) -> Measures
         ensures { result ≡ measures self.now.case }
     {
