@@ -79,3 +79,7 @@ pub checked_curve-refused : (case : Case) (r : Refusal) → FieldsFit case
     → checked_curve case.road case.weather case.lanes ≡ Err r
     → 0 < refusal case
 checked_curve-refused case r z e = ok_unless-above (refusal case) (case_curve case) r (sym (checked_curve-eq case z) ∙ e)
+
+pub ruleset found_laws = (checked-accepted, accepted-fields)
+
+pub ruleset answer_laws = (by-accepted, by-refused)
