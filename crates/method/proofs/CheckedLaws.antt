@@ -1,6 +1,5 @@
 -- The curve of a case, or its refusal (specs/Checked).
 --   case_curve-well_formed, case_curve-sized   the curve of an accepted case
---   case_curve-kind      its kind is the road's
 --   checked_curve-eq     a case that 1 to 9 and 19 do not refuse: 10 alone is checked
 --   checked-accepted     a case that is checked and found with a curve is accepted, and the curve is its own
 --   checked-curve        which is well formed and within the sizes
@@ -36,10 +35,6 @@ case_curve-well_formed case a = (fits case a).0
 
 pub case_curve-sized : (case : Case) → Accepted case → Sized (case_curve case)
 case_curve-sized case a = (fits case a).1
-
-pub case_curve-kind : (case : Case) → (case_curve case).kind ≡ case.road.kind
-unfolding curve_of curve_under
-case_curve-kind case = refl
 
 pub checked_curve-eq : (case : Case) → FieldsFit case → checked_curve case.road case.weather case.lanes ≡ checked case
 checked_curve-eq case z = ap (λ n. ok_unless n (case_curve case)) (sym (refusals-fields case z))

@@ -5,7 +5,6 @@
 --   refusals-with           the number of 7 to 9 stands for them
 --   with-accepted           a case that 1 to 6, what is asked in the place of 7 to 9, 19 and 10 do not refuse: none of the four does
 --   with-of                 where the first two do not refuse, 19 and 10 decide
---   refusals_with-fields    a case that 1 to 6, a number in the place of 7 to 9, and 19 do not refuse: 10 decides
 --   refusals-fields         a case that 1 to 9 and 19 do not refuse: 10 decides
 --   accepted-fields         what is accepted: neither 1 to 9 nor 19 refuse it
 --   accepted-speed, accepted-adjusted   F of an accepted case is at its lower end or above, before its factor and after it
@@ -32,9 +31,9 @@ use Rattle.road.proofs.FreeFlowSpeedLaws.{free_flow_speed_of-le}
 use Rattle.road.specs.declared.Case.{Case}
 use Rattle.road.specs.Cases.{with_demand}
 use Rattle.road.specs.FreeFlowSpeed.{free_flow_speed_of}
-use Rattle.road.specs.Refusals.{greatest_demand, road_refusals, section_refusals, load_refusals, weather_refusals, field_refusals_with}
+use Rattle.road.specs.Refusals.{greatest_demand, road_refusals, section_refusals, load_refusals, weather_refusals}
 use Rattle.road.specs.Refusals.{field_refusals, SectionFits, FieldsFit}
-use Rattle.road.proofs.RefusalLaws.{section-numbered, load-numbered, fields-numbered, with-parts, load-ends}
+use Rattle.road.proofs.RefusalLaws.{section-numbered, load-numbered, fields-numbered, load-ends}
 use Rattle.method.specs.Refusals.{speed_refusals, refusals_with, refusals, refusal, Accepted}
 
 abbrev own_speed : Case → List Condition
@@ -76,14 +75,6 @@ with-of loads case t section none =
 pub refusals-with : (case : Case) → first_refusal (refusals_with (found (first_refusal (load_refusals case))) case) ≡ refusal case
 unfolding field_refusals refusals
 refusals-with case = refusals_with-found (load_refusals case) case (load-numbered case)
-
-pub refusals_with-fields : (case : Case) (loads : ℕ) → first_refusal (field_refusals_with (found loads) case) ≡ 0
-    → first_refusal (refusals_with (found loads) case) ≡ first_refusal (own_speed case)
-refusals_with-fields case loads z =
-    let (section, none, weather) = with-parts case loads z in
-    ap first_refusal (refusals_with-joined (found loads) case)
-    ∙ first_refusal-none (section_refusals case) (found loads ++ (weather_refusals case ++ own_speed case)) (section-numbered case) section
-    ∙ rw none (first_refusal-none (weather_refusals case) (own_speed case) tt weather)
 
 pub refusals-fields : (case : Case) → FieldsFit case → refusal case ≡ first_refusal (own_speed case)
 unfolding refusals

@@ -1,7 +1,6 @@
 -- Tests, and choices by a test.
 --   T-true, T-false     a test that is true passes; one that is false does not
 --   and-both, and-left, and-right   two tests that both pass
---   or-false            two tests of which none is met
 --   leb-iff             tests of facts that hold together are equal
 --   leb-test            a test of a fact is equal to a test that passes exactly when it holds
 --   cond-all            what holds of both outcomes holds of the choice
@@ -10,7 +9,7 @@
 --   cond-leb-mono       x ≤ limit, else worse: with a larger x no less
 --   cond-leb-antitone   x ≤ limit, else smaller: with a larger x no more
 -- Assumes nothing.
-use mathlib.Core.Bool.{Bool, true, false, cond, ◌&&◌, ◌||◌, true≢false}
+use mathlib.Core.Bool.{Bool, true, false, cond, ◌&&◌}
 use mathlib.Core.Path.{◌≡◌, refl, sym, subst}
 use mathlib.Core.Logic.{◌↔◌}
 use Prim.Native.Nat.{ℕ, ◌≤◌}
@@ -37,10 +36,6 @@ and-left false b t = t
 pub and-right : (a b : Bool) → T (a && b) → T b
 and-right true b t = t
 and-right false b t = absurd t
-
-pub or-false : (a b : Bool) → (a || b) ≡ false → (a ≡ false) × (b ≡ false)
-or-false true b e = absurd (true≢false e)
-or-false false b e = (refl, e)
 
 pub leb-iff : (a b c d : ℕ) → (a ≤ b) ↔ (c ≤ d) → leb a b ≡ leb c d
 leb-iff a b c d e = go (dec_le a b)

@@ -7,14 +7,14 @@ use mathlib.Core.List.{List, [], ◌∷◌, ◌++◌, flat_map, append_assoc, ap
 use Prim.Native.Nat.{ℕ, suc, ◌+◌, ◌*◌, ◌<◌}
 use native.Mathlib.Numerals.{add-one}
 use native.Mathlib.Omega.{arith}
+use Rattle.std.proofs.lemmas.Grind.{flat_map-append}
 use lib.ListN.{length, take, drop, get_or, length-append}
 use lib.Seq.{take-suc, length-take-le, split_at, drop_at, take_at}
 
 module _ {A : Type 0} (row : A → List ℕ) where
   pub rows-append : (xs ys : List A) → flat_map row (xs ++ ys) ≡ flat_map row xs ++ flat_map row ys
   unfolding flat_map
-  rows-append [] ys = refl
-  rows-append (x ∷ xs) ys = ap (λ l. row x ++ l) (rows-append xs ys) ∙ sym (append_assoc (row x) (flat_map row xs) (flat_map row ys))
+  rows-append = flat_map-append row
 
   pub rows-next : (xs : List A) (i : ℕ) (d : A) → i < length xs
       → flat_map row (take (i + 1) xs) ≡ flat_map row (take i xs) ++ row (get_or xs i d)

@@ -1,6 +1,4 @@
 -- Refusals 1 to 9 and 19 (specs/Refusals).
---   field_refusals-found  the number of 7 to 9 stands for them
---   with-parts            a case that 1 to 6, a number in the place of 7 to 9, and 19 do not refuse: none of the three does
 --   section-road, fields-road   a case that none of 1 to 6 refuses, or none of them: 1 to 5 do not refuse its road
 --   road-numbered, section-numbered, load-numbered, fields-numbered   every number is above 0
 --   RoadEnds, road-ends  the ends that 1 and 5 leave to a road
@@ -16,9 +14,9 @@ use mathlib.Core.Logic.{◌↔◌}
 use Prim.Native.Nat.{ℕ, ◌≤◌}
 use borrow.Author.Tests.{ltb-false, le-ltb}
 use lib.Dec.{T}
-use Rattle.numbers.proofs.BoolLaws.{or-false}
-use Rattle.checks.specs.Refusals.{first_refusal, found, outside}
-use Rattle.checks.proofs.RefusalLaws.{numbered, first_refusal-none, first_refusal-join, first_refusal-found, found-none, none-met, none-of}
+use Rattle.std.proofs.lemmas.Bool.{or_parts}
+use Rattle.checks.specs.Refusals.{first_refusal, outside}
+use Rattle.checks.proofs.RefusalLaws.{numbered, first_refusal-none, first_refusal-join, none-met, none-of}
 use Rattle.checks.proofs.RefusalLaws.{within, inside}
 use Rattle.checks.proofs.NumberLaws.{in_turn}
 use Rattle.curve.specs.declared.kind.Kind.{Kind}
@@ -29,7 +27,7 @@ use Rattle.road.specs.declared.Road.{Road}
 use Rattle.road.specs.declared.Case.{Case}
 use Rattle.road.specs.Cases.{with_lanes}
 use Rattle.road.specs.Refusals.{most_access, greatest_demand, weather_unfit, road_refusals, lane_refusals, section_refusals}
-use Rattle.road.specs.Refusals.{load_refusals, weather_refusals, field_refusals_with, field_refusals, RoadFits, SectionFits, FieldsFit}
+use Rattle.road.specs.Refusals.{load_refusals, weather_refusals, field_refusals, RoadFits, SectionFits, FieldsFit}
 
 -- ---- the parts of the list
 pub road-numbered : (road : Road) → T (numbered (road_refusals road))
@@ -51,22 +49,14 @@ fields-numbered case = tt
 -- for tactics, where code asks one part after another
 pub ruleset asked_in_turn = (in_turn, road-numbered, section-numbered, load-numbered)
 
-pub field_refusals-found : (case : Case)
-    → first_refusal (field_refusals_with (found (first_refusal (load_refusals case))) case) ≡ first_refusal (field_refusals case)
-unfolding field_refusals
-field_refusals-found case = first_refusal-found (section_refusals case) (load_refusals case) (weather_refusals case) (load-numbered case)
-
-pub with-parts : (case : Case) (loads : ℕ) → first_refusal (field_refusals_with (found loads) case) ≡ 0
-    → SectionFits case × (loads ≡ 0) × (first_refusal (weather_refusals case) ≡ 0)
-with-parts case loads z =
-    let p = first_refusal-join (section_refusals case) (found loads ++ weather_refusals case) (section-numbered case) z in
-    let q = found-none loads (weather_refusals case) p.1 in
-    (p.0, q.0, q.1)
-
 -- a case that none of them refuses: neither 1 to 6 nor 7 to 9 nor 19 do; and the converse
 fields-parts : (case : Case) → FieldsFit case
     → SectionFits case × (first_refusal (load_refusals case) ≡ 0) × (first_refusal (weather_refusals case) ≡ 0)
-fields-parts case z = with-parts case (first_refusal (load_refusals case)) (field_refusals-found case ∙ z)
+unfolding field_refusals
+fields-parts case z =
+    let p = first_refusal-join (section_refusals case) (load_refusals case ++ weather_refusals case) (section-numbered case) z in
+    let q = first_refusal-join (load_refusals case) (weather_refusals case) (load-numbered case) p.1 in
+    (p.0, q.0, q.1)
 
 fields-of : (case : Case) → SectionFits case → first_refusal (load_refusals case) ≡ 0 → first_refusal (weather_refusals case) ≡ 0
     → FieldsFit case
@@ -154,7 +144,7 @@ weather-exactly kind weather = (to, from)
 
     to : weather_unfit kind weather ≡ false → FactorsFit kind weather
     to e =
-        let none = or-false (outside low 1000 weather.speed_factor) (outside low 1000 weather.capacity_factor) e in
+        let none = or_parts (outside low 1000 weather.speed_factor) (outside low 1000 weather.capacity_factor) e in
         let speed = within low 1000 weather.speed_factor none.0 in
         let capacity = within low 1000 weather.capacity_factor none.1 in
         record { speed-low = speed.0; speed-high = speed.1; capacity-low = capacity.0; capacity-high = capacity.1 }
