@@ -9,10 +9,8 @@
 --   refusal_number-ok_unless      its own number
 --   first_refusal-err, first_refusal-ok   of a joined list, by what the first part says
 -- Assumes nothing.
-use Rattle.std.proofs.Common.{◌≡◌, refl, sym, ℕ, suc, ◌-◌, ◌≤◌, ◌<◌, Result, Ok, Err, T, eqb, eqb→eq, subst, lit<, lit≤, arith, Bool, true, false, cond, ◌∙◌, List, ◌++◌}
-use borrow.Author.Tests.{ne_eqb}
-use mathlib.Core.Logic.{⊎_elim}
-use native.Mathlib.Nat.{eq-zero-or-pos}
+use Rattle.std.proofs.Common.{◌≡◌, refl, sym, ℕ, suc, ◌-◌, ◌≤◌, ◌<◌, Result, Ok, Err, T, eqb, eqb→eq, subst, lit<, lit≤, arith, Bool, true}
+use Rattle.std.proofs.Common.{false, cond, ◌∙◌, List, ◌++◌, ne_eqb, ⊎_elim, eq-zero-or-pos}
 use Rattle.numbers.specs.Table.{every_up_to}
 use Rattle.numbers.proofs.TableLaws.{every_up_to-at}
 use Rattle.checks.specs.declared.Refusal.{Refusal}

@@ -15,15 +15,8 @@
 --   first_refusal-met       a refusal that is met, behind those of no greater number and before those of no smaller one: by the list
 --                           in which it is not met
 -- Assumes nothing.
-use mathlib.Core.Path.{◌≡◌, refl, sym, ap, ◌∙◌}
-use mathlib.Core.Bool.{Bool, true, false, cond, ◌&&◌}
-use mathlib.Core.List.{List, [], ◌∷◌, ◌++◌}
-use mathlib.Core.Logic.{⊎_elim}
-use Prim.Native.Nat.{ℕ, suc, ◌≤◌, ◌<◌, min}
-use native.Mathlib.Nat.{eq-zero-or-pos}
-use native.Mathlib.Omega.{arith}
-use borrow.Author.Tests.{ltb-false, lt-ltb, le-ltb, ne_eqb}
-use lib.Dec.{T, leb, ltb, eqb, leb→le, ltb→lt, eqb→eq}
+use Rattle.std.proofs.Common.{◌≡◌, refl, sym, ap, ◌∙◌, Bool, true, false, cond, ◌&&◌, List, [], ◌∷◌, ◌++◌, ⊎_elim, ℕ, suc, ◌≤◌, ◌<◌, min}
+use Rattle.std.proofs.Common.{eq-zero-or-pos, arith, ltb-false, lt-ltb, le-ltb, ne_eqb, T, leb, ltb, eqb, leb→le, ltb→lt, eqb→eq}
 use Rattle.std.proofs.lemmas.Bool.{or_parts}
 use Rattle.numbers.proofs.BoolLaws.{and-left, and-right, cond-le}
 use Rattle.checks.specs.Refusals.{Condition, refuses, first_refusal, found, by_turns, lesser_refusal, unless_refused, outside}

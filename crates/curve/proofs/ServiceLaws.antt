@@ -18,15 +18,10 @@
 --   letter_at-zero      without flow the letter is A
 --   speed-mono          with a higher free-flow speed the speed never falls, of either kind
 -- Assumes nothing.
-use mathlib.Core.Path.{◌≡◌, refl, ap}
-use mathlib.Core.Bool.{Bool, true, false, cond}
-use mathlib.Core.Logic.{◌↔◌}
-use Prim.Native.Nat.{ℕ, zero, suc, ◌*◌, ◌/◌, ◌≤◌, ◌<◌}
-use native.Mathlib.Omega.{arith}
-use native.Mathlib.Nat.{le_trans, le_of_eq, zero-mul, mul-le-mul_right, div-one}
-use native.Mathlib.Decide.{dec_le}
-use borrow.Author.Tests.{le-leb, lt-leb}
-use lib.Dec.{T, leb, eqb, leb→le, le→leb}
+use Rattle.std.proofs.Common.{◌≡◌, refl, ap, Bool, true, false, cond, ◌↔◌, ℕ, zero, suc, ◌*◌, ◌/◌, ◌≤◌, ◌<◌, arith, le_trans, le_of_eq}
+use Rattle.std.proofs.Common.{zero-mul, mul-le-mul_right, div-one, le-leb, T, leb, eqb, leb→le, le→leb}
+use Rattle.std.proofs.Math.Decide.{dec_le}
+use Rattle.std.proofs.lemmas.Bool.{lt-leb}
 use Rattle.numbers.specs.declared.Fraction.{Fraction}
 use Rattle.numbers.specs.Division.{div_up}
 use Rattle.numbers.specs.Fraction.{over, whole, times, divided_by, rounded_down, AtMost}

@@ -2,8 +2,7 @@
 --   boundary-shown   each figure of the list is what is to be shown
 --   ramp-6, ramp-24, power-500   entries of the two tables
 -- Assumes nothing.
-use mathlib.Core.Path.{◌≡◌, refl}
-use native.Mathlib.Omega.{arith}
+use Rattle.std.proofs.Common.{◌≡◌, refl, arith}
 use Rattle.numbers.specs.Division.{div_up}
 use Rattle.numbers.specs.Search.{starts_at, ends_at}
 use Rattle.checks.specs.Figures.{Shown}

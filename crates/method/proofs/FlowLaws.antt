@@ -6,10 +6,7 @@
 --   case_flow_rate-mono   it rises with demand, share and equivalent, and falls with peak-hour factor and lanes
 --   flow_rate_of-zero    of no demand it is 0
 -- Assumes nothing.
-use mathlib.Core.Path.{◌≡◌, ap, ◌∙◌}
-use Prim.Native.Nat.{ℕ, ◌*◌, ◌-◌, ◌≤◌, ◌<◌}
-use native.Mathlib.Omega.{arith}
-use native.Mathlib.Nat.{mul-le-mul, mul-pos, zero-mul}
+use Rattle.std.proofs.Common.{◌≡◌, ap, ◌∙◌, ℕ, ◌*◌, ◌-◌, ◌≤◌, ◌<◌, arith, mul-le-mul, mul-pos, zero-mul}
 use Rattle.numbers.specs.Division.{div_up}
 use Rattle.numbers.proofs.DivisionLaws.{div_up-mono, div_up-zero}
 use Rattle.curve.proofs.KindLaws.{kind-ends}

@@ -12,12 +12,7 @@
 --                          greatest; with a greater one 7, unless one of 1 to 6 comes before it
 --   accepted-with_demand    an accepted case is accepted with every demand up to the greatest
 -- Assumes nothing.
-use mathlib.Core.Path.{◌≡◌, sym, ap, ◌∙◌}
-use mathlib.Core.List.{List, ◌++◌, append_assoc}
-use Prim.Native.Nat.{ℕ, ◌≤◌, ◌<◌, min}
-use borrow.Author.Tests.{ltb-false, le-ltb, lt-ltb}
-use lib.Dec.{T}
-use lib.ListN.{take, drop}
+use Rattle.std.proofs.Common.{◌≡◌, sym, ap, ◌∙◌, List, ◌++◌, append_assoc, ℕ, ◌≤◌, ◌<◌, min, ltb-false, le-ltb, lt-ltb, T, take, drop}
 use Rattle.checks.specs.Refusals.{Condition, first_refusal, found, unless_refused}
 use Rattle.checks.proofs.RefusalLaws.{numbered, first_refusal-none, first_refusal-join, first_refusal-le}
 use Rattle.checks.proofs.RefusalLaws.{first_refusal-met, first_refusal-found, none-met}

@@ -9,15 +9,9 @@
 --   cond-leb-mono       x ≤ limit, else worse: with a larger x no less
 --   cond-leb-antitone   x ≤ limit, else smaller: with a larger x no more
 -- Assumes nothing.
-use mathlib.Core.Bool.{Bool, true, false, cond, ◌&&◌}
-use mathlib.Core.Path.{◌≡◌, refl, sym, subst}
-use mathlib.Core.Logic.{◌↔◌}
-use Prim.Native.Nat.{ℕ, ◌≤◌}
-use native.Mathlib.Omega.{arith}
-use native.Mathlib.Nat.{le_refl, le_trans}
-use native.Mathlib.Decide.{dec_le}
-use borrow.Author.Tests.{le-leb, lt-leb}
-use lib.Dec.{T, leb}
+use Rattle.std.proofs.Common.{Bool, true, false, cond, ◌&&◌, ◌≡◌, refl, sym, subst, ◌↔◌, ℕ, ◌≤◌, arith, le_refl, le_trans, le-leb, T, leb}
+use Rattle.std.proofs.Math.Decide.{dec_le}
+use Rattle.std.proofs.lemmas.Bool.{lt-leb}
 
 pub T-true : (b : Bool) → b ≡ true → T b
 T-true b e = subst T (sym e) tt

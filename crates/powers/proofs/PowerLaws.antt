@@ -5,15 +5,10 @@
 --   power-mono        T rises
 --   power-le          no T is above 1,000,000
 -- Assumes nothing.
-use mathlib.Core.Path.{◌≡◌, refl}
-use mathlib.Core.Bool.{Bool, ◌&&◌}
-use mathlib.Core.List.{◌∷◌}
-use Prim.Native.Nat.{ℕ, zero, suc, ◌*◌, ◌^◌, ◌≤◌}
-use native.Mathlib.Omega.{arith}
-use native.Mathlib.Decide.{dec_le}
-use native.Mathlib.Nat.{le_trans, le_refl, pow-le-pow_left}
-use lib.Dec.{T, leb, leb→le, le→leb}
-use lib.ListN.{get_or, length}
+use Rattle.std.proofs.Common.{◌≡◌, refl, Bool, ◌&&◌, ◌∷◌, ℕ, zero, suc, ◌*◌, ◌^◌, ◌≤◌, arith, le_trans, le_refl, T, leb, leb→le, le→leb}
+use Rattle.std.proofs.Common.{get_or, length}
+use Rattle.std.proofs.Math.Decide.{dec_le}
+use Rattle.std.proofs.Math.Nat.{pow-le-pow_left}
 use Rattle.numbers.specs.Search.{UpwardClosed, starts_at}
 use Rattle.numbers.specs.Table.{every_entry}
 use Rattle.numbers.proofs.SearchLaws.{least-first}

@@ -8,16 +8,10 @@
 --   total_clearance_row-line-le                                                 the line of a row of kind M is at most 5,400
 --   total_clearance_row-rises, total_clearance_row-after-le                     its entries on both sides of a place
 -- Assumes nothing.
-use mathlib.Core.Path.{◌≡◌}
-use mathlib.Core.Bool.{Bool}
-use mathlib.Core.List.{List}
-use Prim.Native.Nat.{ℕ, ◌*◌, ◌-◌, ◌/◌, ◌≤◌, min}
-use native.Mathlib.Omega.{arith}
-use native.Mathlib.Decide.{dec_le}
-use native.Mathlib.Nat.{mul-le-mul, mul-le-mul_left, le_refl, le_trans}
-use borrow.Author.Tests.{le-leb, lt-leb}
-use lib.Dec.{T, leb, eqb, leb→le, eqb→eq}
-use lib.ListN.{get_or}
+use Rattle.std.proofs.Common.{◌≡◌, Bool, List, ℕ, ◌*◌, ◌-◌, ◌/◌, ◌≤◌, min, arith, mul-le-mul, mul-le-mul_left, le_refl, le_trans, le-leb, T}
+use Rattle.std.proofs.Common.{leb, eqb, leb→le, eqb→eq, get_or}
+use Rattle.std.proofs.Math.Decide.{dec_le}
+use Rattle.std.proofs.lemmas.Bool.{lt-leb}
 use Rattle.numbers.specs.Division.{div_up}
 use Rattle.numbers.specs.Table.{every_up_to}
 use Rattle.numbers.proofs.DivisionLaws.{div_ceil-eq}

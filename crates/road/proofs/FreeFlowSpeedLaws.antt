@@ -6,10 +6,7 @@
 --   free_flow_speed_of-le     F is at most its upper end
 --   free_flow_speed_of-given  a given F is the same with any lanes
 -- Assumes nothing.
-use mathlib.Core.Path.{◌≡◌}
-use Prim.Native.Nat.{ℕ, ◌+◌, ◌-◌, ◌≤◌}
-use native.Mathlib.Omega.{arith}
-use native.Mathlib.Nat.{le_refl}
+use Rattle.std.proofs.Common.{◌≡◌, ℕ, ◌+◌, ◌-◌, ◌≤◌, arith, le_refl}
 use Rattle.curve.specs.declared.kind.Kind.{Kind}
 use Rattle.road.specs.declared.Way.{Way}
 use Rattle.road.specs.declared.Road.{Road}

@@ -2,13 +2,10 @@
 --   weighted_sum-between   from each entry to the next it is the straight line, both ends included
 --   interpolated-rise      where the entries rise: the entry before and its part of the rise
 -- Assumes nothing.
-use mathlib.Core.Path.{◌≡◌}
-use mathlib.Core.List.{List}
-use Prim.Native.Nat.{ℕ, zero, suc, ◌+◌, ◌*◌, ◌-◌, ◌/◌, ◌%◌, ◌≤◌, ◌<◌}
-use native.Mathlib.Omega.{arith}
-use native.Mathlib.Decide.{dec_le}
-use native.Mathlib.Nat.{div-eq_of_lt-le, div-add-mod', add-mul-div_right, mod-lt, mul-sub, mul_comm, mul-le-mul_left}
-use lib.ListN.{get_or}
+use Rattle.std.proofs.Common.{◌≡◌, List, ℕ, zero, suc, ◌+◌, ◌*◌, ◌-◌, ◌/◌, ◌%◌, ◌≤◌, ◌<◌, arith, div-add-mod', mod-lt, mul_comm}
+use Rattle.std.proofs.Common.{mul-le-mul_left, get_or}
+use Rattle.std.proofs.Math.Decide.{dec_le}
+use Rattle.std.proofs.Math.Nat.{div-eq_of_lt-le, add-mul-div_right, mul-sub}
 use Rattle.numbers.specs.Division.{div_up}
 use Rattle.numbers.proofs.DivisionLaws.{div_up-suc}
 use Rattle.road.specs.Interpolation.{entry_before, entry_after, weighted_sum, interpolated}

@@ -2,9 +2,7 @@
 --   straight-between-entries, clearances-are-whole, right-clearance-by-tenths, ramp-term-is-greatest, estimate-never-below-zero,
 --   free-flow-speed-never-falls-with-lanes, weather-fits-exactly
 -- Assumes nothing.
-use mathlib.Core.Path.{◌≡◌}
-use Prim.Native.Nat.{◌≤◌, min}
-use native.Mathlib.Omega.{arith}
+use Rattle.std.proofs.Common.{◌≡◌, ◌≤◌, min, arith}
 use Rattle.road.specs.FreeFlowSpeed.{estimated_by}
 use Rattle.road.specs.Laws.{StraightBetweenEntries, ClearancesAreWhole, RightClearanceByTenths, RampTermIsGreatest}
 use Rattle.road.specs.Laws.{EstimateNeverBelowZero, FreeFlowSpeedNeverFallsWithLanes, WeatherFitsExactly}

@@ -7,13 +7,7 @@
 --   weather-exactly, weather-fits, fields-weather   the factors that 19 lets pass
 --   fields-with_lanes     a case that none of them refuses is so with every lane count of the kind
 -- Assumes nothing.
-use mathlib.Core.Path.{◌≡◌, ◌∙◌}
-use mathlib.Core.Bool.{false}
-use mathlib.Core.List.{◌++◌}
-use mathlib.Core.Logic.{◌↔◌}
-use Prim.Native.Nat.{ℕ, ◌≤◌}
-use borrow.Author.Tests.{ltb-false, le-ltb}
-use lib.Dec.{T}
+use Rattle.std.proofs.Common.{◌≡◌, ◌∙◌, false, ◌++◌, ◌↔◌, ℕ, ◌≤◌, ltb-false, le-ltb, T}
 use Rattle.std.proofs.lemmas.Bool.{or_parts}
 use Rattle.checks.specs.Refusals.{first_refusal, outside}
 use Rattle.checks.proofs.RefusalLaws.{numbered, first_refusal-none, first_refusal-join, none-met, none-of}
