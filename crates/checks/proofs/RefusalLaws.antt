@@ -18,6 +18,7 @@
 use Rattle.std.proofs.Common.{◌≡◌, refl, sym, ap, ◌∙◌, Bool, true, false, cond, ◌&&◌, List, [], ◌∷◌, ◌++◌, ⊎_elim, ℕ, suc, ◌≤◌, ◌<◌, min}
 use Rattle.std.proofs.Common.{eq-zero-or-pos, arith, ltb-false, lt-ltb, le-ltb, ne_eqb, T, leb, ltb, eqb, leb→le, ltb→lt, eqb→eq}
 use Rattle.std.proofs.lemmas.Bool.{or_parts}
+use Rattle.std.proofs.lemmas.Bool.Decides.{nat_tests}
 use Rattle.numbers.proofs.BoolLaws.{and-left, and-right, cond-le}
 use Rattle.checks.specs.Refusals.{Condition, refuses, first_refusal, found, by_turns, lesser_refusal, unless_refused, outside}
 
@@ -116,20 +117,16 @@ rises_with (r ∷ rs) (s ∷ ss) =
 
 pub lesser_refusal-same : (n : ℕ) → lesser_refusal n n ≡ n
 unfolding lesser_refusal
-lesser_refusal-same n = ⊎_elim (λ z. rw z) (λ p. simp (ne_eqb n 0 (λ e. omega arith)) (omega arith)) (eq-zero-or-pos n)
+lesser_refusal-same n = grind (arith, nat_tests)
 
 -- the number that two lines share, met in the one or the other, before what the lines after them say
 lesser-head : (n f g : ℕ) (a b : Bool) → 0 < n → (0 < f → suc n ≤ f) → (0 < g → suc n ≤ g)
     → cond a n (cond b n (lesser_refusal f g)) ≡ lesser_refusal (cond a n f) (cond b n g)
 unfolding lesser_refusal
 lesser-head n f g false false p h k = refl
-lesser-head n f g true true p h k = simp (ne_eqb n 0 (λ e. omega arith)) (omega arith)
-lesser-head n f g true false p h k =
-    simp (ne_eqb n 0 (λ e. omega arith))
-    (⊎_elim (λ z. rw z) (λ q. simp (ne_eqb g 0 (λ e. omega arith)) (omega (arith, k q))) (eq-zero-or-pos g))
-lesser-head n f g false true p h k =
-    ⊎_elim (λ z. rw z)
-    (λ q. simp (ne_eqb f 0 (λ e. omega arith), ne_eqb n 0 (λ e. omega arith)) (omega (arith, h q))) (eq-zero-or-pos f)
+lesser-head n f g true true p h k = grind (arith, nat_tests)
+lesser-head n f g true false p h k = grind (arith, nat_tests)
+lesser-head n f g false true p h k = grind (arith, nat_tests)
 
 pub first_refusal-by_turns : (rs ss : List Condition) → T (rises_with rs ss)
     → first_refusal (by_turns rs ss) ≡ lesser_refusal (first_refusal rs) (first_refusal ss)
@@ -152,8 +149,7 @@ first_refusal-by_turns (r ∷ rs) (s ∷ ss) t =
 
 -- ---- ranges
 pub within : (low high n : ℕ) → outside low high n ≡ false → (low ≤ n) × (n ≤ high)
-within low high n e =
-    let p = or_parts (ltb n low) (ltb high n) e in (ltb-false n low p.0, ltb-false high n p.1)
+within low high n e = (grind (arith, nat_tests), grind (arith, nat_tests))
 
 pub inside : (low high n : ℕ) → low ≤ n → n ≤ high → outside low high n ≡ false
 inside low high n h k = simp (le-ltb n low h, le-ltb high n k)

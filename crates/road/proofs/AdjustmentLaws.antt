@@ -17,7 +17,8 @@ use Rattle.numbers.specs.Table.{every_up_to}
 use Rattle.numbers.proofs.DivisionLaws.{div_ceil-eq}
 use Rattle.road.proofs.InterpolationLaws.{interpolated-rise}
 use Rattle.numbers.proofs.TableLaws.{every_up_to-at}
-use Rattle.numbers.proofs.BoolLaws.{cond-all, cond-le, cond-leb-antitone}
+use Rattle.numbers.proofs.BoolLaws.{cond-all}
+use Rattle.std.proofs.lemmas.Bool.Decides.{nat_tests}
 use Rattle.road.specs.declared.Median.{Median}
 use Rattle.road.specs.Interpolation.{entry_before, entry_after, weighted_sum, interpolated}
 use Rattle.road.specs.Adjustments.{lane_width_adjustment, per_missing_foot, right_clearance_row, right_clearance_adjustment}
@@ -26,7 +27,7 @@ use Rattle.road.specs.Adjustments.{total_clearance_adjustment, median_adjustment
 
 pub lane_width_adjustment-le : (w : ℕ) → lane_width_adjustment w ≤ 6600
 unfolding lane_width_adjustment
-lane_width_adjustment-le w = cond-le (leb 120 w) (omega arith) (cond-le (leb 110 w) (omega arith) (omega arith))
+lane_width_adjustment-le w = grind (arith, nat_tests)
 
 -- what holds of the four rates holds with any lanes
 per_missing_foot-all : (P : ℕ → Type 0) → P 600 → P 400 → P 200 → P 100 → (n : ℕ) → P (per_missing_foot n)
@@ -38,10 +39,7 @@ per_missing_foot-le = per_missing_foot-all (λ p. p ≤ 600) (omega arith) (omeg
 
 per_missing_foot-antitone : (m n : ℕ) → m ≤ n → per_missing_foot n ≤ per_missing_foot m
 unfolding per_missing_foot
-per_missing_foot-antitone m n h =
-    cond-leb-antitone m n 2 h (cond-le (leb n 3) (omega arith) (cond-le (leb n 4) (omega arith) (omega arith)))
-    (cond-leb-antitone m n 3 h (cond-le (leb n 4) (omega arith) (omega arith))
-    (cond-leb-antitone m n 4 h (omega arith) (omega arith)))
+per_missing_foot-antitone m n h = grind (arith, nat_tests)
 
 -- a test that passes at each tenth to 60 with each of the four rates passes at any right clearance with any lanes
 at-rate : (p : ℕ → ℕ → Bool) → T (every_up_to (p 600) 60) → T (every_up_to (p 400) 60) → T (every_up_to (p 200) 60) → T (every_up_to (p 100) 60)

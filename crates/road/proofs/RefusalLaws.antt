@@ -7,8 +7,9 @@
 --   weather-exactly, weather-fits, fields-weather   the factors that 19 lets pass
 --   fields-with_lanes     a case that none of them refuses is so with every lane count of the kind
 -- Assumes nothing.
-use Rattle.std.proofs.Common.{◌≡◌, ◌∙◌, false, ◌++◌, ◌↔◌, ℕ, ◌≤◌, ltb-false, le-ltb, T}
+use Rattle.std.proofs.Common.{arith, ◌≡◌, ◌∙◌, false, ◌++◌, ◌↔◌, ℕ, ◌≤◌, ltb-false, le-ltb, T}
 use Rattle.std.proofs.lemmas.Bool.{or_parts}
+use Rattle.std.proofs.lemmas.Bool.Decides.{nat_tests}
 use Rattle.checks.specs.Refusals.{first_refusal, outside}
 use Rattle.checks.proofs.RefusalLaws.{numbered, first_refusal-none, first_refusal-join, none-met, none-of}
 use Rattle.checks.proofs.RefusalLaws.{within, inside}
@@ -73,20 +74,17 @@ pub fields-road : (case : Case) → FieldsFit case → RoadFits case.road
 fields-road case z = section-road case (fields-parts case z).0
 
 -- ---- the ends that they leave
-road-ends : (road : Road) → RoadFits road → (30000 ≤ road.speed) × (road.access ≤ most_access road.kind)
-unfolding road_refusals
-road-ends road z =
-    let none = none-met (road_refusals road) tt z in
-    ((within 30000 90000 road.speed none.0).0, ltb-false (most_access road.kind) road.access none.1.1.1.1.0)
-
 pub road-speed-low : (road : Road) → RoadFits road → 30000 ≤ road.speed
-road-speed-low road z = (road-ends road z).0
+unfolding road_refusals
+road-speed-low road z = grind (arith, nat_tests)
 
 pub freeway-ramps-high : (road : Road) → RoadFits road → road.kind ≡ Kind.Freeway → road.access ≤ 48
-freeway-ramps-high road z e = rw e at (road-ends road z).1
+unfolding road_refusals
+freeway-ramps-high road z e = grind (arith, nat_tests)
 
 pub multilane-access-high : (road : Road) → RoadFits road → road.kind ≡ Kind.Multilane → road.access ≤ 200
-multilane-access-high road z e = rw e at (road-ends road z).1
+unfolding road_refusals
+multilane-access-high road z e = grind (arith, nat_tests)
 
 pub ruleset road_ends = (road-speed-low, freeway-ramps-high, multilane-access-high)
 
@@ -96,15 +94,8 @@ pub loads-exactly : (case : Case)
     × (case.heavy_share ≤ 1000))
 unfolding load_refusals
 loads-exactly case = (
-  λ z.
-      let none = none-met (load_refusals case) tt z in
-      let factor = within 250 1000 case.peak_hour_factor none.1.0 in
-      (ltb-false greatest_demand case.demand none.0, factor.0, factor.1, ltb-false 1000 case.heavy_share none.1.1.0),
-  λ (demand, low, high, share).
-      none-of (load_refusals case) (
-        le-ltb greatest_demand case.demand demand,
-        (inside 250 1000 case.peak_hour_factor low high, (le-ltb 1000 case.heavy_share share, tt)),
-      ),
+  λ z. (grind (arith, nat_tests), grind (arith, nat_tests), grind (arith, nat_tests), grind (arith, nat_tests)),
+  λ (demand, low, high, share). grind (arith, nat_tests),
 )
 
 pub record LoadEnds (case : Case) : Type 0 where
@@ -131,24 +122,16 @@ load-ends case z =
 
 pub weather-exactly : (kind : Kind) (weather : Weather) → (weather_unfit kind weather ≡ false) ↔ FactorsFit kind weather
 unfolding weather_unfit
-weather-exactly kind weather = (to, from)
-  where
-    low : ℕ
-    low = lowest_factor kind
-
-    to : weather_unfit kind weather ≡ false → FactorsFit kind weather
-    to e =
-        let none = or_parts (outside low 1000 weather.speed_factor) (outside low 1000 weather.capacity_factor) e in
-        let speed = within low 1000 weather.speed_factor none.0 in
-        let capacity = within low 1000 weather.capacity_factor none.1 in
-        record { speed-low = speed.0; speed-high = speed.1; capacity-low = capacity.0; capacity-high = capacity.1 }
-
-    from : FactorsFit kind weather → weather_unfit kind weather ≡ false
-    from fit =
-        simp (
-          inside low 1000 weather.speed_factor fit.speed-low fit.speed-high,
-          inside low 1000 weather.capacity_factor fit.capacity-low fit.capacity-high,
-        )
+weather-exactly kind weather = (
+  λ e.
+      record {
+        speed-low = grind (arith, nat_tests);
+        speed-high = grind (arith, nat_tests);
+        capacity-low = grind (arith, nat_tests);
+        capacity-high = grind (arith, nat_tests);
+      },
+  λ fit. grind (arith, nat_tests),
+)
 
 pub weather-fits : (case : Case) → first_refusal (weather_refusals case) ≡ 0 → FactorsFit case.road.kind case.weather
 weather-fits case w = (weather-exactly case.road.kind case.weather).0 (none-met (weather_refusals case) tt w).0
