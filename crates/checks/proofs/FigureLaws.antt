@@ -1,7 +1,7 @@
 -- Figures of boundary sections (specs/Figures).
 --   Shown-append   a longer list: what the layers above add
 -- Assumes nothing.
-use mathlib.Core.List.{List, [], ◌∷◌, ◌++◌}
+use Rattle.std.proofs.Common.{List, [], ◌∷◌, ◌++◌}
 use Rattle.checks.specs.Figures.{Figure, Shown}
 
 pub Shown-append : (fs gs : List Figure) → Shown fs → Shown gs → Shown (fs ++ gs)

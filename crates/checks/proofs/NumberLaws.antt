@@ -11,10 +11,9 @@
 --   refusal_number-ok_unless      its own number
 --   first_refusal-err, first_refusal-ok   of a joined list, by what the first part says
 -- Assumes nothing.
-use Rattle.std.proofs.Common.{◌≡◌, refl, sym, ℕ, suc, ◌-◌, ◌≤◌, ◌<◌, Result, Ok, Err, T, eqb, eqb→eq, subst, lit<, lit≤, arith, Bool, true, false, cond, ◌∙◌, List, ◌++◌}
-use borrow.Author.Tests.{ne_eqb}
-use mathlib.Core.Logic.{⊎_elim}
-use native.Mathlib.Nat.{eq-zero-or-pos}
+use Rattle.std.proofs.Common.{◌≡◌, refl, sym, ℕ, suc, ◌-◌, ◌≤◌, ◌<◌, Result, Ok, Err, T, eqb, eqb→eq, subst, lit<, lit≤, arith, Bool, true}
+use Rattle.std.proofs.Common.{false, cond, ◌∙◌, List, ◌++◌, ne_eqb, ⊎_elim, eq-zero-or-pos}
+use Rattle.std.proofs.lemmas.Bool.Decides.{nat_tests}
 use Rattle.numbers.specs.Table.{every_up_to}
 use Rattle.numbers.proofs.TableLaws.{every_up_to-at}
 use Rattle.checks.specs.declared.Refusal.{Refusal}
@@ -96,30 +95,15 @@ ok_unless-by n a P none some =
     ⊎_elim (λ z. rw (ok_unless-none n a z) (none z)) (λ p. rw (ok_unless-some n a p) (some p)) (eq-zero-or-pos n)
 
 -- what such an answer tells of the number, and of another with the same number
-ok-by : {A : Type 0} (n : ℕ) (a b : A) (t : Bool) → eqb n 0 ≡ t → ◌≡◌ {A = Result A Refusal} (cond t (Ok a) (Err (refusal_of n))) (Ok b)
-    → (n ≡ 0) × (b ≡ a)
-ok-by n a b true e found = (eqb→eq n 0 (rw e tt), cc found)
-ok-by n a b false e found = cc found
-
 pub ok_unless-found : {A : Type 0} (n : ℕ) (a b : A) → ◌≡◌ {A = Result A Refusal} (ok_unless n a) (Ok b) → (n ≡ 0) × (b ≡ a)
-ok_unless-found n a b found = ok-by n a b (eqb n 0) refl found
-
-above-by : {A : Type 0} (n : ℕ) (a : A) (r : Refusal) (t : Bool) → eqb n 0 ≡ t
-    → ◌≡◌ {A = Result A Refusal} (cond t (Ok a) (Err (refusal_of n))) (Err r) → 0 < n
-above-by n a r true e found = cc found
-above-by n a r false e found = ⊎_elim (λ z. let o : eqb n 0 ≡ true = rw z refl in cc (e, o)) (λ p. p) (eq-zero-or-pos n)
+ok_unless-found n a b found = (grind (arith, nat_tests), grind (arith, nat_tests))
 
 pub ok_unless-above : {A : Type 0} (n : ℕ) (a : A) (r : Refusal) → ◌≡◌ {A = Result A Refusal} (ok_unless n a) (Err r) → 0 < n
-ok_unless-above n a r found = above-by n a r (eqb n 0) refl found
-
-err-by : {A B : Type 0} (n : ℕ) (a : A) (b : B) (r : Refusal) (t : Bool) → ◌≡◌ {A = Result A Refusal} (cond t (Ok a) (Err (refusal_of n))) (Err r)
-    → ◌≡◌ {A = Result B Refusal} (Err r) (cond t (Ok b) (Err (refusal_of n)))
-err-by n a b r true found = cc found
-err-by n a b r false found = let e : refusal_of n ≡ r = cc found in rw e refl
+ok_unless-above n a r found = grind (arith, nat_tests)
 
 pub ok_unless-refused : {A B : Type 0} (n : ℕ) (a : A) (b : B) (r : Refusal) → ◌≡◌ {A = Result A Refusal} (ok_unless n a) (Err r)
     → ◌≡◌ {A = Result B Refusal} (Err r) (ok_unless n b)
-ok_unless-refused n a b r found = err-by n a b r (eqb n 0) found
+ok_unless-refused n a b r found = grind (arith, nat_tests)
 
 -- ---- a list behind another
 pub first_refusal-err : (rs ss : List Condition) (r : Refusal) → number r ≡ first_refusal rs → number r ≡ first_refusal (rs ++ ss)

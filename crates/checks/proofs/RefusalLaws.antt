@@ -7,27 +7,19 @@
 --   at_least, first_refusal-ge   no number is below the least
 --   within, inside         a number that is not outside a range
 --   unless_refused-none, unless_refused-some, unless_refused-by   the answer by its number
---   unless_refused-refused  an answer that is another was refused
 --   unless_refused-number   where a definition gives each answer's number: that of this one
---   unless_refused-found    an answer with number 0 was not refused
 --   first_refusal-found     a number that was found stands for the list that it was found in
---   found-none              a number and a list that refuse nothing: neither does
 --   rises_with rs ss        two lists with the same numbers above 0, each greater than those before it
 --   lesser_refusal-same     the lesser of a number and itself
 --   first_refusal-by_turns  of two such lists that are asked by turns: the lesser number
 --   first_refusal-met       a refusal that is met, behind those of no greater number and before those of no smaller one: by the list
 --                           in which it is not met
 -- Assumes nothing.
-use mathlib.Core.Path.{◌≡◌, refl, sym, ap, ◌∙◌}
-use mathlib.Core.Bool.{Bool, true, false, cond, ◌&&◌}
-use mathlib.Core.List.{List, [], ◌∷◌, ◌++◌}
-use mathlib.Core.Logic.{⊎_elim}
-use Prim.Native.Nat.{ℕ, suc, ◌≤◌, ◌<◌, min}
-use native.Mathlib.Nat.{eq-zero-or-pos}
-use native.Mathlib.Omega.{arith}
-use borrow.Author.Tests.{ltb-false, lt-ltb, le-ltb, ne_eqb}
-use lib.Dec.{T, leb, ltb, eqb, leb→le, ltb→lt, eqb→eq}
-use Rattle.numbers.proofs.BoolLaws.{and-left, and-right, or-false, cond-le}
+use Rattle.std.proofs.Common.{◌≡◌, refl, sym, ap, ◌∙◌, Bool, true, false, cond, ◌&&◌, List, [], ◌∷◌, ◌++◌, ⊎_elim, ℕ, suc, ◌≤◌, ◌<◌, min}
+use Rattle.std.proofs.Common.{eq-zero-or-pos, arith, ltb-false, lt-ltb, le-ltb, ne_eqb, T, leb, ltb, eqb, leb→le, ltb→lt, eqb→eq}
+use Rattle.std.proofs.lemmas.Bool.{or_parts}
+use Rattle.std.proofs.lemmas.Bool.Decides.{nat_tests}
+use Rattle.numbers.proofs.BoolLaws.{and-left, and-right, cond-le}
 use Rattle.checks.specs.Refusals.{Condition, refuses, first_refusal, found, by_turns, lesser_refusal, unless_refused, outside}
 
 -- ---- the first of a list
@@ -114,10 +106,6 @@ first_refusal-found [] ls ss t =
     (λ p. rw (lt-ltb 0 (first_refusal ls) p) (sym (first_refusal-some ls ss p))) (eq-zero-or-pos (first_refusal ls))
 first_refusal-found (r ∷ rs) ls ss t = ap (cond r.met r.number) (first_refusal-found rs ls ss t)
 
-pub found-none : (n : ℕ) (ss : List Condition) → first_refusal (found n ++ ss) ≡ 0 → (n ≡ 0) × (first_refusal ss ≡ 0)
-found-none n ss z =
-    ⊎_elim (λ e. (e, rw e at z)) (λ p. absurd (let e : n ≡ 0 = rw (lt-ltb 0 n p) at z in omega arith)) (eq-zero-or-pos n)
-
 -- ---- two lists by turns
 abbrev pub rises_with : List Condition → List Condition → Bool
 rises_with [] [] = true
@@ -129,20 +117,16 @@ rises_with (r ∷ rs) (s ∷ ss) =
 
 pub lesser_refusal-same : (n : ℕ) → lesser_refusal n n ≡ n
 unfolding lesser_refusal
-lesser_refusal-same n = ⊎_elim (λ z. rw z) (λ p. simp (ne_eqb n 0 (λ e. omega arith)) (omega arith)) (eq-zero-or-pos n)
+lesser_refusal-same n = grind (arith, nat_tests)
 
 -- the number that two lines share, met in the one or the other, before what the lines after them say
 lesser-head : (n f g : ℕ) (a b : Bool) → 0 < n → (0 < f → suc n ≤ f) → (0 < g → suc n ≤ g)
     → cond a n (cond b n (lesser_refusal f g)) ≡ lesser_refusal (cond a n f) (cond b n g)
 unfolding lesser_refusal
 lesser-head n f g false false p h k = refl
-lesser-head n f g true true p h k = simp (ne_eqb n 0 (λ e. omega arith)) (omega arith)
-lesser-head n f g true false p h k =
-    simp (ne_eqb n 0 (λ e. omega arith))
-    (⊎_elim (λ z. rw z) (λ q. simp (ne_eqb g 0 (λ e. omega arith)) (omega (arith, k q))) (eq-zero-or-pos g))
-lesser-head n f g false true p h k =
-    ⊎_elim (λ z. rw z)
-    (λ q. simp (ne_eqb f 0 (λ e. omega arith), ne_eqb n 0 (λ e. omega arith)) (omega (arith, h q))) (eq-zero-or-pos f)
+lesser-head n f g true true p h k = grind (arith, nat_tests)
+lesser-head n f g true false p h k = grind (arith, nat_tests)
+lesser-head n f g false true p h k = grind (arith, nat_tests)
 
 pub first_refusal-by_turns : (rs ss : List Condition) → T (rises_with rs ss)
     → first_refusal (by_turns rs ss) ≡ lesser_refusal (first_refusal rs) (first_refusal ss)
@@ -165,8 +149,7 @@ first_refusal-by_turns (r ∷ rs) (s ∷ ss) t =
 
 -- ---- ranges
 pub within : (low high n : ℕ) → outside low high n ≡ false → (low ≤ n) × (n ≤ high)
-within low high n e =
-    let p = or-false (ltb n low) (ltb high n) e in (ltb-false n low p.0, ltb-false high n p.1)
+within low high n e = (grind (arith, nat_tests), grind (arith, nat_tests))
 
 pub inside : (low high n : ℕ) → low ≤ n → n ≤ high → outside low high n ≡ false
 inside low high n h k = simp (le-ltb n low h, le-ltb high n k)
@@ -183,17 +166,9 @@ module _ {A : Type 0} (n : ℕ) (answer : A) (refused : ℕ → A) where
   unless_refused-by P none some =
       ⊎_elim (λ e. rw (unless_refused-none e) (none e)) (λ p. rw (unless_refused-some p) (some p)) (eq-zero-or-pos n)
 
-  pub unless_refused-refused : (found : A) → unless_refused n answer refused ≡ found → (found ≡ answer → ⊥) → 0 < n
-  unless_refused-refused found e differs =
-      ⊎_elim (λ z. absurd (differs (sym e ∙ unless_refused-none z))) (λ p. p) (eq-zero-or-pos n)
-
   module _ (number : A → ℕ) (none : number answer ≡ 0) (own : (k : ℕ) → number (refused k) ≡ k) where
     pub unless_refused-number : number (unless_refused n answer refused) ≡ n
     unless_refused-number = unless_refused-by (λ a. number a ≡ n) (λ e. none ∙ sym e) (λ p. own n)
-
-    pub unless_refused-found : (found : A) → unless_refused n answer refused ≡ found → number found ≡ 0 → (n ≡ 0) × (found ≡ answer)
-    unless_refused-found found e z =
-        let zero : n ≡ 0 = sym unless_refused-number ∙ ap number e ∙ z in (zero, sym e ∙ unless_refused-none zero)
 
 -- ---- a refusal in the middle of a list
 pub first_refusal-met : (n : ℕ) (rs ss : List Condition) → T (numbered rs) → T (up_to n rs) → T (at_least n ss)

@@ -6,8 +6,7 @@
 --   curve_at-well_formed   the curve at an F between the kind's ends is well formed
 --   curve_at-sized         and within the ends that 64 bits want
 -- Assumes nothing.
-use Prim.Native.Nat.{ℕ, ◌≤◌}
-use native.Mathlib.Omega.{arith}
+use Rattle.std.proofs.Common.{ℕ, ◌≤◌, arith}
 use Rattle.curve.specs.declared.kind.Kind.{Kind}
 use Rattle.curve.specs.Kinds.{lowest_speed, highest_speed, lowest_capacity, highest_capacity}
 use Rattle.curve.specs.Curves.{capacity, breakpoint, curve_at, WellFormed, Sized}

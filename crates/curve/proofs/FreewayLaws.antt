@@ -5,11 +5,10 @@
 --   lift                 the order of two speeds from that of their polynomials, of either kind
 --   freeway_speed-mono   AtMost (speed at f) (speed at g) for f ≤ g
 -- Assumes nothing.
-use mathlib.Core.Path.{◌≡◌}
-use Prim.Native.Nat.{ℕ, ◌+◌, ◌*◌, ◌-◌, ◌≤◌}
-use native.Mathlib.Omega.{arith}
-use native.Mathlib.Nat.{mul-le-mul, mul-le-mul_left, mul-le-mul_right, mul-sub, mul_comm, le_trans, add-sub_of_le}
-use native.Mathlib.Decide.{dec_le}
+use Rattle.std.proofs.Common.{◌≡◌, ℕ, ◌+◌, ◌*◌, ◌-◌, ◌≤◌, arith, mul-le-mul, mul-le-mul_left, mul-le-mul_right, mul_comm, le_trans}
+use Rattle.std.proofs.Common.{add-sub_of_le}
+use Rattle.std.proofs.Math.Nat.{mul-sub}
+use Rattle.std.proofs.Math.Decide.{dec_le}
 use Rattle.numbers.specs.Fraction.{AtMost}
 use Rattle.numbers.proofs.FractionLaws.{AtMost-trans}
 use Rattle.curve.specs.declared.kind.Kind.TheVariants as Kind

@@ -1,8 +1,7 @@
 -- What each kind carries (specs/Kinds): bounds that hold for both.
 --   KindEnds, kind-ends   the ends of F and of the lane count
 -- Assumes nothing.
-use Prim.Native.Nat.{◌≤◌}
-use native.Mathlib.Omega.{arith}
+use Rattle.std.proofs.Common.{◌≤◌, arith}
 use Rattle.curve.specs.declared.kind.Kind.{Kind}
 use Rattle.curve.specs.Kinds.{lowest_speed, highest_speed, fewest_lanes, most_lanes}
 

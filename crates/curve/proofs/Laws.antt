@@ -4,8 +4,7 @@
 --   speed-never-falls-with-free-flow-speed, density-meets-limit-by-exact-speed, density-at-most-450, letter-never-better-with-flow,
 --   letter-never-better
 -- Assumes nothing.
-use mathlib.Core.Path.{refl}
-use native.Mathlib.Omega.{arith}
+use Rattle.std.proofs.Common.{refl, arith}
 use Rattle.curve.specs.declared.kind.Kind.TheVariants as Kind
 use Rattle.curve.specs.Curves.{capacity}
 use Rattle.curve.specs.Laws.{CapacityWithinEnds, CapacityReachesEnds, ClearWeatherChangesNothing, CurveUnderIsWellFormed}

@@ -2,9 +2,7 @@
 -- the speed at capacity grows by no more than F does.
 --   multilane_speed-mono   AtMost (speed at f) (speed at g) for f ≤ g
 -- Assumes nothing.
-use Prim.Native.Nat.{ℕ, ◌+◌, ◌*◌, ◌-◌, ◌≤◌}
-use native.Mathlib.Omega.{arith}
-use native.Mathlib.Nat.{mul-le-mul_left, mul-le-mul_right, add-sub_of_le}
+use Rattle.std.proofs.Common.{ℕ, ◌+◌, ◌*◌, ◌-◌, ◌≤◌, arith, mul-le-mul_left, mul-le-mul_right, add-sub_of_le}
 use Rattle.numbers.specs.Fraction.{AtMost}
 use Rattle.numbers.proofs.DivisionLaws.{div_up-mono}
 use Rattle.powers.specs.Power.{power}

@@ -18,21 +18,17 @@
 --   letter_at-zero      without flow the letter is A
 --   speed-mono          with a higher free-flow speed the speed never falls, of either kind
 -- Assumes nothing.
-use mathlib.Core.Path.{◌≡◌, refl, ap}
-use mathlib.Core.Bool.{Bool, true, false, cond}
-use mathlib.Core.Logic.{◌↔◌}
-use Prim.Native.Nat.{ℕ, zero, suc, ◌*◌, ◌/◌, ◌≤◌, ◌<◌}
-use native.Mathlib.Omega.{arith}
-use native.Mathlib.Nat.{le_trans, le_of_eq, zero-mul, mul-le-mul_right, div-one}
-use native.Mathlib.Decide.{dec_le}
-use borrow.Author.Tests.{le-leb, lt-leb}
-use lib.Dec.{T, leb, eqb, leb→le, le→leb}
+use Rattle.std.proofs.Common.{◌≡◌, refl, ap, Bool, true, false, cond, ◌↔◌, ℕ, zero, suc, ◌*◌, ◌/◌, ◌≤◌, ◌<◌, arith, le_trans, le_of_eq}
+use Rattle.std.proofs.Common.{zero-mul, mul-le-mul_right, div-one, le-leb, T, leb, eqb, leb→le, le→leb}
+use Rattle.std.proofs.Math.Decide.{dec_le}
+use Rattle.std.proofs.lemmas.Bool.{lt-leb}
+use Rattle.std.proofs.lemmas.Bool.Decides.{nat_tests}
 use Rattle.numbers.specs.declared.Fraction.{Fraction}
 use Rattle.numbers.specs.Division.{div_up}
 use Rattle.numbers.specs.Fraction.{over, whole, times, divided_by, rounded_down, AtMost}
 use Rattle.numbers.proofs.DivisionLaws.{div_up-le-iff, div_up-zero}
 use Rattle.numbers.proofs.FractionLaws.{AtMost-trans, rounded_down-mono, rounded_down-eq, rounded_up-mono, rounded_up-eq, divided_by-mono, quotient-le-iff}
-use Rattle.numbers.proofs.BoolLaws.{and-left, and-right, leb-iff, cond-le, le-cond, cond-leb-mono}
+use Rattle.numbers.proofs.BoolLaws.{and-left, and-right}
 use Rattle.curve.specs.declared.kind.Kind.{Kind}
 use Rattle.curve.specs.declared.Curve.{Curve}
 use Rattle.curve.specs.declared.service.Letter.{Letter}
@@ -72,9 +68,7 @@ unfolding meets_limit
 limit-exact curve v limit s ok h exact =
     let dense = density-exact curve v s ok h exact in
     let iff = div_up-le-iff (10000 * v * s.denominator) s.numerator limit exact.numerator-pos in
-    simp (le-leb (100 * v) curve.capacity h)
-    (leb-iff (10000 * v * s.denominator) (limit * s.numerator) (density curve v) limit
-    (λ k. rw dense at (iff.1 k), λ k. iff.0 (rw dense k)))
+    grind (arith, nat_tests, dense, iff.0, iff.1)
 
 -- what the three are worked from such a fraction, and past capacity
 pub performance-exact : (curve : Curve) (v : ℕ) (s : Fraction) → WellFormed curve → 100 * v ≤ curve.capacity → ExactSpeed curve v s
@@ -156,16 +150,7 @@ density_letter-number d = simp letter_number-cond
 
 grade_number-mono : (d e : ℕ) → d ≤ e → grade_number d ≤ grade_number e
 unfolding grade_number
-grade_number-mono d e h =
-    let from5 : 5 ≤ cond (leb e (density_limit 5)) 5 6 = le-cond (leb e (density_limit 5)) (omega arith) (omega arith) in
-    let from4 : 4 ≤ cond (leb e (density_limit 4)) 4 (cond (leb e (density_limit 5)) 5 6) =
-    le-cond (leb e (density_limit 4)) (omega arith) (omega arith) in
-    let from3 : 3 ≤ cond (leb e (density_limit 3)) 3 (cond (leb e (density_limit 4)) 4 (cond (leb e (density_limit 5)) 5 6)) =
-    le-cond (leb e (density_limit 3)) (omega arith) (omega arith) in
-    cond-leb-mono d e (density_limit 1) h (le-cond (leb e (density_limit 2)) (omega arith) (omega arith))
-    (cond-leb-mono d e (density_limit 2) h (omega arith)
-    (cond-leb-mono d e (density_limit 3) h (omega arith)
-    (cond-leb-mono d e (density_limit 4) h (omega arith) (cond-leb-mono d e (density_limit 5) h (omega arith) (omega arith)))))
+grade_number-mono d e h = grind (arith, nat_tests)
 
 pub density_letter-mono : (d e : ℕ) → d ≤ e → letter_number (density_letter d) ≤ letter_number (density_letter e)
 density_letter-mono d e h = rw (density_letter-number d, density_letter-number e) (grade_number-mono d e h)
@@ -182,29 +167,14 @@ pub letter_at-zero : (curve : Curve) → WellFormed curve → letter_at curve 0 
 unfolding letter_at density_letter density_limit
 letter_at-zero curve ok = simp (le-leb (100 * 0) curve.capacity (omega arith), density-zero curve ok)
 
-grade-iff : (d l limit : ℕ) → grade_number limit ≡ l → grade_number (suc limit) ≡ suc l → (grade_number d ≤ l) ↔ (d ≤ limit)
-grade-iff d l limit at next = (back (dec_le d limit), λ h. omega (arith, grade_number-mono d limit h))
-  where
-    back : Dec (d ≤ limit) → grade_number d ≤ l → d ≤ limit
-    back (yes h) k = h
-    back (no h) k = absurd (omega (arith, grade_number-mono (suc limit) d (omega arith)))
-
 -- the limits of A to E
 limit-iff : (d l : ℕ) → 1 ≤ l → l ≤ 5 → (grade_number d ≤ l) ↔ (d ≤ density_limit l)
 unfolding grade_number density_limit
-limit-iff d zero h k = absurd (omega arith)
-limit-iff d (suc zero) h k = grade-iff d 1 (density_limit 1) refl refl
-limit-iff d (suc (suc zero)) h k = grade-iff d 2 (density_limit 2) refl refl
-limit-iff d (suc (suc (suc zero))) h k = grade-iff d 3 (density_limit 3) refl refl
-limit-iff d (suc (suc (suc (suc zero)))) h k = grade-iff d 4 (density_limit 4) refl refl
-limit-iff d (suc (suc (suc (suc (suc zero))))) h k = grade-iff d 5 (density_limit 5) refl refl
-limit-iff d (suc (suc (suc (suc (suc (suc l)))))) h k = absurd (omega arith)
+limit-iff d l h k = (λ e. grind (arith, nat_tests), λ e. grind (arith, nat_tests))
 
 pub density_limit-le : (l : ℕ) → density_limit l ≤ 450
 unfolding density_limit
-density_limit-le l =
-    cond-le (eqb l 1) (omega arith)
-    (cond-le (eqb l 2) (omega arith) (cond-le (eqb l 3) (omega arith) (cond-le (eqb l 4) (omega arith) (omega arith))))
+density_limit-le l = grind (arith, nat_tests)
 
 pub letter_at-le-iff : (curve : Curve) (v l : ℕ) → 1 ≤ l → l ≤ 5
     → (letter_number (letter_at curve v) ≤ l) ↔ T (meets_limit curve v (density_limit l))

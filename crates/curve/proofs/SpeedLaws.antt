@@ -11,13 +11,11 @@
 --   speed-antitone         with more flow S never rises
 --   capacity_speed-le      S is at least the speed at capacity, 10c/45
 -- Assumes nothing.
-use mathlib.Core.Path.{◌≡◌, refl, sym}
-use Prim.Native.Nat.{ℕ, ◌*◌, ◌-◌, ◌≤◌, ◌<◌}
-use native.Mathlib.Omega.{arith}
-use native.Mathlib.Nat.{mul-le-mul, mul-le-mul_left, mul-le-mul_right, mul-pos, mul-sub, mul_comm, mul-zero, le_refl, le_of_eq, le_trans}
-use native.Mathlib.Nat.{sub-le, lt_of_lt_of_le}
-use native.Mathlib.Decide.{dec_le}
-use borrow.Author.Tests.{le-leb, lt-leb}
+use Rattle.std.proofs.Common.{◌≡◌, refl, sym, ℕ, ◌*◌, ◌-◌, ◌≤◌, ◌<◌, arith, mul-le-mul, mul-le-mul_left, mul-le-mul_right, mul-pos}
+use Rattle.std.proofs.Common.{mul_comm, mul-zero, le_refl, le_of_eq, le_trans, sub-le, lt_of_lt_of_le, le-leb}
+use Rattle.std.proofs.Math.Nat.{mul-sub}
+use Rattle.std.proofs.Math.Decide.{dec_le}
+use Rattle.std.proofs.lemmas.Bool.{lt-leb}
 use Rattle.numbers.specs.declared.Fraction.{Fraction}
 use Rattle.numbers.specs.Division.{div_up}
 use Rattle.numbers.specs.Fraction.{over, whole, AtMost, SameValue}

@@ -4,10 +4,8 @@
 --   multilane-clear         factors that fit kind M are those of clear weather
 --   curve_under-fits        with factors and speeds between their ends it is well formed and within the sizes
 -- Assumes nothing.
-use mathlib.Core.Path.{◌≡◌, refl, ap, sym, subst, ◌∙◌}
-use Prim.Native.Nat.{ℕ, ◌+◌, ◌*◌, ◌-◌, ◌/◌, ◌≤◌}
-use native.Mathlib.Omega.{arith}
-use native.Mathlib.Nat.{mul-le-mul_left, mul-le-mul_right, le_trans}
+use Rattle.std.proofs.Common.{◌≡◌, refl, ap, sym, subst, ◌∙◌, ℕ, ◌+◌, ◌*◌, ◌-◌, ◌/◌, ◌≤◌, arith, mul-le-mul_left, mul-le-mul_right}
+use Rattle.std.proofs.Common.{le_trans}
 use Rattle.curve.specs.declared.kind.Kind.{Kind}
 use Rattle.curve.specs.declared.Weather.{Weather}
 use Rattle.curve.specs.Kinds.{highest_speed, lowest_adjusted_speed}

@@ -17,7 +17,7 @@ use borrow.Author.Tests.{ltb-false}
 use lib.Dec.{ltb}
 use lib.ListN.{length, take, drop, get_or}
 use lib.Seq.{length-take-le}
-use Rattle.numbers.proofs.BoolLaws.{or-false}
+use Rattle.std.proofs.lemmas.Bool.{or_parts}
 use Rattle.numbers.proofs.RowsLaws.{rows-next, rows-length, rows-at}
 use Rattle.checks.specs.Refusals.{first_refusal, outside}
 use Rattle.checks.proofs.RefusalLaws.{none-met, unless_refused-none, unless_refused-some}
@@ -48,7 +48,7 @@ letter-second (Err r) = refl
 pub lent-room : (n room : ℕ) → LentFits n room → figure_count * n ≤ room
 unfolding lent_unfit lent_refusals
 lent-room n room z =
-    let none = or-false (outside 1 most_demands n) (ltb (room / figure_count) n) (none-met (lent_refusals n room) tt z).0 in
+    let none = or_parts (outside 1 most_demands n) (ltb (room / figure_count) n) (none-met (lent_refusals n room) tt z).0 in
     let enough : n ≤ room / figure_count = ltb-false (room / figure_count) n none.1 in
     omega arith
 

@@ -15,7 +15,7 @@ use borrow.Author.Tests.{le-ltb, ne_eqb}
 use lib.Dec.{ltb, eqb}
 use lib.ListN.{length, drop, get_or, length-append, length-drop}
 use lib.Seq.{drop_at}
-use Rattle.numbers.proofs.BoolLaws.{or-false}
+use Rattle.std.proofs.lemmas.Bool.{or_parts}
 use Rattle.checks.specs.declared.Refusal.{Refusal}
 use Rattle.checks.specs.Numbers.{refusal_of}
 use Rattle.checks.proofs.NumberLaws.{refusal_of-number}
@@ -165,7 +165,7 @@ refused-day-changes-nothing case demands old unfit =
 pub lent-fits-exactly : LentFitsExactly
 unfolding lent_unfit lent_refusals
 lent-fits-exactly n room = (
-  λ z. let ends = within 1 most_demands n (or-false (outside 1 most_demands n) (ltb (room / figure_count) n)
+  λ z. let ends = within 1 most_demands n (or_parts (outside 1 most_demands n) (ltb (room / figure_count) n)
       (none-met (lent_refusals n room) tt z).0).0 in
       (ends.0, ends.1, lent-room n room z),
   λ e. none-of (lent_refusals n room) (simp (inside 1 most_demands n e.0 e.1, le-ltb (room / figure_count) n (omega (arith, e.2))), tt),

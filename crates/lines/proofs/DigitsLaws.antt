@@ -2,12 +2,12 @@
 --   fits-more, fits-word    a number of i digits with one digit more; 64 bits hold it with another digit
 --   DigitsRead bs i n       the first i bytes of bs are digits of its first field, and spell n
 --   read-none, read-more    no digit is read; one more is
---   number-bad, number-long   a byte that is no digit follows, or a digit too many: malformed
---   number-all              no byte of the field follows: it is the number, unless there is no digit or a leading zero
+--   read-stops              a byte that is no digit follows, or a digit too many: malformed
+--   read-all                no byte of the field follows: it is the number, unless there is no digit or a leading zero
 -- Assumes nothing.
-use Rattle.std.proofs.Common.{◌≡◌, ℕ, suc, ◌+◌, ◌-◌, ◌*◌, ◌^◌, ◌≤◌, ◌<◌, Bool, true, false, cond, ◌||◌, ◌⊎◌, Some, None, option_map, List, [], ◌∷◌}
-use Rattle.std.proofs.Common.{sym, length, get_or, take, drop, eqb, refl, ◌∙◌, arith, add-one, pow-suc, lt_of_lt_of_le, drop-cons, ne_eqb, eq-eqb}
-use Rattle.std.proofs.Common.{length-take-le, drop_of_length-le, ⊎_elim, eq-or-lt_of_le}
+use Rattle.std.proofs.Common.{◌≡◌, ℕ, suc, ◌+◌, ◌-◌, ◌*◌, ◌^◌, ◌≤◌, ◌<◌, Bool, true, false, cond, ◌||◌, ◌⊎◌, Some, None}
+use Rattle.std.proofs.Common.{option_map, List, [], ◌∷◌, length, get_or, take, drop, eqb, refl, sym, ◌∙◌, arith, add-one, pow-suc, drop-cons}
+use Rattle.std.proofs.Common.{lt_of_lt_of_le, ne_eqb, eq-eqb, length-take-le, drop_of_length-le, ⊎_elim, eq-or-lt_of_le}
 use Rattle.std.proofs.lemmas.Grind.{common_steps}
 use native.Mathlib.Nat.{pow-le-pow_right}
 use Rattle.text.specs.Bytes.{tab}
@@ -53,8 +53,8 @@ module _ (bs : List ℕ) (i n : ℕ) (r : DigitsRead bs i n) where
     pub read-stops : (k : ℕ) (d : Bool) → d ≡ digit (get_or bs i 0) → (d ≡ false) ⊎ (i ≡ k) → None ≡ read_as (digits k) bs
     unfolding spelled number field_as
     read-stops k d e s =
-        let l : i < length (first_field bs) =
-        omega (arith, r.same-field, counted, length-take-le (count_before tab bs) bs (count_before-le tab bs)) in
+        let size = length-take-le (count_before tab bs) bs (count_before-le tab bs) in
+        let more : i < length (first_field bs) = omega (arith, r.same-field, counted) in
         ⊎_elim
         (λ f. let none : digit (get_or bs i 0) ≡ false = sym e ∙ f in rw (r.spells, next, none) (grind (arith, common_steps)))
         (λ m. grind (arith, common_steps)) s
@@ -70,8 +70,8 @@ module _ (bs : List ℕ) (i n : ℕ) (r : DigitsRead bs i n) where
     counts-all : count_before tab bs ≡ i
     counts-all = omega (arith, r.same-field, uncounted)
 
-    pub read-all : (k : ℕ) → i ≤ k
-        → read_as (digits k) bs ≡ cond (eqb (length (take i bs)) 0 || leading_zero (take i bs)) None (Some (record { value = n; length = i }))
+    pub read-all : (k : ℕ) → i ≤ k → read_as (digits k) bs
+        ≡ cond (eqb (length (take i bs)) 0 || leading_zero (take i bs)) None (Some (record { value = n; length = i }))
     unfolding spelled field_as
     read-all k few =
         let nothing : first_field (drop i bs) ≡ [] = rw uncounted in
@@ -79,6 +79,7 @@ module _ (bs : List ℕ) (i n : ℕ) (r : DigitsRead bs i n) where
         rw (counts-all, number-by k n (take i bs) (rw (length-take-le i bs h) few) (rw counts-all at spells))
         (map-cond (eqb (length (take i bs)) 0 || leading_zero (take i bs)))
       where
-        map-cond : (b : Bool) → option_map {U = FieldRead} (λ v. record { value = v; length = i }) (cond b None (Some n)) ≡ cond b None (Some (record { value = n; length = i }))
+        map-cond : (b : Bool) → option_map {U = FieldRead} (λ v. record { value = v; length = i }) (cond b None (Some n))
+            ≡ cond b None (Some (record { value = n; length = i }))
         map-cond true = refl
         map-cond false = refl

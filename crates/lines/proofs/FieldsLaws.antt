@@ -1,8 +1,8 @@
 -- The fields of a line, one after the other (specs/Fields).
 --   completed_from, completed_from-zero   the parts of a line from place j on, with the last two fields where the line has 13; from 0 on
---   after vs o      the values before, and those of the rest
---   Read vs bs ws   the values vs are read, and what is left of the line are the bytes bs: all values are ws
---   more-of, last-of   a field is read, with a tab behind it and at the line's end
+--   after, after-nil   the values before, and those of the rest
+--   read_as-none, read_as-some   what was handed on of a field
+--   more-of, last-of   a field read, with a tab behind it and at the line's end
 --   field-bad, too-many   a malformed field, and a field too many
 -- Assumes nothing.
 use Rattle.std.proofs.Common.{◌≡◌, ℕ, suc, ◌+◌, ◌≤◌, ◌<◌, cond, ◌||◌, Option, Some, None, option_map, List, [], ◌∷◌, ◌++◌}
@@ -57,20 +57,22 @@ after-joined vs v (Some ws) = ap Some (sym (append_assoc vs (v ∷ []) ws))
 
 -- what was handed on of a field
 pub read_as-none : (f : Field) (bs : List ℕ) → None ≡ read_as f bs → field_as f (first_field bs) ≡ None
-read_as-none f bs e = go (field_as f (first_field bs)) refl e
+read_as-none f bs e = go (field_as f (first_field bs)) e
   where
-    go : (o : Option ℕ) → field_as f (first_field bs) ≡ o → None ≡ option_map {U = FieldRead} (λ v. record { value = v; length = count_before tab bs }) o → field_as f (first_field bs) ≡ None
-    go None h k = h
-    go (Some v) h k = cc
+    go : (o : Option ℕ) → None ≡ option_map {U = FieldRead} (λ v. record { value = v; length = count_before tab bs }) o → o ≡ None
+    go None k = refl
+    go (Some v) k = cc
 
 pub read_as-some : (f : Field) (bs : List ℕ) (r : FieldRead) → Some r ≡ read_as f bs
-    → (field_as f (first_field bs) ≡ Some r.value) × (r.length ≡ count_before tab bs)
-read_as-some f bs r e = go (field_as f (first_field bs)) refl e
+    → (field_as f (first_field bs) ≡ Some r.value) × (r.length ≡ count_before tab bs) × (r.length ≤ length bs)
+read_as-some f bs r e = go (field_as f (first_field bs)) e
   where
-    go : (o : Option ℕ) → field_as f (first_field bs) ≡ o → Some r ≡ option_map {U = FieldRead} (λ v. record { value = v; length = count_before tab bs }) o
-        → (field_as f (first_field bs) ≡ Some r.value) × (r.length ≡ count_before tab bs)
-    go None h k = cc
-    go (Some v) h k = let same : r ≡ record { value = v; length = count_before tab bs } = cc in (rw same h, rw same)
+    go : (o : Option ℕ) → Some r ≡ option_map {U = FieldRead} (λ v. record { value = v; length = count_before tab bs }) o
+        → (o ≡ Some r.value) × (r.length ≡ count_before tab bs) × (r.length ≤ length bs)
+    go None k = cc
+    go (Some v) k =
+        let same : r ≡ record { value = v; length = count_before tab bs } = cc in
+        (rw same, rw same, rw same (count_before-le tab bs))
 
 no-more : (bs : List ℕ) → values_of [] (parts tab bs) ≡ None
 unfolding values_of

@@ -15,8 +15,8 @@
 --   values_of fs ps    the values of the parts ps as the fields fs, where there is a part for each and all are well formed
 -- A letter's value is its byte.
 -- Assumes nothing.
-use Rattle.std.specs.Prelude.{ℕ, ◌+◌, ◌-◌, ◌*◌, Bool, cond, ◌&&◌, ◌||◌, Option, Some, None, List, [], ◌∷◌, ◌++◌, eqb, leb, ltb, length}
-use Rattle.std.specs.Prelude.{get_or}
+use Rattle.std.specs.Prelude.{ℕ, ◌+◌, ◌-◌, ◌*◌, Bool, cond, ◌&&◌, ◌||◌, Option, Some, None, List, [], ◌∷◌, ◌++◌}
+use Rattle.std.specs.Prelude.{eqb, leb, ltb, length, get_or}
 use Rattle.std.specs.List.{list_any}
 use Prim.Native.Char.{code}
 use Rattle.text.specs.Bytes.{bytes_of}

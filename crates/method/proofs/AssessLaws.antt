@@ -1,8 +1,7 @@
 -- What a case gets, or its refusal (specs/Assess).
 --   assessment-refusal    its number is the case's refusal
 -- Assumes nothing.
-use Rattle.std.proofs.Common.{◌≡◌, lit≤}
-use Rattle.std.proofs.Math.Nat.{le_trans}
+use Rattle.std.proofs.Common.{◌≡◌, lit≤, le_trans}
 use Rattle.checks.specs.Numbers.{refusal_number}
 use Rattle.checks.proofs.NumberLaws.{refusal_number-ok_unless}
 use Rattle.road.specs.declared.Case.{Case}

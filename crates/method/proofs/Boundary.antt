@@ -2,8 +2,7 @@
 --   boundary-shown   each figure of the list is what is to be shown
 --   ramp-6, ramp-24, power-500   entries of the two tables
 -- Assumes nothing.
-use mathlib.Core.Path.{◌≡◌, refl}
-use native.Mathlib.Omega.{arith}
+use Rattle.std.proofs.Common.{◌≡◌, refl, arith}
 use Rattle.numbers.specs.Division.{div_up}
 use Rattle.numbers.specs.Search.{starts_at, ends_at}
 use Rattle.checks.specs.Figures.{Shown}
@@ -81,18 +80,18 @@ weather-shown = (
 
 speeds-shown : Shown speed_figures
 unfolding div_up entry_before entry_after weighted_sum interpolated lane_width_adjustment per_missing_foot right_clearance_row
-    right_clearance_adjustment total_clearance two_lane_row three_lane_row total_clearance_row total_clearance_adjustment access_adjustment estimated_by
+    right_clearance_adjustment total_clearance total_clearance_row total_clearance_adjustment access_adjustment estimated_by
     uncapped_by free_flow_speed_of speed_figures
 speeds-shown = (refl, (refl, (simp ramp-0, (refl, (refl, (refl, weather-shown))))))
 
 clearances-shown : Shown clearance_figures
 unfolding div_up entry_before entry_after weighted_sum interpolated per_missing_foot right_clearance_row right_clearance_adjustment total_clearance
-    two_lane_row three_lane_row total_clearance_row total_clearance_adjustment clearance_figures
+    total_clearance_row total_clearance_adjustment clearance_figures
 clearances-shown = (refl, (refl, (refl, (refl, (refl, (refl, (refl, (refl, (refl, (refl, (refl, (refl, speeds-shown))))))))))))
 
 pub boundary-shown : Shown boundary_figures
 unfolding in_order refusal_of div_up entry_before entry_after weighted_sum interpolated lane_width_adjustment per_missing_foot right_clearance_row
-    right_clearance_adjustment total_clearance two_lane_row total_clearance_row total_clearance_adjustment access_adjustment estimated_by uncapped_by
+    right_clearance_adjustment total_clearance total_clearance_row total_clearance_adjustment access_adjustment estimated_by uncapped_by
     free_flow_speed_of weather_unfit road_refusals load_refusals field_refusals adjusted_speed speed_refusals refusals capacity breakpoint curve_at
     adjusted_capacity adjusted_breakpoint curve_under curve_of heavy_factor_of flow_rate_of fall_share_by speed shown_speed density shown_density
     density_limit density_letter letter_at performance measures boundary_figures

@@ -1,6 +1,5 @@
 -- The curve of a case, or its refusal (specs/Checked).
 --   case_curve-well_formed, case_curve-sized   the curve of an accepted case
---   case_curve-kind      its kind is the road's
 --   checked_curve-eq     a case that 1 to 9 and 19 do not refuse: 10 alone is checked
 --   checked-accepted     a case that is checked and found with a curve is accepted, and the curve is its own
 --   checked-curve        which is well formed and within the sizes
@@ -9,18 +8,19 @@
 -- Assumes nothing.
 use Rattle.std.proofs.Common.{◌≡◌, refl, sym, ap, ◌∙◌, ◌<◌, Result, Ok, Err}
 use Rattle.checks.specs.declared.Refusal.{Refusal}
-use Rattle.checks.specs.Numbers.{ok_unless}
-use Rattle.checks.proofs.NumberLaws.{ok_unless-ok, ok_unless-found, ok_unless-refused, ok_unless-above}
+use Rattle.checks.specs.Numbers.{number, ok_unless}
+use Rattle.checks.specs.Refusals.{first_refusal}
+use Rattle.checks.proofs.NumberLaws.{ok_unless-ok, ok_unless-err, first_refusal-err, ok_unless-found, ok_unless-refused, ok_unless-above}
 use Rattle.curve.specs.declared.Curve.{Curve}
 use Rattle.curve.specs.Curves.{WellFormed, Sized}
 use Rattle.curve.specs.Weather.{curve_under}
 use Rattle.curve.proofs.WeatherLaws.{curve_under-fits}
 use Rattle.road.specs.declared.Case.{Case}
 use Rattle.road.specs.FreeFlowSpeed.{free_flow_speed_of}
-use Rattle.road.specs.Refusals.{FieldsFit}
-use Rattle.road.proofs.RefusalLaws.{fields-weather}
+use Rattle.road.specs.Refusals.{field_refusals, FieldsFit}
+use Rattle.road.proofs.RefusalLaws.{fields-road, fields-weather}
 use Rattle.road.proofs.FreeFlowSpeedLaws.{free_flow_speed_of-le}
-use Rattle.method.specs.Refusals.{refusal, Accepted}
+use Rattle.method.specs.Refusals.{speed_refusals, refusals, refusal, Accepted}
 use Rattle.method.specs.Checked.{curve_of, case_curve, checked_curve, checked}
 use Rattle.method.proofs.RefusalLaws.{refusals-fields, accepted-fields, accepted-adjusted}
 
@@ -36,10 +36,6 @@ case_curve-well_formed case a = (fits case a).0
 pub case_curve-sized : (case : Case) → Accepted case → Sized (case_curve case)
 case_curve-sized case a = (fits case a).1
 
-pub case_curve-kind : (case : Case) → (case_curve case).kind ≡ case.road.kind
-unfolding curve_of curve_under
-case_curve-kind case = refl
-
 pub checked_curve-eq : (case : Case) → FieldsFit case → checked_curve case.road case.weather case.lanes ≡ checked case
 checked_curve-eq case z = ap (λ n. ok_unless n (case_curve case)) (sym (refusals-fields case z))
 
@@ -50,6 +46,15 @@ checked-accepted case curve e = ok_unless-found (refusal case) (case_curve case)
 pub checked-curve : (case : Case) (curve : Curve) → checked case ≡ Ok curve → WellFormed curve × Sized curve
 checked-curve case curve e =
     let found = checked-accepted case curve e in rw found.1 (case_curve-well_formed case found.0, case_curve-sized case found.0)
+
+pub checked-err : (case : Case) (r : Refusal) → number r ≡ first_refusal (field_refusals case) → checked case ≡ Err r
+unfolding refusals
+checked-err case r e =
+    sym (ok_unless-err r (refusal case) (case_curve case)
+    (first_refusal-err (field_refusals case) (speed_refusals case.road case.weather case.lanes) r e))
+
+-- for tactics
+pub ruleset check_laws = (fields-road, checked_curve-eq, checked-err)
 
 -- an answer to a case, of any type, by what the check found
 module _ {A : Type 0} (case : Case) (answer : A) where
@@ -69,3 +74,7 @@ pub checked_curve-refused : (case : Case) (r : Refusal) → FieldsFit case
     → checked_curve case.road case.weather case.lanes ≡ Err r
     → 0 < refusal case
 checked_curve-refused case r z e = ok_unless-above (refusal case) (case_curve case) r (sym (checked_curve-eq case z) ∙ e)
+
+pub ruleset found_laws = (checked-accepted, accepted-fields)
+
+pub ruleset answer_laws = (by-accepted, by-refused)

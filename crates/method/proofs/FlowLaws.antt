@@ -6,10 +6,7 @@
 --   case_flow_rate-mono   it rises with demand, share and equivalent, and falls with peak-hour factor and lanes
 --   flow_rate_of-zero    of no demand it is 0
 -- Assumes nothing.
-use mathlib.Core.Path.{◌≡◌, ap, ◌∙◌}
-use Prim.Native.Nat.{ℕ, ◌*◌, ◌-◌, ◌≤◌, ◌<◌}
-use native.Mathlib.Omega.{arith}
-use native.Mathlib.Nat.{mul-le-mul, mul-pos, zero-mul}
+use Rattle.std.proofs.Common.{◌≡◌, ap, ◌∙◌, ℕ, ◌*◌, ◌-◌, ◌≤◌, ◌<◌, arith, mul-le-mul, mul-pos, zero-mul}
 use Rattle.numbers.specs.Division.{div_up}
 use Rattle.numbers.proofs.DivisionLaws.{div_up-mono, div_up-zero}
 use Rattle.curve.proofs.KindLaws.{kind-ends}
@@ -25,12 +22,11 @@ pub truck_equivalent-ends : (t : Terrain) → (2 ≤ truck_equivalent t) × (tru
 truck_equivalent-ends Terrain.Level = (omega arith, omega arith)
 truck_equivalent-ends Terrain.Rolling = (omega arith, omega arith)
 
-heavy_factor_of-le : (case : Case) → case.heavy_share ≤ 1000 → heavy_factor_of case ≤ 3000
-unfolding heavy_factor_of
-heavy_factor_of-le case h =
+-- what the heavy vehicles add
+pub heavy-le : (case : Case) (n : ℕ) → FieldsFit (with_lanes case n) → case.heavy_share * (truck_equivalent case.terrain - 1) ≤ 2000
+heavy-le case n z =
     let ends = truck_equivalent-ends case.terrain in
-    let heavy : case.heavy_share * (truck_equivalent case.terrain - 1) ≤ 2000 = mul-le-mul {n₂ = 1000} {m₂ = 2} h (omega arith) in
-    omega arith
+    mul-le-mul {n₂ = 1000} {m₂ = 2} (load-ends (with_lanes case n) z).share-high (omega arith)
 
 pub load_of-fits : (case : Case) (n : ℕ) → FieldsFit (with_lanes case n) → LoadFits (load_of case n)
 unfolding heavy_factor_of
@@ -39,10 +35,13 @@ load_of-fits case n z =
     let kind = kind-ends case.road.kind in
     record {
       heavy-ge = omega arith;
-      heavy-le = heavy_factor_of-le case ends.share-high;
+      heavy-le = omega (arith, heavy-le case n z);
       divisor-pos = mul-pos (omega (arith, ends.factor-low)) (omega (arith, ends.lanes-low, kind.lanes-ge));
       divisor-le = mul-le-mul {n₂ = 1000} {m₂ = 8} ends.factor-high (omega (arith, ends.lanes-high, kind.lanes-le));
     }
+
+-- for tactics
+pub ruleset load_laws = (truck_equivalent-ends, heavy-le, load_of-fits)
 
 pub case_load-fits : (case : Case) → FieldsFit case → LoadFits (load_of case case.lanes)
 case_load-fits case z = load_of-fits case case.lanes z

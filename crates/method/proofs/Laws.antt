@@ -2,7 +2,7 @@
 --   accepted-curve-is-well-formed, multilane-is-in-clear-weather, flow-rate-never-falls-with-load, no-demand-gets-a,
 --   refused-by-the-list, refusals-in-order
 -- Assumes nothing.
-use mathlib.Core.Path.{refl}
+use Rattle.std.proofs.Common.{refl}
 use Rattle.curve.specs.Service.{performance}
 use Rattle.curve.proofs.WeatherLaws.{multilane-clear}
 use Rattle.curve.proofs.ServiceLaws.{letter_at-zero}

@@ -5,7 +5,6 @@
 --   refusals-with           the number of 7 to 9 stands for them
 --   with-accepted           a case that 1 to 6, what is asked in the place of 7 to 9, 19 and 10 do not refuse: none of the four does
 --   with-of                 where the first two do not refuse, 19 and 10 decide
---   refusals_with-fields    a case that 1 to 6, a number in the place of 7 to 9, and 19 do not refuse: 10 decides
 --   refusals-fields         a case that 1 to 9 and 19 do not refuse: 10 decides
 --   accepted-fields         what is accepted: neither 1 to 9 nor 19 refuse it
 --   accepted-speed, accepted-adjusted   F of an accepted case is at its lower end or above, before its factor and after it
@@ -13,23 +12,23 @@
 --                          greatest; with a greater one 7, unless one of 1 to 6 comes before it
 --   accepted-with_demand    an accepted case is accepted with every demand up to the greatest
 -- Assumes nothing.
-use mathlib.Core.Path.{◌≡◌, sym, ap, ◌∙◌}
-use mathlib.Core.List.{List, ◌++◌, append_assoc}
-use Prim.Native.Nat.{ℕ, ◌≤◌, ◌<◌, min}
-use borrow.Author.Tests.{ltb-false, le-ltb, lt-ltb}
-use lib.Dec.{T}
-use lib.ListN.{take, drop}
+use Rattle.std.proofs.Common.{◌≡◌, sym, ap, ◌∙◌, List, ◌++◌, append_assoc, ℕ, ◌≤◌, ◌<◌, min, ltb-false, le-ltb, lt-ltb, T, take, drop}
 use Rattle.checks.specs.Refusals.{Condition, first_refusal, found, unless_refused}
 use Rattle.checks.proofs.RefusalLaws.{numbered, first_refusal-none, first_refusal-join, first_refusal-le}
 use Rattle.checks.proofs.RefusalLaws.{first_refusal-met, first_refusal-found, none-met}
 use Rattle.curve.specs.Kinds.{lowest_speed, lowest_adjusted_speed}
 use Rattle.curve.specs.Weather.{adjusted_speed}
+use Rattle.curve.proofs.WeatherLaws.{curve_under-worked}
+use Rattle.checks.specs.declared.Refusal.TheVariants as Refusal
+use Rattle.checks.specs.Numbers.{refusal_of}
+use Rattle.checks.proofs.NumberLaws.{refusal_of-number}
+use Rattle.road.proofs.FreeFlowSpeedLaws.{free_flow_speed_of-le}
 use Rattle.road.specs.declared.Case.{Case}
 use Rattle.road.specs.Cases.{with_demand}
 use Rattle.road.specs.FreeFlowSpeed.{free_flow_speed_of}
-use Rattle.road.specs.Refusals.{greatest_demand, road_refusals, section_refusals, load_refusals, weather_refusals, field_refusals_with}
+use Rattle.road.specs.Refusals.{greatest_demand, road_refusals, section_refusals, load_refusals, weather_refusals}
 use Rattle.road.specs.Refusals.{field_refusals, SectionFits, FieldsFit}
-use Rattle.road.proofs.RefusalLaws.{section-numbered, load-numbered, fields-numbered, with-parts, load-ends}
+use Rattle.road.proofs.RefusalLaws.{section-numbered, load-numbered, fields-numbered, load-ends}
 use Rattle.method.specs.Refusals.{speed_refusals, refusals_with, refusals, refusal, Accepted}
 
 abbrev own_speed : Case → List Condition
@@ -72,14 +71,6 @@ pub refusals-with : (case : Case) → first_refusal (refusals_with (found (first
 unfolding field_refusals refusals
 refusals-with case = refusals_with-found (load_refusals case) case (load-numbered case)
 
-pub refusals_with-fields : (case : Case) (loads : ℕ) → first_refusal (field_refusals_with (found loads) case) ≡ 0
-    → first_refusal (refusals_with (found loads) case) ≡ first_refusal (own_speed case)
-refusals_with-fields case loads z =
-    let (section, none, weather) = with-parts case loads z in
-    ap first_refusal (refusals_with-joined (found loads) case)
-    ∙ first_refusal-none (section_refusals case) (found loads ++ (weather_refusals case ++ own_speed case)) (section-numbered case) section
-    ∙ rw none (first_refusal-none (weather_refusals case) (own_speed case) tt weather)
-
 pub refusals-fields : (case : Case) → FieldsFit case → refusal case ≡ first_refusal (own_speed case)
 unfolding refusals
 refusals-fields case z = first_refusal-none (field_refusals case) (own_speed case) (fields-numbered case) z
@@ -90,6 +81,9 @@ parts case a = first_refusal-join (field_refusals case) (own_speed case) (fields
 
 pub accepted-fields : (case : Case) → Accepted case → FieldsFit case
 accepted-fields case a = (parts case a).0
+
+pub accepted-demand : (case : Case) → Accepted case → case.demand ≤ greatest_demand
+accepted-demand case a = (load-ends case (accepted-fields case a)).demand-high
 
 pub accepted-speed : (case : Case) → Accepted case → lowest_speed case.road.kind ≤ free_flow_speed_of case.road case.lanes
 unfolding speed_refusals
@@ -117,5 +111,13 @@ refusal-above case h =
 pub accepted-with_demand : (case : Case) (demand : ℕ) → Accepted case → demand ≤ greatest_demand → Accepted (with_demand case demand)
 accepted-with_demand case demand a h =
     refusal-within (with_demand case demand) h
-    ∙ sym (refusal-within case (load-ends case (accepted-fields case a)).demand-high)
+    ∙ sym (refusal-within case (accepted-demand case a))
     ∙ a
+
+pub refusal_of-ten : refusal_of 10 ≡ Refusal.SpeedBelowLowerEnd
+refusal_of-ten = refusal_of-number Refusal.SpeedBelowLowerEnd
+
+-- for tactics
+pub ruleset accepted_ends = (accepted-demand)
+
+pub ruleset ten_laws = (free_flow_speed_of-le, curve_under-worked, refusal_of-ten)

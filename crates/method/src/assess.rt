@@ -39,6 +39,7 @@ pub struct Measures {
 
 impl AcceptedCase {
     // From the case's curve.
+    #[tactic(auto, using(crate::proofs::CheckedLaws::found_laws))]
     pub fn new(case: Case, curve: Curve) -> AcceptedCase
         requires { checked case ≡ Ok curve }
         ensures { result.case ≡ case }
@@ -50,6 +51,7 @@ impl AcceptedCase {
         }
     }
 
+    #[tactic(auto, unfolding(crate::specs::Assess::measures, crate::specs::Flow::heavy_factor_of))]
     pub fn measures_at(&self, demand: u64) -> Measures
         requires { demand ≤ greatest_demand }
         ensures { result ≡ measures (with_demand self.now.case demand) }
@@ -62,6 +64,7 @@ impl AcceptedCase {
         }
     }
 
+    #[tactic(auto, using(crate::proofs::RefusalLaws::accepted_ends))]
     pub fn measures(&self) -> Measures
         ensures { result ≡ measures self.now.case }
     {
@@ -69,6 +72,7 @@ impl AcceptedCase {
     }
 }
 
+#[tactic(auto, using(crate::proofs::CheckedLaws::answer_laws))]
 pub fn assess(case: Case) -> Result<Measures, Refusal>
     ensures { result ≡ assessment case }
 {

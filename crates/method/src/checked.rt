@@ -10,6 +10,7 @@ use checks::Refusal;
 use curve::{Curve, Weather};
 use road::{Case, Road};
 
+#[tactic(auto, using(crate::proofs::RefusalLaws::ten_laws), unfolding(crate::specs::Refusals::speed_refusals, crate::specs::Checked::curve_of))]
 pub fn checked_curve(road: &Road, weather: Weather, lanes: u64) -> Result<Curve, Refusal>
     requires road_fits { RoadFits road.now }
     requires factors_fit { FactorsFit road.now.kind weather }
@@ -27,6 +28,7 @@ pub fn checked_curve(road: &Road, weather: Weather, lanes: u64) -> Result<Curve,
     Ok(curve)
 }
 
+#[tactic(auto, using(crate::proofs::CheckedLaws::check_laws))]
 pub fn check(case: &Case) -> Result<Curve, Refusal>
     ensures { result ≡ checked case.now }
 {

@@ -26,6 +26,7 @@ fn truck_equivalent(terrain: Terrain) -> u64
 }
 
 impl Load {
+    #[tactic(auto, using(crate::proofs::FlowLaws::load_laws), unfolding(crate::specs::Flow::heavy_factor_of))]
     pub fn of(case: &Case, lanes: u64) -> Load
         requires { FieldsFit (with_lanes case.now lanes) }
         ensures { result ≡ load_of case.now lanes }

@@ -6,13 +6,10 @@
 --   div_up-suc       of a number above 0: one more than the division of the number before
 --   div_ceil-eq      it is what std's div_ceil ensures; divisions: this law, for tactics
 -- Assumes nothing.
-use mathlib.Core.Path.{◌≡◌}
-use mathlib.Core.Logic.{◌↔◌}
-use Prim.Native.Nat.{ℕ, suc, ◌+◌, ◌*◌, ◌-◌, ◌/◌, ◌≤◌, ◌<◌}
-use native.Mathlib.Omega.{arith}
-use native.Mathlib.Nat.{mul-le-mul_left, div-lt_iff_lt-mul, add-div_right}
+use Rattle.std.proofs.Common.{◌≡◌, ◌↔◌, ℕ, suc, ◌+◌, ◌*◌, ◌-◌, ◌/◌, ◌≤◌, ◌<◌, arith, mul-le-mul_left, div-lt_iff_lt-mul, le_antisymm}
+use Rattle.std.proofs.Common.{lt_of_mul-lt-mul_right}
+use Rattle.std.proofs.Math.Nat.{add-div_right}
 use Rattle.std.specs.Int.{div_ceil}
-use Rattle.std.proofs.Math.Nat.{le_antisymm, lt_of_mul-lt-mul_right}
 use Rattle.std.proofs.lemmas.Grind.{div_ceil_times}
 use Rattle.numbers.specs.Division.{div_up}
 

@@ -8,12 +8,8 @@
 --   divided_by-mono      more divided by less is no less
 --   quotient-le-iff      n / x rounded up is at most l exactly when n is at most l times x
 -- Assumes nothing.
-use mathlib.Core.Path.{◌≡◌, sym}
-use mathlib.Core.Logic.{◌↔◌, ⊎_elim}
-use Prim.Native.Nat.{ℕ, ◌*◌, ◌≤◌, ◌<◌}
-use native.Mathlib.Omega.{arith}
-use native.Mathlib.Nat.{mul-le-mul_left, mul-le-mul_right, le_of_mul-le-mul_right, le-div_iff_mul-le, div-mul-le_self, le_antisymm}
-use native.Mathlib.Nat.{le_of_eq, mul-pos, zero-mul, eq-zero-or-pos}
+use Rattle.std.proofs.Common.{◌≡◌, sym, ◌↔◌, ⊎_elim, ℕ, ◌*◌, ◌≤◌, ◌<◌, arith, mul-le-mul_left, mul-le-mul_right, le_of_mul-le-mul_right}
+use Rattle.std.proofs.Common.{le-div_iff_mul-le, div-mul-le_self, le_antisymm, le_of_eq, mul-pos, zero-mul, eq-zero-or-pos}
 use Rattle.numbers.specs.declared.Fraction.{Fraction}
 use Rattle.numbers.specs.Division.{div_up}
 use Rattle.numbers.specs.Fraction.{whole, times, divided_by, rounded_down, rounded_up, AtMost, SameValue}

@@ -7,17 +7,10 @@
 --   tried_up_to-doublings    at most k numbers, where the end is below the k-th power of 2
 --   tried_up_to-cong         for tests that agree up to the end the same numbers are tried
 -- Assumes nothing.
-use mathlib.Core.Path.{◌≡◌, refl, sym, ap, ◌∙◌}
-use mathlib.Core.Bool.{Bool, true, false, cond}
-use mathlib.Core.List.{List, [], ◌∷◌}
-use lib.Dec.{T}
-use lib.ListN.{length}
-use Prim.Native.Nat.{ℕ, zero, suc, ◌+◌, ◌-◌, ◌*◌, ◌^◌, ◌≤◌, ◌<◌, zero-le}
-use native.Mathlib.Omega.{arith}
-use native.Mathlib.Nat.{le_refl}
-use native.Mathlib.Numerals.{unary_clauses}
-use native.Mathlib.Decide.{dec_le}
-use borrow.Author.Tests.{lt-ltb, le-ltb}
+use Rattle.std.proofs.Common.{◌≡◌, refl, sym, ap, ◌∙◌, Bool, true, false, cond, List, [], ◌∷◌, T, length, ℕ, zero, suc, ◌+◌, ◌-◌, ◌*◌, ◌^◌}
+use Rattle.std.proofs.Common.{◌≤◌, ◌<◌, zero-le, arith, le_refl, lt-ltb, le-ltb}
+use Rattle.std.proofs.Math.Numerals.{unary_clauses}
+use Rattle.std.proofs.Math.Decide.{dec_le}
 use Rattle.numbers.proofs.BoolLaws.{T-true, T-false, cond-all}
 use Rattle.numbers.proofs.SearchLaws.{greatest-between}
 use Rattle.numbers.specs.Search.{greatest, DownwardClosed}

@@ -2,19 +2,16 @@
 --   rows-append, rows-next   the rows of two lists; of one thing more
 --   rows-length, rows-at     rows that are all as long: how many numbers they are; those of one thing
 -- Assumes nothing.
-use mathlib.Core.Path.{◌≡◌, refl, sym, ap, ◌∙◌}
-use mathlib.Core.List.{List, [], ◌∷◌, ◌++◌, flat_map, append_assoc, append-nil}
-use Prim.Native.Nat.{ℕ, suc, ◌+◌, ◌*◌, ◌<◌}
-use native.Mathlib.Numerals.{add-one}
-use native.Mathlib.Omega.{arith}
-use lib.ListN.{length, take, drop, get_or, length-append}
-use lib.Seq.{take-suc, length-take-le, split_at, drop_at, take_at}
+use Rattle.std.proofs.Common.{◌≡◌, refl, sym, ap, ◌∙◌, List, [], ◌∷◌, ◌++◌, append_assoc, append-nil, ℕ, suc, ◌+◌, ◌*◌, ◌<◌, add-one, arith}
+use Rattle.std.proofs.Common.{length, take, drop, get_or, length-append, take-suc, length-take-le, drop_at, take_at}
+use mathlib.Core.List.{flat_map}
+use Rattle.std.proofs.Math.Seq.{split_at}
+use Rattle.std.proofs.lemmas.Grind.{flat_map-append}
 
 module _ {A : Type 0} (row : A → List ℕ) where
   pub rows-append : (xs ys : List A) → flat_map row (xs ++ ys) ≡ flat_map row xs ++ flat_map row ys
   unfolding flat_map
-  rows-append [] ys = refl
-  rows-append (x ∷ xs) ys = ap (λ l. row x ++ l) (rows-append xs ys) ∙ sym (append_assoc (row x) (flat_map row xs) (flat_map row ys))
+  rows-append = flat_map-append row
 
   pub rows-next : (xs : List A) (i : ℕ) (d : A) → i < length xs
       → flat_map row (take (i + 1) xs) ≡ flat_map row (take i xs) ++ row (get_or xs i d)

@@ -18,14 +18,9 @@
 --   least-none        it is the bound where nothing below it passes
 --   least-first       of a test that is upward closed: it is s where the test starts at s
 -- Assumes nothing.
-use mathlib.Core.Path.{◌≡◌, refl, sym, ap, subst, ◌∙◌}
-use mathlib.Core.Bool.{Bool, true, false, cond, not}
-use mathlib.Core.Logic.{◌↔◌, ◌⊎◌, inl, inr, ⊎_elim}
-use lib.Dec.{T, T_not}
-use Prim.Native.Nat.{ℕ, zero, suc, ◌+◌, ◌≤◌, ◌<◌, zero-le}
-use native.Mathlib.Omega.{arith}
-use native.Mathlib.Nat.{le_refl, le_trans, le_antisymm}
-use native.Mathlib.Decide.{dec_le}
+use Rattle.std.proofs.Common.{◌≡◌, refl, sym, ap, subst, ◌∙◌, Bool, true, false, cond, not, ◌↔◌, ◌⊎◌, inl, inr, ⊎_elim, T, T_not, ℕ, zero}
+use Rattle.std.proofs.Common.{suc, ◌+◌, ◌≤◌, ◌<◌, zero-le, arith, le_refl, le_trans, le_antisymm}
+use Rattle.std.proofs.Math.Decide.{dec_le}
 use Rattle.numbers.proofs.BoolLaws.{and-left, and-right}
 use Rattle.numbers.specs.Search.{greatest, least_from, least, DownwardClosed, UpwardClosed, ends_at, starts_at}
 

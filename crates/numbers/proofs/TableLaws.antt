@@ -2,15 +2,9 @@
 --   every_entry-at   the test passes at each place
 --   every_up_to-at, every_up_to-of   the test passes at each number; the converse
 -- Assumes nothing.
-use mathlib.Core.Path.{◌≡◌, ◌∙◌, subst, sym}
-use mathlib.Core.Bool.{Bool}
-use mathlib.Core.List.{List, [], ◌∷◌}
-use Prim.Native.Nat.{ℕ, zero, suc, ◌+◌, ◌≤◌, ◌<◌}
-use native.Mathlib.Omega.{arith}
-use native.Mathlib.Decide.{dec_le}
-use native.Mathlib.Nat.{le_refl, add-zero, zero-add, add-suc, suc-add, le_of_suc-le-suc, not-suc-le-zero}
-use lib.Dec.{T}
-use lib.ListN.{length, get_or}
+use Rattle.std.proofs.Common.{◌≡◌, ◌∙◌, subst, sym, Bool, List, [], ◌∷◌, ℕ, zero, suc, ◌+◌, ◌≤◌, ◌<◌, arith, le_refl, add-zero, zero-add}
+use Rattle.std.proofs.Common.{add-suc, suc-add, le_of_suc-le-suc, not-suc-le-zero, T, length, get_or}
+use Rattle.std.proofs.Math.Decide.{dec_le}
 use Rattle.numbers.specs.Table.{every_from, every_entry, every_up_to}
 use Rattle.numbers.proofs.BoolLaws.{and-both, and-left, and-right}
 

@@ -1,11 +1,8 @@
 -- The laws of T that specs/Laws states, proved.
 --   power-is-least, power-never-falls, table-holds-powers
 -- Assumes nothing.
-use Rattle.std.proofs.Common.{refl, sym}
-use Prim.Native.Nat.{ℕ, ◌*◌, ◌^◌, ◌≤◌}
-use native.Mathlib.Omega.{arith}
-use native.Mathlib.Decide.{dec_le}
-use lib.Dec.{leb→le, le→leb}
+use Rattle.std.proofs.Common.{refl, sym, ℕ, ◌*◌, ◌^◌, ◌≤◌, arith, leb→le, le→leb}
+use Rattle.std.proofs.Math.Decide.{dec_le}
 use Rattle.numbers.proofs.SearchLaws.{least-passes, least-le-of}
 use Rattle.powers.specs.Power.{reaches_power, power}
 use Rattle.powers.specs.Laws.{PowerIsLeast, PowerNeverFalls, TableHoldsPowers}

@@ -5,15 +5,10 @@
 --   power-mono        T rises
 --   power-le          no T is above 1,000,000
 -- Assumes nothing.
-use mathlib.Core.Path.{◌≡◌, refl}
-use mathlib.Core.Bool.{Bool, ◌&&◌}
-use mathlib.Core.List.{◌∷◌}
-use Prim.Native.Nat.{ℕ, zero, suc, ◌*◌, ◌^◌, ◌≤◌}
-use native.Mathlib.Omega.{arith}
-use native.Mathlib.Decide.{dec_le}
-use native.Mathlib.Nat.{le_trans, le_refl, pow-le-pow_left}
-use lib.Dec.{T, leb, leb→le, le→leb}
-use lib.ListN.{get_or, length}
+use Rattle.std.proofs.Common.{◌≡◌, refl, Bool, ◌&&◌, ◌∷◌, ℕ, zero, suc, ◌*◌, ◌^◌, ◌≤◌, arith, le_trans, le_refl, T, leb, leb→le, le→leb}
+use Rattle.std.proofs.Common.{get_or, length}
+use Rattle.std.proofs.Math.Decide.{dec_le}
+use Rattle.std.proofs.Math.Nat.{pow-le-pow_left}
 use Rattle.numbers.specs.Search.{UpwardClosed, starts_at}
 use Rattle.numbers.specs.Table.{every_entry}
 use Rattle.numbers.proofs.SearchLaws.{least-first}
@@ -85,3 +80,5 @@ power-mono i (suc j) h k = go (λ l. power-mono i j l (omega arith)) (dec_le i j
     go : (i ≤ j → power i ≤ power j) → Dec (i ≤ j) → power i ≤ power (suc j)
     go below (yes l) = le_trans (below l) (power-next j k)
     go below (no l) = let e : i ≡ suc j = omega arith in rw e (le_refl (power (suc j)))
+
+pub ruleset table_entries = (power_table-at)

@@ -9,6 +9,7 @@ ghost use Rattle.powers.specs.Power.{power};
 
 use table::POWERS;
 
+#[tactic(auto, using(crate::proofs::PowerLaws::table_entries), unfolding(crate::proofs::PowerTable::power_table))]
 pub fn power(i: u64) -> u64
     requires { i ≤ 1000 }
     ensures { result ≡ power i }

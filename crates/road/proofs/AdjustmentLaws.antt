@@ -8,19 +8,17 @@
 --   total_clearance_row-line-le                                                 the line of a row of kind M is at most 5,400
 --   total_clearance_row-rises, total_clearance_row-after-le                     its entries on both sides of a place
 -- Assumes nothing.
-use mathlib.Core.Path.{◌≡◌}
-use mathlib.Core.Bool.{Bool}
-use mathlib.Core.List.{List}
-use Prim.Native.Nat.{ℕ, ◌*◌, ◌-◌, ◌≤◌, min}
-use native.Mathlib.Omega.{arith}
-use native.Mathlib.Decide.{dec_le}
-use native.Mathlib.Nat.{mul-le-mul, mul-le-mul_left, le_refl, le_trans}
-use borrow.Author.Tests.{le-leb, lt-leb}
-use lib.Dec.{T, leb, eqb, leb→le, eqb→eq}
+use Rattle.std.proofs.Common.{◌≡◌, Bool, List, ℕ, ◌*◌, ◌-◌, ◌/◌, ◌≤◌, min, arith, mul-le-mul, mul-le-mul_left, le_refl, le_trans, le-leb, T}
+use Rattle.std.proofs.Common.{leb, eqb, leb→le, eqb→eq, get_or}
+use Rattle.std.proofs.Math.Decide.{dec_le}
+use Rattle.std.proofs.lemmas.Bool.{lt-leb}
 use Rattle.numbers.specs.Division.{div_up}
 use Rattle.numbers.specs.Table.{every_up_to}
+use Rattle.numbers.proofs.DivisionLaws.{div_ceil-eq}
+use Rattle.road.proofs.InterpolationLaws.{interpolated-rise}
 use Rattle.numbers.proofs.TableLaws.{every_up_to-at}
-use Rattle.numbers.proofs.BoolLaws.{cond-all, cond-le, cond-leb-antitone}
+use Rattle.numbers.proofs.BoolLaws.{cond-all}
+use Rattle.std.proofs.lemmas.Bool.Decides.{nat_tests}
 use Rattle.road.specs.declared.Median.{Median}
 use Rattle.road.specs.Interpolation.{entry_before, entry_after, weighted_sum, interpolated}
 use Rattle.road.specs.Adjustments.{lane_width_adjustment, per_missing_foot, right_clearance_row, right_clearance_adjustment}
@@ -29,7 +27,7 @@ use Rattle.road.specs.Adjustments.{total_clearance_adjustment, median_adjustment
 
 pub lane_width_adjustment-le : (w : ℕ) → lane_width_adjustment w ≤ 6600
 unfolding lane_width_adjustment
-lane_width_adjustment-le w = cond-le (leb 120 w) (omega arith) (cond-le (leb 110 w) (omega arith) (omega arith))
+lane_width_adjustment-le w = grind (arith, nat_tests)
 
 -- what holds of the four rates holds with any lanes
 per_missing_foot-all : (P : ℕ → Type 0) → P 600 → P 400 → P 200 → P 100 → (n : ℕ) → P (per_missing_foot n)
@@ -41,10 +39,7 @@ per_missing_foot-le = per_missing_foot-all (λ p. p ≤ 600) (omega arith) (omeg
 
 per_missing_foot-antitone : (m n : ℕ) → m ≤ n → per_missing_foot n ≤ per_missing_foot m
 unfolding per_missing_foot
-per_missing_foot-antitone m n h =
-    cond-leb-antitone m n 2 h (cond-le (leb n 3) (omega arith) (cond-le (leb n 4) (omega arith) (omega arith)))
-    (cond-leb-antitone m n 3 h (cond-le (leb n 4) (omega arith) (omega arith))
-    (cond-leb-antitone m n 4 h (omega arith) (omega arith)))
+per_missing_foot-antitone m n h = grind (arith, nat_tests)
 
 -- a test that passes at each tenth to 60 with each of the four rates passes at any right clearance with any lanes
 at-rate : (p : ℕ → ℕ → Bool) → T (every_up_to (p 600) 60) → T (every_up_to (p 400) 60) → T (every_up_to (p 200) 60) → T (every_up_to (p 100) 60)
@@ -65,6 +60,14 @@ unfolding div_up right_clearance_row entry_before entry_after weighted_sum inter
 right_clearance_adjustment-tenths r n =
     eqb→eq (10 * right_clearance_adjustment r n) ((60 - min 60 r) * per_missing_foot n)
     (at-rate (λ p x. eqb (10 * interpolated (right_clearance_row p) 10 x) (x * p)) tt tt tt tt r n)
+
+-- by what a missing tenth takes off
+pub right_clearance_adjustment-by : (r n t : ℕ) → 10 * t ≡ per_missing_foot n → (60 - min r 60) * t ≡ right_clearance_adjustment r n
+right_clearance_adjustment-by r n t e =
+    let x : ℕ = 60 - min 60 r in
+    let same : 60 - min r 60 ≡ x = omega arith in
+    let tenfold : 10 * right_clearance_adjustment r n ≡ x * (10 * t) = rw e (right_clearance_adjustment-tenths r n) in
+    rw same (omega arith)
 
 pub right_clearance_adjustment-le : (r n : ℕ) → right_clearance_adjustment r n ≤ 3600
 right_clearance_adjustment-le r n =
@@ -97,13 +100,13 @@ at-row p two three n x h =
     every_up_to-at (p (total_clearance_row n)) 120 (cond-all (λ row. T (every_up_to (p row) 120)) (leb n 2) two three) x h
 
 pub total_clearance_adjustment-whole : (n s : ℕ) → 20 * total_clearance_adjustment n s ≡ weighted_sum (total_clearance_row n) 20 (120 - s)
-unfolding div_up two_lane_row three_lane_row entry_before entry_after weighted_sum interpolated total_clearance_adjustment
+unfolding div_up entry_before entry_after weighted_sum interpolated total_clearance_adjustment
 total_clearance_adjustment-whole n s =
     eqb→eq (20 * total_clearance_adjustment n s) (weighted_sum (total_clearance_row n) 20 (120 - s))
     (at-row (λ row x. eqb (20 * interpolated row 20 x) (weighted_sum row 20 x)) tt tt n (120 - s) (omega arith))
 
 pub total_clearance_row-line-le : (n x : ℕ) → x ≤ 120 → interpolated (total_clearance_row n) 20 x ≤ 5400
-unfolding div_up two_lane_row three_lane_row entry_before entry_after weighted_sum interpolated
+unfolding div_up entry_before entry_after weighted_sum interpolated
 total_clearance_row-line-le n x h =
     leb→le (interpolated (total_clearance_row n) 20 x) 5400 (at-row (λ row y. leb (interpolated row 20 y) 5400) tt tt n x h)
 
@@ -113,7 +116,7 @@ total_clearance_adjustment-le n s = total_clearance_row-line-le n (120 - s) (ome
 
 -- with 3 lanes it is no more than with any
 three_lanes-le : (n s : ℕ) → interpolated three_lane_row 20 (120 - s) ≤ total_clearance_adjustment n s
-unfolding div_up two_lane_row three_lane_row entry_before entry_after weighted_sum interpolated total_clearance_adjustment
+unfolding div_up entry_before entry_after weighted_sum interpolated total_clearance_adjustment
 three_lanes-le n s =
     leb→le (interpolated three_lane_row 20 (120 - s)) (total_clearance_adjustment n s)
     (at-row (λ row x. leb (interpolated three_lane_row 20 x) (interpolated row 20 x)) tt tt n (120 - s) (omega arith))
@@ -127,16 +130,17 @@ total_clearance_adjustment-antitone m n s h = go (dec_le n 2)
     go (no k) = rw (lt-leb n 2 (omega arith)) (three_lanes-le m s)
 
 -- the entries on both sides of x: the first is no more than the second, and that is at most 5,400
-pub total_clearance_row-rises : (n x : ℕ) → x ≤ 120 → entry_before (total_clearance_row n) 20 x ≤ entry_after (total_clearance_row n) 20 x
-unfolding div_up two_lane_row three_lane_row entry_before entry_after
+pub total_clearance_row-rises : (n x : ℕ) → x ≤ 120
+    → get_or (total_clearance_row n) (x / 20) 0 ≤ get_or (total_clearance_row n) (div_up x 20) 0
+unfolding div_up
 total_clearance_row-rises n x h =
-    leb→le (entry_before (total_clearance_row n) 20 x) (entry_after (total_clearance_row n) 20 x)
-    (at-row (λ row y. leb (entry_before row 20 y) (entry_after row 20 y)) tt tt n x h)
+    leb→le (get_or (total_clearance_row n) (x / 20) 0) (get_or (total_clearance_row n) (div_up x 20) 0)
+    (at-row (λ row y. leb (get_or row (y / 20) 0) (get_or row (div_up y 20) 0)) tt tt n x h)
 
-pub total_clearance_row-after-le : (n x : ℕ) → x ≤ 120 → entry_after (total_clearance_row n) 20 x ≤ 5400
-unfolding div_up two_lane_row three_lane_row entry_after
+pub total_clearance_row-after-le : (n x : ℕ) → x ≤ 120 → get_or (total_clearance_row n) (div_up x 20) 0 ≤ 5400
+unfolding div_up
 total_clearance_row-after-le n x h =
-    leb→le (entry_after (total_clearance_row n) 20 x) 5400 (at-row (λ row y. leb (entry_after row 20 y) 5400) tt tt n x h)
+    leb→le (get_or (total_clearance_row n) (div_up x 20) 0) 5400 (at-row (λ row y. leb (get_or row (div_up y 20) 0) 5400) tt tt n x h)
 
 pub median_adjustment-le : (m : Median) → median_adjustment m ≤ 1600
 median_adjustment-le Median.Undivided = omega arith
@@ -147,5 +151,9 @@ pub access_adjustment-le : (p : ℕ) → access_adjustment p ≤ 10000
 unfolding access_adjustment
 access_adjustment-le p = omega arith
 
--- the most that each is, for tactics
-pub ruleset adjustment_ends = (lane_width_adjustment-le, per_missing_foot-le, right_clearance_adjustment-le, counted_left_clearance-le, total_clearance-le, total_clearance_adjustment-le, total_clearance_row-line-le, median_adjustment-le, access_adjustment-le)
+-- ---- for tactics
+-- the most that each is, and what a missing tenth takes off
+pub ruleset adjustment_laws = (lane_width_adjustment-le, per_missing_foot-le, right_clearance_adjustment-le, counted_left_clearance-le, total_clearance-le, total_clearance_adjustment-le, total_clearance_row-line-le, median_adjustment-le, access_adjustment-le, right_clearance_adjustment-by)
+
+-- of a place in a row of kind M
+pub ruleset line_laws = (div_ceil-eq, total_clearance_row-rises, total_clearance_row-after-le, total_clearance_row-line-le, interpolated-rise)

@@ -6,10 +6,7 @@
 --   free_flow_speed_of-le     F is at most its upper end
 --   free_flow_speed_of-given  a given F is the same with any lanes
 -- Assumes nothing.
-use mathlib.Core.Path.{◌≡◌}
-use Prim.Native.Nat.{ℕ, ◌+◌, ◌-◌, ◌≤◌}
-use native.Mathlib.Omega.{arith}
-use native.Mathlib.Nat.{le_refl}
+use Rattle.std.proofs.Common.{◌≡◌, ℕ, ◌+◌, ◌-◌, ◌≤◌, arith, le_refl}
 use Rattle.curve.specs.declared.kind.Kind.{Kind}
 use Rattle.road.specs.declared.Way.{Way}
 use Rattle.road.specs.declared.Road.{Road}
@@ -20,7 +17,7 @@ use Rattle.road.specs.RampTerm.{ramp_term}
 use Rattle.road.specs.FreeFlowSpeed.{estimated_by, uncapped_by, uncapped_speed, free_flow_speed_of}
 use Rattle.road.proofs.AdjustmentLaws.{lane_width_adjustment-le, right_clearance_adjustment-le, right_clearance_adjustment-antitone}
 use Rattle.road.proofs.AdjustmentLaws.{total_clearance_adjustment-le, total_clearance_adjustment-antitone, median_adjustment-le}
-use Rattle.road.proofs.AdjustmentLaws.{access_adjustment-le}
+use Rattle.road.proofs.AdjustmentLaws.{access_adjustment-le, adjustment_laws}
 use Rattle.road.proofs.RampLaws.{ramp_term-le}
 
 pub freeway_terms-le : (w r n k : ℕ) → lane_width_adjustment w + right_clearance_adjustment r n + ramp_term k ≤ 30000
@@ -41,6 +38,9 @@ multilane_terms-le road n =
       median_adjustment-le road.median,
       access_adjustment-le road.access,
     )
+
+-- for tactics
+pub ruleset estimate_terms = (adjustment_laws, ramp_term-le)
 
 -- what is left after two more terms, when less was taken off before
 less-off : (b x y p q : ℕ) → y ≤ x → b - x - p - q ≤ b - y - p - q

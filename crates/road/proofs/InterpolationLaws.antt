@@ -2,13 +2,10 @@
 --   weighted_sum-between   from each entry to the next it is the straight line, both ends included
 --   interpolated-rise      where the entries rise: the entry before and its part of the rise
 -- Assumes nothing.
-use mathlib.Core.Path.{◌≡◌}
-use mathlib.Core.List.{List}
-use Prim.Native.Nat.{ℕ, zero, suc, ◌+◌, ◌*◌, ◌-◌, ◌/◌, ◌%◌, ◌≤◌, ◌<◌}
-use native.Mathlib.Omega.{arith}
-use native.Mathlib.Decide.{dec_le}
-use native.Mathlib.Nat.{div-eq_of_lt-le, div-add-mod', add-mul-div_right, mod-lt, mul-sub, mul_comm, mul-le-mul_left}
-use lib.ListN.{get_or}
+use Rattle.std.proofs.Common.{◌≡◌, List, ℕ, zero, suc, ◌+◌, ◌*◌, ◌-◌, ◌/◌, ◌%◌, ◌≤◌, ◌<◌, arith, div-add-mod', mod-lt, mul_comm}
+use Rattle.std.proofs.Common.{mul-le-mul_left, get_or}
+use Rattle.std.proofs.Math.Decide.{dec_le}
+use Rattle.std.proofs.Math.Nat.{div-eq_of_lt-le, add-mul-div_right, mul-sub}
 use Rattle.numbers.specs.Division.{div_up}
 use Rattle.numbers.proofs.DivisionLaws.{div_up-suc}
 use Rattle.road.specs.Interpolation.{entry_before, entry_after, weighted_sum, interpolated}
@@ -49,10 +46,12 @@ weighted_sum-between row step j t p h = go (dec_le (suc t) step)
         let all : step - 0 ≡ step = omega arith in
         rw (e, at, none, within row step (suc j) 0 p, all) (omega arith)
 
-pub interpolated-rise : (row : List ℕ) (step x : ℕ) → 0 < step → entry_before row step x ≤ entry_after row step x
-    → interpolated row step x ≡ entry_before row step x + (entry_after row step x - entry_before row step x) * (x % step) / step
-unfolding weighted_sum interpolated
-interpolated-rise row step x p h = rise (entry_before row step x) (entry_after row step x) (x % step) h (mod-lt x p)
+-- over rising entries, the one before x and the one after
+pub interpolated-rise : (row : List ℕ) (step x : ℕ) → 0 < step → get_or row (x / step) 0 ≤ get_or row (div_up x step) 0
+    → interpolated row step x
+    ≡ get_or row (x / step) 0 + (get_or row (div_up x step) 0 - get_or row (x / step) 0) * (x % step) / step
+unfolding entry_before entry_after weighted_sum interpolated
+interpolated-rise row step x p h = rise (get_or row (x / step) 0) (get_or row (div_up x step) 0) (x % step) h (mod-lt x p)
   where
     rise : (b a t : ℕ) → b ≤ a → t < step → (b * (step - t) + a * t) / step ≡ b + (a - b) * t / step
     rise b a t k l =

@@ -2,9 +2,7 @@
 --   straight-between-entries, clearances-are-whole, right-clearance-by-tenths, ramp-term-is-greatest, estimate-never-below-zero,
 --   free-flow-speed-never-falls-with-lanes, weather-fits-exactly
 -- Assumes nothing.
-use mathlib.Core.Path.{◌≡◌}
-use Prim.Native.Nat.{◌≤◌, min}
-use native.Mathlib.Omega.{arith}
+use Rattle.std.proofs.Common.{◌≡◌, ◌≤◌, min, arith}
 use Rattle.road.specs.FreeFlowSpeed.{estimated_by}
 use Rattle.road.specs.Laws.{StraightBetweenEntries, ClearancesAreWhole, RightClearanceByTenths, RampTermIsGreatest}
 use Rattle.road.specs.Laws.{EstimateNeverBelowZero, FreeFlowSpeedNeverFallsWithLanes, WeatherFitsExactly}
@@ -12,7 +10,7 @@ use Rattle.road.proofs.InterpolationLaws.{weighted_sum-between}
 use Rattle.road.proofs.AdjustmentLaws.{right_clearance_adjustment-whole, right_clearance_adjustment-tenths}
 use Rattle.road.proofs.AdjustmentLaws.{total_clearance_adjustment-whole}
 use Rattle.road.proofs.RampLaws.{ramp_term-rule}
-use Rattle.road.proofs.RefusalLaws.{road-ends, weather-exactly}
+use Rattle.road.proofs.RefusalLaws.{road-speed-low, weather-exactly}
 use Rattle.road.proofs.FreeFlowSpeedLaws.{freeway_terms-le, multilane_terms-le, free_flow_speed_of-mono}
 
 pub straight-between-entries : StraightBetweenEntries
@@ -33,7 +31,7 @@ ramp-term-is-greatest = ramp_term-rule
 pub estimate-never-below-zero : EstimateNeverBelowZero
 unfolding estimated_by
 estimate-never-below-zero road n z =
-    let base : 30000 ≤ road.speed = (road-ends road z).speed-low in (
+    let base : 30000 ≤ road.speed = road-speed-low road z in (
       λ f. rw f (omega (arith, freeway_terms-le road.lane_width road.right_clearance n road.access)),
       λ m. rw m (omega (arith, multilane_terms-le road n)),
     )

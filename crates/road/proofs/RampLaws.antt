@@ -4,14 +4,9 @@
 --   ramp_table-at   the entry at k is the term of k ramps
 --   ramp_term-rule  it is at most the exact term, and no greater number is, for k to 48
 -- Assumes nothing.
-use mathlib.Core.Path.{◌≡◌, refl}
-use mathlib.Core.Bool.{Bool, ◌&&◌}
-use mathlib.Core.List.{◌∷◌}
-use Prim.Native.Nat.{ℕ, ◌*◌, ◌^◌, ◌≤◌}
-use native.Mathlib.Omega.{arith}
-use native.Mathlib.Nat.{le_trans, pow-le-pow_left, mul-le-mul_right}
-use lib.Dec.{T, leb, leb→le, le→leb}
-use lib.ListN.{get_or, length}
+use Rattle.std.proofs.Common.{◌≡◌, refl, Bool, ◌&&◌, ◌∷◌, ℕ, ◌*◌, ◌^◌, ◌≤◌, arith, le_trans, mul-le-mul_right, T, leb, leb→le, le→leb}
+use Rattle.std.proofs.Common.{get_or, length}
+use Rattle.std.proofs.Math.Nat.{pow-le-pow_left}
 use Rattle.numbers.specs.Search.{DownwardClosed, ends_at}
 use Rattle.numbers.specs.Table.{every_entry}
 use Rattle.numbers.proofs.SearchLaws.{greatest-le, greatest-last, ends_at-passes, ends_at-most}
@@ -69,3 +64,5 @@ module _ (k : ℕ) (h : k ≤ 48) where
         leb→le (entry ^ 25 * 6 ^ 21) (3220 ^ 25 * k ^ 21) (ends_at-passes (ramp_at_most k) entry entry-ends),
         λ t e. ends_at-most (ramp_at_most k) entry t (ramp_at_most-falls k) entry-ends (le→leb (t ^ 25 * 6 ^ 21) (3220 ^ 25 * k ^ 21) e),
       )
+
+pub ruleset table_entries = (ramp_table-at)

@@ -1,6 +1,4 @@
 -- Refusals 1 to 9 and 19 (specs/Refusals).
---   field_refusals-found  the number of 7 to 9 stands for them
---   with-parts            a case that 1 to 6, a number in the place of 7 to 9, and 19 do not refuse: none of the three does
 --   section-road, fields-road   a case that none of 1 to 6 refuses, or none of them: 1 to 5 do not refuse its road
 --   road-numbered, section-numbered, load-numbered, fields-numbered   every number is above 0
 --   RoadEnds, road-ends  the ends that 1 and 5 leave to a road
@@ -9,17 +7,13 @@
 --   weather-exactly, weather-fits, fields-weather   the factors that 19 lets pass
 --   fields-with_lanes     a case that none of them refuses is so with every lane count of the kind
 -- Assumes nothing.
-use mathlib.Core.Path.{◌≡◌, ◌∙◌}
-use mathlib.Core.Bool.{false}
-use mathlib.Core.List.{◌++◌}
-use mathlib.Core.Logic.{◌↔◌}
-use Prim.Native.Nat.{ℕ, ◌≤◌}
-use borrow.Author.Tests.{ltb-false, le-ltb}
-use lib.Dec.{T}
-use Rattle.numbers.proofs.BoolLaws.{or-false}
-use Rattle.checks.specs.Refusals.{first_refusal, found, outside}
-use Rattle.checks.proofs.RefusalLaws.{numbered, first_refusal-none, first_refusal-join, first_refusal-found, found-none, none-met, none-of}
+use Rattle.std.proofs.Common.{arith, ◌≡◌, ◌∙◌, false, ◌++◌, ◌↔◌, ℕ, ◌≤◌, ltb-false, le-ltb, T}
+use Rattle.std.proofs.lemmas.Bool.{or_parts}
+use Rattle.std.proofs.lemmas.Bool.Decides.{nat_tests}
+use Rattle.checks.specs.Refusals.{first_refusal, outside}
+use Rattle.checks.proofs.RefusalLaws.{numbered, first_refusal-none, first_refusal-join, none-met, none-of}
 use Rattle.checks.proofs.RefusalLaws.{within, inside}
+use Rattle.checks.proofs.NumberLaws.{in_turn}
 use Rattle.curve.specs.declared.kind.Kind.{Kind}
 use Rattle.curve.specs.declared.Weather.{Weather}
 use Rattle.curve.specs.Kinds.{lowest_factor, fewest_lanes, most_lanes}
@@ -28,7 +22,7 @@ use Rattle.road.specs.declared.Road.{Road}
 use Rattle.road.specs.declared.Case.{Case}
 use Rattle.road.specs.Cases.{with_lanes}
 use Rattle.road.specs.Refusals.{most_access, greatest_demand, weather_unfit, road_refusals, lane_refusals, section_refusals}
-use Rattle.road.specs.Refusals.{load_refusals, weather_refusals, field_refusals_with, field_refusals, RoadFits, SectionFits, FieldsFit}
+use Rattle.road.specs.Refusals.{load_refusals, weather_refusals, field_refusals, RoadFits, SectionFits, FieldsFit}
 
 -- ---- the parts of the list
 pub road-numbered : (road : Road) → T (numbered (road_refusals road))
@@ -47,24 +41,17 @@ pub fields-numbered : (case : Case) → T (numbered (field_refusals case))
 unfolding field_refusals road_refusals load_refusals
 fields-numbered case = tt
 
-pub ruleset numbered_parts = (road-numbered, section-numbered, load-numbered)
-
-pub field_refusals-found : (case : Case)
-    → first_refusal (field_refusals_with (found (first_refusal (load_refusals case))) case) ≡ first_refusal (field_refusals case)
-unfolding field_refusals
-field_refusals-found case = first_refusal-found (section_refusals case) (load_refusals case) (weather_refusals case) (load-numbered case)
-
-pub with-parts : (case : Case) (loads : ℕ) → first_refusal (field_refusals_with (found loads) case) ≡ 0
-    → SectionFits case × (loads ≡ 0) × (first_refusal (weather_refusals case) ≡ 0)
-with-parts case loads z =
-    let p = first_refusal-join (section_refusals case) (found loads ++ weather_refusals case) (section-numbered case) z in
-    let q = found-none loads (weather_refusals case) p.1 in
-    (p.0, q.0, q.1)
+-- for tactics, where code asks one part after another
+pub ruleset asked_in_turn = (in_turn, road-numbered, section-numbered, load-numbered)
 
 -- a case that none of them refuses: neither 1 to 6 nor 7 to 9 nor 19 do; and the converse
 fields-parts : (case : Case) → FieldsFit case
     → SectionFits case × (first_refusal (load_refusals case) ≡ 0) × (first_refusal (weather_refusals case) ≡ 0)
-fields-parts case z = with-parts case (first_refusal (load_refusals case)) (field_refusals-found case ∙ z)
+unfolding field_refusals
+fields-parts case z =
+    let p = first_refusal-join (section_refusals case) (load_refusals case ++ weather_refusals case) (section-numbered case) z in
+    let q = first_refusal-join (load_refusals case) (weather_refusals case) (load-numbered case) p.1 in
+    (p.0, q.0, q.1)
 
 fields-of : (case : Case) → SectionFits case → first_refusal (load_refusals case) ≡ 0 → first_refusal (weather_refusals case) ≡ 0
     → FieldsFit case
@@ -87,18 +74,19 @@ pub fields-road : (case : Case) → FieldsFit case → RoadFits case.road
 fields-road case z = section-road case (fields-parts case z).0
 
 -- ---- the ends that they leave
-pub record RoadEnds (road : Road) : Type 0 where
-  pub speed-low : 30000 ≤ road.speed
-  pub access-high : road.access ≤ most_access road.kind
-
-pub road-ends : (road : Road) → RoadFits road → RoadEnds road
+pub road-speed-low : (road : Road) → RoadFits road → 30000 ≤ road.speed
 unfolding road_refusals
-road-ends road z =
-    let none = none-met (road_refusals road) tt z in
-    record {
-      speed-low = (within 30000 90000 road.speed none.0).0;
-      access-high = ltb-false (most_access road.kind) road.access none.1.1.1.1.0;
-    }
+road-speed-low road z = grind (arith, nat_tests)
+
+pub freeway-ramps-high : (road : Road) → RoadFits road → road.kind ≡ Kind.Freeway → road.access ≤ 48
+unfolding road_refusals
+freeway-ramps-high road z e = grind (arith, nat_tests)
+
+pub multilane-access-high : (road : Road) → RoadFits road → road.kind ≡ Kind.Multilane → road.access ≤ 200
+unfolding road_refusals
+multilane-access-high road z e = grind (arith, nat_tests)
+
+pub ruleset road_ends = (road-speed-low, freeway-ramps-high, multilane-access-high)
 
 pub loads-exactly : (case : Case)
     → (first_refusal (load_refusals case) ≡ 0)
@@ -106,15 +94,8 @@ pub loads-exactly : (case : Case)
     × (case.heavy_share ≤ 1000))
 unfolding load_refusals
 loads-exactly case = (
-  λ z.
-      let none = none-met (load_refusals case) tt z in
-      let factor = within 250 1000 case.peak_hour_factor none.1.0 in
-      (ltb-false greatest_demand case.demand none.0, factor.0, factor.1, ltb-false 1000 case.heavy_share none.1.1.0),
-  λ (demand, low, high, share).
-      none-of (load_refusals case) (
-        le-ltb greatest_demand case.demand demand,
-        (inside 250 1000 case.peak_hour_factor low high, (le-ltb 1000 case.heavy_share share, tt)),
-      ),
+  λ z. (grind (arith, nat_tests), grind (arith, nat_tests), grind (arith, nat_tests), grind (arith, nat_tests)),
+  λ (demand, low, high, share). grind (arith, nat_tests),
 )
 
 pub record LoadEnds (case : Case) : Type 0 where
@@ -141,24 +122,16 @@ load-ends case z =
 
 pub weather-exactly : (kind : Kind) (weather : Weather) → (weather_unfit kind weather ≡ false) ↔ FactorsFit kind weather
 unfolding weather_unfit
-weather-exactly kind weather = (to, from)
-  where
-    low : ℕ
-    low = lowest_factor kind
-
-    to : weather_unfit kind weather ≡ false → FactorsFit kind weather
-    to e =
-        let none = or-false (outside low 1000 weather.speed_factor) (outside low 1000 weather.capacity_factor) e in
-        let speed = within low 1000 weather.speed_factor none.0 in
-        let capacity = within low 1000 weather.capacity_factor none.1 in
-        record { speed-low = speed.0; speed-high = speed.1; capacity-low = capacity.0; capacity-high = capacity.1 }
-
-    from : FactorsFit kind weather → weather_unfit kind weather ≡ false
-    from fit =
-        simp (
-          inside low 1000 weather.speed_factor fit.speed-low fit.speed-high,
-          inside low 1000 weather.capacity_factor fit.capacity-low fit.capacity-high,
-        )
+weather-exactly kind weather = (
+  λ e.
+      record {
+        speed-low = grind (arith, nat_tests);
+        speed-high = grind (arith, nat_tests);
+        capacity-low = grind (arith, nat_tests);
+        capacity-high = grind (arith, nat_tests);
+      },
+  λ fit. grind (arith, nat_tests),
+)
 
 pub weather-fits : (case : Case) → first_refusal (weather_refusals case) ≡ 0 → FactorsFit case.road.kind case.weather
 weather-fits case w = (weather-exactly case.road.kind case.weather).0 (none-met (weather_refusals case) tt w).0

@@ -41,10 +41,10 @@ unfoldable pub total_clearance : Median → ℕ → ℕ → ℕ
 total_clearance m r l = min 60 r + counted_left_clearance m l
 
 -- "For 12, 10, 8, 6, 4, 2, 0 feet it takes off", with 2 lanes and with 3
-unfoldable pub two_lane_row : List ℕ
+abbrev pub two_lane_row : List ℕ
 two_lane_row = 0 ∷ 400 ∷ 900 ∷ 1300 ∷ 1800 ∷ 3600 ∷ 5400 ∷ []
 
-unfoldable pub three_lane_row : List ℕ
+abbrev pub three_lane_row : List ℕ
 three_lane_row = 0 ∷ 400 ∷ 900 ∷ 1300 ∷ 1700 ∷ 2800 ∷ 3900 ∷ []
 
 unfoldable pub total_clearance_row : ℕ → List ℕ

@@ -27,6 +27,7 @@ fn per_missing_tenth(lanes: u64) -> u64
     }
 }
 
+#[tactic(auto, unfolding(crate::specs::Adjustments::total_clearance_row))]
 fn total_clearance_row(lanes: u64) -> &'static [u64; 7]
     ensures { result.now ≡ total_clearance_row lanes }
 {
@@ -34,6 +35,7 @@ fn total_clearance_row(lanes: u64) -> &'static [u64; 7]
 }
 
 // For a total clearance that is so many tenths short of 12 feet: an entry of the row, and its part of the rise to the next.
+#[tactic(auto, using(crate::proofs::AdjustmentLaws::line_laws))]
 fn missing_clearance_adjustment(lanes: u64, missing: u64) -> u64
     requires { missing ≤ 120 }
     ensures { result ≡ interpolated (total_clearance_row lanes) 20 missing }
@@ -56,6 +58,7 @@ impl Road {
         }
     }
 
+    #[tactic(auto, using(crate::proofs::AdjustmentLaws::adjustment_laws))]
     pub(crate) fn right_clearance_adjustment(&self, lanes: u64) -> u64
         ensures { result ≡ right_clearance_adjustment self.now.right_clearance lanes }
     {
@@ -78,7 +81,7 @@ impl Road {
         self.right_clearance.min(60) + self.counted_left_clearance()
     }
 
-    #[tactic(auto, using(crate::proofs::AdjustmentLaws::adjustment_ends), unfolding(crate::specs::Adjustments::total_clearance_adjustment))]
+    #[tactic(auto, using(crate::proofs::AdjustmentLaws::adjustment_laws), unfolding(crate::specs::Adjustments::total_clearance_adjustment))]
     pub(crate) fn total_clearance_adjustment(&self, lanes: u64) -> u64
         ensures { result ≡ total_clearance_adjustment lanes
             (total_clearance self.now.median self.now.right_clearance self.now.left_clearance) }

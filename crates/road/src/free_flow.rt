@@ -10,6 +10,7 @@ use crate::{Road, Way};
 use curve::kind::Kind;
 
 impl Road {
+    #[tactic(auto, using(crate::proofs::FreeFlowSpeedLaws::estimate_terms), unfolding(crate::specs::FreeFlowSpeed::estimated_by))]
     fn freeway_estimate(&self, lanes: u64) -> u64
         requires speed_low { 30000 ≤ self.now.speed }
         requires ramps_high { self.now.access ≤ 48 }
@@ -21,6 +22,7 @@ impl Road {
             - ramp_term(self.access)
     }
 
+    #[tactic(auto, using(crate::proofs::FreeFlowSpeedLaws::estimate_terms), unfolding(crate::specs::FreeFlowSpeed::estimated_by))]
     fn multilane_estimate(&self, lanes: u64) -> u64
         requires speed_low { 30000 ≤ self.now.speed }
         requires access_high { self.now.access ≤ 200 }
@@ -33,7 +35,7 @@ impl Road {
             - self.access_adjustment()
     }
 
-    #[tactic(auto, unfolding(crate::specs::FreeFlowSpeed::uncapped_by))]
+    #[tactic(auto, using(crate::proofs::RefusalLaws::road_ends), unfolding(crate::specs::FreeFlowSpeed::uncapped_by))]
     fn uncapped_speed(&self, lanes: u64) -> u64
         requires { RoadFits self.now }
         ensures { result ≡ uncapped_speed self.now lanes }

@@ -5,6 +5,7 @@ ghost use Rattle.road.specs.RampTerm.{ramp_term};
 
 use crate::ramp_table::RAMP_TERMS;
 
+#[tactic(auto, using(crate::proofs::RampLaws::table_entries), unfolding(crate::proofs::RampTable::ramp_table))]
 pub(crate) fn ramp_term(ramps: u64) -> u64
     requires { ramps ≤ 48 }
     ensures { result ≡ ramp_term ramps }

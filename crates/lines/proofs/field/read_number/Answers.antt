@@ -53,4 +53,9 @@ returns c =
       | else-loop-b-test w ↦ λ h. absurd (omega arith)
       | then-loop-b-test+then-b-eq9 w ↦ λ h. w.if-b-eq9.true
     ] in
-    rw (read-all _ _ _ l.invariant.digits (omega arith) ended c.args.most_digits l.invariant.few, sym l.invariant.counted, sym c.if-is_empty.ensures, sym c.if-leading_zero.ensures)
+    rw (
+      read-all _ _ _ l.invariant.digits (omega arith) ended c.args.most_digits l.invariant.few,
+      sym l.invariant.counted,
+      sym c.if-is_empty.ensures,
+      sym c.if-leading_zero.ensures,
+    )

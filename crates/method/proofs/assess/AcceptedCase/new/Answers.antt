@@ -1,11 +1,7 @@
--- `method::assess::AcceptedCase::new` meets its contract: a case that is found with a curve is accepted, and the curve is its own.
+-- `method::assess::AcceptedCase::new` meets its contract: the curve of a case that is found with one is well formed.
 -- Assumes nothing.
-use Rattle.method.proofs.RefusalLaws.{accepted-fields}
-use Rattle.method.proofs.CheckedLaws.{checked-accepted, checked-curve}
+use Rattle.method.proofs.CheckedLaws.{checked-curve}
 use Rattle.method.proofs.assess.AcceptedCase.new.Goals as goal
-
-pub of-requires : goal.of-requires
-of-requires c = accepted-fields c.args.case (checked-accepted c.args.case c.args.curve c.requires).0
 
 pub new-requires-clause-well_formed : goal.new-requires-clause-well_formed
 new-requires-clause-well_formed c = (checked-curve c.args.case c.args.curve c.requires).0
