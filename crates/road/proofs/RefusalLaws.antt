@@ -1,6 +1,6 @@
 -- Refusals 1 to 9 and 19 (specs/Refusals).
 --   road-numbered, section-numbered, load-numbered, fields-numbered   every number is above 0
---   asked_in_turn        for tactics: of code that asks one part after another
+--   section_in_turn, fields_in_turn   for tactics: of code that asks one part after another
 --   section-road, fields-road   a case that none of 1 to 6 refuses, or none of them: 1 to 5 do not refuse its road
 --   road-speed-low, freeway-ramps-high, multilane-access-high   the ends that 1 and 5 leave to a road
 --   road_ends            for tactics: the three
@@ -41,7 +41,9 @@ pub fields-numbered : (case : Case) → T (numbered (field_refusals case))
 unfolding field_refusals road_refusals load_refusals
 fields-numbered case = tt
 
-pub ruleset asked_in_turn = (in_turn, road-numbered, section-numbered, load-numbered)
+pub ruleset section_in_turn = (in_turn, road-numbered, nat_tests)
+
+pub ruleset fields_in_turn = (in_turn, section-numbered, load-numbered)
 
 -- a case that none of them refuses: neither 1 to 6 nor 7 to 9 nor 19 do; and the converse
 fields-parts : (case : Case) → FieldsFit case
