@@ -1,18 +1,19 @@
 -- The laws of the numbers of refusals (specs/Numbers).
---   number-above, number-le       a refusal's number is from 1 to 22; number_ends: the two, for tactics
---   refusal_of-number               the refusal of a refusal's number is that refusal
---   number-refusal_of               the number of the refusal of a number from 1 to 22 is that number
+--   number-above, number-le    a refusal's number is from 1 to 22
+--   refusal_of-number          the refusal of a refusal's number is that refusal
+--   number-refusal_of          the number of the refusal of a number from 1 to 22 is that number
 --   ok_unless-ok, ok_unless-err   the answer by its number, as code hands it back
 --   ok_unless-none, ok_unless-some   the same by the number alone
---   ok_unless-by                  what holds of the value and of the refusal holds of it
---   ok_unless-found               a value is the answer's own, and its number 0
---   ok_unless-above               a refusal's number is not 0
---   ok_unless-refused             a refusal is that of any answer with the same number
---   refusal_number-ok_unless      its own number
+--   ok_unless-by               what holds of the value and of the refusal holds of it
+--   ok_unless-found            a value is the answer's own, and its number 0
+--   ok_unless-above            a refusal's number is not 0
+--   ok_unless-refused          a refusal is that of any answer with the same number
+--   refusal_number-ok_unless   its own number
 --   first_refusal-err, first_refusal-ok   of a joined list, by what the first part says
+--   number_ends, in_turn       for tactics: the first two, and the last two
 -- Assumes nothing.
-use Rattle.std.proofs.Common.{◌≡◌, refl, sym, ℕ, suc, ◌-◌, ◌≤◌, ◌<◌, Result, Ok, Err, T, eqb, eqb→eq, subst, lit<, lit≤, arith, Bool, true}
-use Rattle.std.proofs.Common.{false, cond, ◌∙◌, List, ◌++◌, ne_eqb, ⊎_elim, eq-zero-or-pos}
+use Rattle.std.proofs.Common.{◌≡◌, refl, sym, ℕ, suc, ◌-◌, ◌≤◌, ◌<◌, Result, Ok, Err, T, eqb, eqb→eq, subst, lit<, lit≤, arith, Bool, ◌∙◌}
+use Rattle.std.proofs.Common.{List, ◌++◌, ne_eqb, ⊎_elim, eq-zero-or-pos}
 use Rattle.std.proofs.lemmas.Bool.Decides.{nat_tests}
 use Rattle.numbers.specs.Table.{every_up_to}
 use Rattle.numbers.proofs.TableLaws.{every_up_to-at}

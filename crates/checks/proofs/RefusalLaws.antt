@@ -16,8 +16,7 @@
 --                           in which it is not met
 -- Assumes nothing.
 use Rattle.std.proofs.Common.{◌≡◌, refl, sym, ap, ◌∙◌, Bool, true, false, cond, ◌&&◌, List, [], ◌∷◌, ◌++◌, ⊎_elim, ℕ, suc, ◌≤◌, ◌<◌, min}
-use Rattle.std.proofs.Common.{eq-zero-or-pos, arith, ltb-false, lt-ltb, le-ltb, ne_eqb, T, leb, ltb, eqb, leb→le, ltb→lt, eqb→eq}
-use Rattle.std.proofs.lemmas.Bool.{or_parts}
+use Rattle.std.proofs.Common.{eq-zero-or-pos, arith, lt-ltb, le-ltb, ne_eqb, T, leb, ltb, eqb, leb→le, ltb→lt, eqb→eq}
 use Rattle.std.proofs.lemmas.Bool.Decides.{nat_tests}
 use Rattle.numbers.proofs.BoolLaws.{and-left, and-right, cond-le}
 use Rattle.checks.specs.Refusals.{Condition, refuses, first_refusal, found, by_turns, lesser_refusal, unless_refused, outside}

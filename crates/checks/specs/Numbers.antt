@@ -41,7 +41,7 @@ in_order =
     ∷ Refusal.LetterUnknown ∷ Refusal.BufferTooShort ∷ Refusal.DayUnfit ∷ Refusal.WeatherUnfit ∷ Refusal.SharesUnfit
     ∷ Refusal.DailyTrafficTooLarge ∷ Refusal.EndsReversed ∷ []
 
--- any other number has the last: no list of refusals has one
+-- 0 has the first, and any number above 22 the last: no refusal has such a number
 unfoldable pub refusal_of : ℕ → Refusal
 refusal_of n = slice_index_or in_order (n - 1) Refusal.EndsReversed
 

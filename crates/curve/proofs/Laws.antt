@@ -7,15 +7,14 @@
 use Rattle.std.proofs.Common.{refl, arith}
 use Rattle.curve.specs.declared.kind.Kind.TheVariants as Kind
 use Rattle.curve.specs.Curves.{capacity}
-use Rattle.curve.specs.Laws.{CapacityWithinEnds, CapacityReachesEnds, ClearWeatherChangesNothing, CurveUnderIsWellFormed}
-use Rattle.curve.specs.Laws.{SpeedIsAboveZero, SpeedNeverBelowCapacitySpeed, SpeedNeverRisesWithFlow}
-use Rattle.curve.specs.Laws.{DensityNeverFallsWithFlow, SpeedNeverFallsWithFreeFlowSpeed, DensityMeetsLimitByExactSpeed}
-use Rattle.curve.specs.Laws.{DensityAtMost450, LetterNeverBetterWithFlow, LetterNeverBetter}
+use Rattle.curve.specs.Laws.{CapacityWithinEnds, CapacityReachesEnds, ClearWeatherChangesNothing, CurveUnderIsWellFormed, SpeedIsAboveZero}
+use Rattle.curve.specs.Laws.{SpeedNeverBelowCapacitySpeed, SpeedNeverRisesWithFlow, DensityNeverFallsWithFlow}
+use Rattle.curve.specs.Laws.{SpeedNeverFallsWithFreeFlowSpeed, DensityMeetsLimitByExactSpeed, DensityAtMost450, LetterNeverBetterWithFlow}
+use Rattle.curve.specs.Laws.{LetterNeverBetter}
 use Rattle.curve.proofs.CurveLaws.{capacity-within}
 use Rattle.curve.proofs.WeatherLaws.{curve_under-clear, curve_under-fits}
 use Rattle.curve.proofs.SpeedLaws.{speed-numerator-pos, speed-denominator-pos, speed-antitone, capacity_speed-le}
-use Rattle.curve.proofs.ServiceLaws.{density-le-iff, shown_density-eq, density-mono, density-le, letter_at-flow, letter_at-mono}
-use Rattle.curve.proofs.ServiceLaws.{speed-mono}
+use Rattle.curve.proofs.ServiceLaws.{density-le-iff, shown_density-eq, density-mono, density-le, letter_at-flow, letter_at-mono, speed-mono}
 
 pub capacity-within-ends : CapacityWithinEnds
 capacity-within-ends = capacity-within

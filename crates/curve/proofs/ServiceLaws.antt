@@ -3,6 +3,7 @@
 --   shown_density-eq    up to capacity it is the shown density
 --   density-exact       it may be worked from any fraction of the value of S
 --   limit-exact         the test of a limit may be worked from any such fraction too
+--   performance-exact, performance-beyond   so may the three that are shown; beyond capacity they are 0, 0 and F
 --   density-mono        more flow at no higher speed: no less density
 --   density-le          up to capacity the density is at most 450
 --   shown_density-le, shown_speed-le   what is shown is at most 450, and at most F
@@ -18,8 +19,8 @@
 --   letter_at-zero      without flow the letter is A
 --   speed-mono          with a higher free-flow speed the speed never falls, of either kind
 -- Assumes nothing.
-use Rattle.std.proofs.Common.{◌≡◌, refl, ap, Bool, true, false, cond, ◌↔◌, ℕ, zero, suc, ◌*◌, ◌/◌, ◌≤◌, ◌<◌, arith, le_trans, le_of_eq}
-use Rattle.std.proofs.Common.{zero-mul, mul-le-mul_right, div-one, le-leb, T, leb, eqb, leb→le, le→leb}
+use Rattle.std.proofs.Common.{◌≡◌, refl, ap, Bool, true, false, cond, ◌↔◌, ℕ, ◌*◌, ◌/◌, ◌≤◌, ◌<◌, arith, le_trans, le_of_eq, zero-mul}
+use Rattle.std.proofs.Common.{mul-le-mul_right, div-one, le-leb, T, leb, leb→le, le→leb}
 use Rattle.std.proofs.Math.Decide.{dec_le}
 use Rattle.std.proofs.lemmas.Bool.{lt-leb}
 use Rattle.std.proofs.lemmas.Bool.Decides.{nat_tests}
@@ -27,7 +28,8 @@ use Rattle.numbers.specs.declared.Fraction.{Fraction}
 use Rattle.numbers.specs.Division.{div_up}
 use Rattle.numbers.specs.Fraction.{over, whole, times, divided_by, rounded_down, AtMost}
 use Rattle.numbers.proofs.DivisionLaws.{div_up-le-iff, div_up-zero}
-use Rattle.numbers.proofs.FractionLaws.{AtMost-trans, rounded_down-mono, rounded_down-eq, rounded_up-mono, rounded_up-eq, divided_by-mono, quotient-le-iff}
+use Rattle.numbers.proofs.FractionLaws.{AtMost-trans, rounded_down-mono, rounded_down-eq, rounded_up-mono, rounded_up-eq, divided_by-mono}
+use Rattle.numbers.proofs.FractionLaws.{quotient-le-iff}
 use Rattle.numbers.proofs.BoolLaws.{and-left, and-right}
 use Rattle.curve.specs.declared.kind.Kind.{Kind}
 use Rattle.curve.specs.declared.Curve.{Curve}

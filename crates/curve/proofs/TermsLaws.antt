@@ -1,19 +1,19 @@
 -- The terms of a curve (src/speed.rt, specs/Terms).
---   share-denominator-eq       the denominator of w, at every v
 --   flow-within, flow-beyond   a flow rate by the greatest that keeps to capacity
---   TermsEnds, terms-ends      what 64 bits want of the terms
---   terms-exact                the speed worked from them
+--   fall-within                what is taken from the free-flow term is at most that term
+--   terms-exact                the speed worked from the terms
+--   terms_fit, performance_laws, limit_laws   for tactics: what src wants of a speed, of what is shown and of a limit
 -- Assumes nothing.
 use Rattle.std.proofs.Common.{◌≡◌, refl, sym, ap, ◌∙◌, ℕ, ◌*◌, ◌-◌, ◌≤◌, ◌<◌, arith, mul-le-mul}
 use Rattle.numbers.specs.Fraction.{over}
+use Rattle.numbers.proofs.DivisionLaws.{div_ceil-eq}
 use Rattle.curve.specs.declared.kind.Kind.{Kind}
 use Rattle.curve.specs.declared.Curve.{Curve}
 use Rattle.curve.specs.declared.speed.CurveTerms.{CurveTerms}
 use Rattle.curve.specs.Speed.{span_to_capacity, fall_share_by, fall_share, ExactSpeed}
 use Rattle.curve.specs.Terms.{share_denominator_of}
 use Rattle.curve.proofs.ServiceLaws.{performance-exact, performance-beyond, limit-exact, meets_limit-beyond}
-use Rattle.numbers.proofs.DivisionLaws.{div_ceil-eq}
-use Rattle.curve.proofs.SpeedLaws.{share-le, share-denominator-le, reduced_numerator, reduced_speed, reduced_speed-exact}
+use Rattle.curve.proofs.SpeedLaws.{share-le, reduced_numerator, reduced_speed, reduced_speed-exact}
 
 denominator-by : (kind : Kind) (curve : Curve) (v : ℕ)
     → (fall_share_by kind curve v).denominator ≡ share_denominator_of kind (span_to_capacity curve)
@@ -21,7 +21,7 @@ unfolding fall_share_by
 denominator-by Kind.Freeway curve v = refl
 denominator-by Kind.Multilane curve v = refl
 
-pub share-denominator-eq : (curve : Curve) (v : ℕ) → (fall_share curve v).denominator ≡ share_denominator_of curve.kind (span_to_capacity curve)
+share-denominator-eq : (curve : Curve) (v : ℕ) → (fall_share curve v).denominator ≡ share_denominator_of curve.kind (span_to_capacity curve)
 share-denominator-eq curve v = denominator-by curve.kind curve v
 
 module _ (terms : CurveTerms) (v : ℕ) where

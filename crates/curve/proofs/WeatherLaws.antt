@@ -3,6 +3,8 @@
 --   adjusted_speed-clear, curve_under-clear   in clear weather F is kept, and the curve is the one at that F
 --   multilane-clear         factors that fit kind M are those of clear weather
 --   curve_under-fits        with factors and speeds between their ends it is well formed and within the sizes
+--   curve_under-worked      it as src works it out
+--   curve_laws              for tactics: what src wants of it
 -- Assumes nothing.
 use Rattle.std.proofs.Common.{◌≡◌, refl, ap, sym, subst, ◌∙◌, ℕ, ◌+◌, ◌*◌, ◌-◌, ◌/◌, ◌≤◌, arith, mul-le-mul_left, mul-le-mul_right}
 use Rattle.std.proofs.Common.{le_trans}

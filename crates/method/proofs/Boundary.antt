@@ -14,8 +14,8 @@ use Rattle.curve.specs.Weather.{adjusted_speed, adjusted_capacity, adjusted_brea
 use Rattle.curve.specs.Speed.{fall_share_by, speed, shown_speed}
 use Rattle.curve.specs.Service.{density, shown_density, density_limit, density_letter, letter_at, performance}
 use Rattle.road.specs.Interpolation.{entry_before, entry_after, weighted_sum, interpolated}
-use Rattle.road.specs.Adjustments.{lane_width_adjustment, per_missing_foot, right_clearance_row, right_clearance_adjustment, total_clearance}
-use Rattle.road.specs.Adjustments.{two_lane_row, three_lane_row, total_clearance_row, total_clearance_adjustment, access_adjustment}
+use Rattle.road.specs.Adjustments.{lane_width_adjustment, per_missing_foot, right_clearance_row, right_clearance_adjustment}
+use Rattle.road.specs.Adjustments.{total_clearance, total_clearance_row, total_clearance_adjustment, access_adjustment}
 use Rattle.road.specs.RampTerm.{ramp_at_most, ramp_term}
 use Rattle.road.specs.FreeFlowSpeed.{estimated_by, uncapped_by, free_flow_speed_of}
 use Rattle.road.specs.Refusals.{weather_unfit, road_refusals, load_refusals, field_refusals}

@@ -3,8 +3,10 @@
 --   checked_curve-eq     a case that 1 to 9 and 19 do not refuse: 10 alone is checked
 --   checked-accepted     a case that is checked and found with a curve is accepted, and the curve is its own
 --   checked-curve        which is well formed and within the sizes
+--   checked-err          a case that one of 1 to 9 and 19 refuses
 --   by-accepted, by-refused   an answer to a case, of any type, by what the check found
 --   checked_curve-accepted, checked_curve-refused   the same where 10 alone is checked
+--   check_laws, found_laws, answer_laws   for tactics: of a check, of a case that is found with a curve, of an answer
 -- Assumes nothing.
 use Rattle.std.proofs.Common.{◌≡◌, refl, sym, ap, ◌∙◌, ◌<◌, Result, Ok, Err}
 use Rattle.checks.specs.declared.Refusal.{Refusal}
@@ -13,7 +15,6 @@ use Rattle.checks.specs.Refusals.{first_refusal}
 use Rattle.checks.proofs.NumberLaws.{ok_unless-ok, ok_unless-err, first_refusal-err, ok_unless-found, ok_unless-refused, ok_unless-above}
 use Rattle.curve.specs.declared.Curve.{Curve}
 use Rattle.curve.specs.Curves.{WellFormed, Sized}
-use Rattle.curve.specs.Weather.{curve_under}
 use Rattle.curve.proofs.WeatherLaws.{curve_under-fits}
 use Rattle.road.specs.declared.Case.{Case}
 use Rattle.road.specs.FreeFlowSpeed.{free_flow_speed_of}
@@ -53,7 +54,6 @@ checked-err case r e =
     sym (ok_unless-err r (refusal case) (case_curve case)
     (first_refusal-err (field_refusals case) (speed_refusals case.road case.weather case.lanes) r e))
 
--- for tactics
 pub ruleset check_laws = (fields-road, checked_curve-eq, checked-err)
 
 -- an answer to a case, of any type, by what the check found

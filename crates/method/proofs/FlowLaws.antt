@@ -1,6 +1,8 @@
 -- The flow rate (specs/Flow).
 --   truck_equivalent-ends   E is 2 or 3
+--   heavy-le             the heavy vehicles add at most 2,000
 --   load_of-fits         64 bits hold the products with the load of a case that 1 to 9 and 19 do not refuse
+--   load_laws            for tactics: the three
 --   case_load-fits       the same with its own lanes
 --   flow_rate_of-mono    it rises with demand and heavy factor, and falls with the divisor
 --   case_flow_rate-mono   it rises with demand, share and equivalent, and falls with peak-hour factor and lanes
@@ -40,7 +42,6 @@ load_of-fits case n z =
       divisor-le = mul-le-mul {n₂ = 1000} {m₂ = 8} ends.factor-high (omega (arith, ends.lanes-high, kind.lanes-le));
     }
 
--- for tactics
 pub ruleset load_laws = (truck_equivalent-ends, heavy-le, load_of-fits)
 
 pub case_load-fits : (case : Case) → FieldsFit case → LoadFits (load_of case case.lanes)

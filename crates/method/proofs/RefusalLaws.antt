@@ -7,27 +7,30 @@
 --   with-of                 where the first two do not refuse, 19 and 10 decide
 --   refusals-fields         a case that 1 to 9 and 19 do not refuse: 10 decides
 --   accepted-fields         what is accepted: neither 1 to 9 nor 19 refuse it
+--   accepted-demand         nor is its demand above the greatest
 --   accepted-speed, accepted-adjusted   F of an accepted case is at its lower end or above, before its factor and after it
 --   refusal-within, refusal-above   the refusal of a case by that of the same case with no demand: the same with every demand up to the
 --                          greatest; with a greater one 7, unless one of 1 to 6 comes before it
 --   accepted-with_demand    an accepted case is accepted with every demand up to the greatest
+--   refusal_of-ten          the refusal with number 10
+--   accepted_ends, ten_laws   for tactics: accepted-demand, and what src wants of 10
 -- Assumes nothing.
 use Rattle.std.proofs.Common.{◌≡◌, sym, ap, ◌∙◌, List, ◌++◌, append_assoc, ℕ, ◌≤◌, ◌<◌, min, ltb-false, le-ltb, lt-ltb, T, take, drop}
 use Rattle.checks.specs.Refusals.{Condition, first_refusal, found, unless_refused}
-use Rattle.checks.proofs.RefusalLaws.{numbered, first_refusal-none, first_refusal-join, first_refusal-le}
-use Rattle.checks.proofs.RefusalLaws.{first_refusal-met, first_refusal-found, none-met}
+use Rattle.checks.specs.declared.Refusal.TheVariants as Refusal
+use Rattle.checks.specs.Numbers.{refusal_of}
+use Rattle.checks.proofs.RefusalLaws.{numbered, first_refusal-none, first_refusal-join, first_refusal-le, first_refusal-met}
+use Rattle.checks.proofs.RefusalLaws.{first_refusal-found, none-met}
+use Rattle.checks.proofs.NumberLaws.{refusal_of-number}
 use Rattle.curve.specs.Kinds.{lowest_speed, lowest_adjusted_speed}
 use Rattle.curve.specs.Weather.{adjusted_speed}
 use Rattle.curve.proofs.WeatherLaws.{curve_under-worked}
-use Rattle.checks.specs.declared.Refusal.TheVariants as Refusal
-use Rattle.checks.specs.Numbers.{refusal_of}
-use Rattle.checks.proofs.NumberLaws.{refusal_of-number}
-use Rattle.road.proofs.FreeFlowSpeedLaws.{free_flow_speed_of-le}
 use Rattle.road.specs.declared.Case.{Case}
 use Rattle.road.specs.Cases.{with_demand}
 use Rattle.road.specs.FreeFlowSpeed.{free_flow_speed_of}
-use Rattle.road.specs.Refusals.{greatest_demand, road_refusals, section_refusals, load_refusals, weather_refusals}
-use Rattle.road.specs.Refusals.{field_refusals, SectionFits, FieldsFit}
+use Rattle.road.specs.Refusals.{greatest_demand, road_refusals, section_refusals, load_refusals, weather_refusals, field_refusals}
+use Rattle.road.specs.Refusals.{SectionFits, FieldsFit}
+use Rattle.road.proofs.FreeFlowSpeedLaws.{free_flow_speed_of-le}
 use Rattle.road.proofs.RefusalLaws.{section-numbered, load-numbered, fields-numbered, load-ends}
 use Rattle.method.specs.Refusals.{speed_refusals, refusals_with, refusals, refusal, Accepted}
 
@@ -117,7 +120,6 @@ accepted-with_demand case demand a h =
 pub refusal_of-ten : refusal_of 10 ≡ Refusal.SpeedBelowLowerEnd
 refusal_of-ten = refusal_of-number Refusal.SpeedBelowLowerEnd
 
--- for tactics
 pub ruleset accepted_ends = (accepted-demand)
 
 pub ruleset ten_laws = (free_flow_speed_of-le, curve_under-worked, refusal_of-ten)

@@ -5,8 +5,7 @@
 --   cond-all            what holds of both outcomes holds of the choice
 --   cond-le             both outcomes are at most z: so is the choice
 -- Assumes nothing.
-use Rattle.std.proofs.Common.{Bool, true, false, cond, ◌&&◌, ◌≡◌, refl, sym, subst, ◌↔◌, ℕ, ◌≤◌, arith, le_refl, le_trans, le-leb, T, leb}
-use Rattle.std.proofs.Math.Decide.{dec_le}
+use Rattle.std.proofs.Common.{Bool, true, false, cond, ◌&&◌, ◌≡◌, sym, subst, ◌↔◌, ℕ, ◌≤◌, arith, le-leb, T, leb}
 use Rattle.std.proofs.lemmas.Bool.{lt-leb}
 
 pub T-true : (b : Bool) → b ≡ true → T b

@@ -4,7 +4,8 @@
 --   div_up-mono      it rises with a and falls with b
 --   div_up-zero      of 0 it is 0
 --   div_up-suc       of a number above 0: one more than the division of the number before
---   div_ceil-eq      it is what std's div_ceil ensures; divisions: this law, for tactics
+--   div_ceil-eq      it is what std's div_ceil ensures
+--   divisions        for tactics: the last
 -- Assumes nothing.
 use Rattle.std.proofs.Common.{◌≡◌, ◌↔◌, ℕ, suc, ◌+◌, ◌*◌, ◌-◌, ◌/◌, ◌≤◌, ◌<◌, arith, mul-le-mul_left, div-lt_iff_lt-mul, le_antisymm}
 use Rattle.std.proofs.Common.{lt_of_mul-lt-mul_right}

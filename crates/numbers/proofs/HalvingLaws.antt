@@ -11,10 +11,10 @@ use Rattle.std.proofs.Common.{◌≡◌, refl, sym, ap, ◌∙◌, Bool, true, f
 use Rattle.std.proofs.Common.{◌≤◌, ◌<◌, zero-le, arith, le_refl, lt-ltb, le-ltb}
 use Rattle.std.proofs.Math.Numerals.{unary_clauses}
 use Rattle.std.proofs.Math.Decide.{dec_le}
-use Rattle.numbers.proofs.BoolLaws.{T-true, T-false, cond-all}
-use Rattle.numbers.proofs.SearchLaws.{greatest-between}
 use Rattle.numbers.specs.Search.{greatest, DownwardClosed}
 use Rattle.numbers.specs.Halving.{middle, tried_between, tried_up_to}
+use Rattle.numbers.proofs.BoolLaws.{T-true, T-false, cond-all}
+use Rattle.numbers.proofs.SearchLaws.{greatest-between}
 
 -- a step brings the two nearer
 middle-below : (low high : ℕ) → 1 < high - low → middle low high < high

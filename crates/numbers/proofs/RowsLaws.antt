@@ -2,11 +2,11 @@
 --   rows-append, rows-next   the rows of two lists; of one thing more
 --   rows-length, rows-at     rows that are all as long: how many numbers they are; those of one thing
 -- Assumes nothing.
-use Rattle.std.proofs.Common.{◌≡◌, refl, sym, ap, ◌∙◌, List, [], ◌∷◌, ◌++◌, append_assoc, append-nil, ℕ, suc, ◌+◌, ◌*◌, ◌<◌, add-one, arith}
-use Rattle.std.proofs.Common.{length, take, drop, get_or, length-append, take-suc, length-take-le, drop_at, take_at}
-use mathlib.Core.List.{flat_map}
+use Rattle.std.proofs.Common.{◌≡◌, ap, ◌∙◌, List, [], ◌∷◌, ◌++◌, append_assoc, append-nil, ℕ, suc, ◌+◌, ◌*◌, ◌<◌, add-one, arith, length}
+use Rattle.std.proofs.Common.{take, drop, get_or, length-append, take-suc, length-take-le, drop_at, take_at}
 use Rattle.std.proofs.Math.Seq.{split_at}
 use Rattle.std.proofs.lemmas.Grind.{flat_map-append}
+use mathlib.Core.List.{flat_map}
 
 module _ {A : Type 0} (row : A → List ℕ) where
   pub rows-append : (xs ys : List A) → flat_map row (xs ++ ys) ≡ flat_map row xs ++ flat_map row ys

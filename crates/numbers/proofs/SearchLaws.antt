@@ -21,8 +21,8 @@
 use Rattle.std.proofs.Common.{◌≡◌, refl, sym, ap, subst, ◌∙◌, Bool, true, false, cond, not, ◌↔◌, ◌⊎◌, inl, inr, ⊎_elim, T, T_not, ℕ, zero}
 use Rattle.std.proofs.Common.{suc, ◌+◌, ◌≤◌, ◌<◌, zero-le, arith, le_refl, le_trans, le_antisymm}
 use Rattle.std.proofs.Math.Decide.{dec_le}
-use Rattle.numbers.proofs.BoolLaws.{and-left, and-right}
 use Rattle.numbers.specs.Search.{greatest, least_from, least, DownwardClosed, UpwardClosed, ends_at, starts_at}
+use Rattle.numbers.proofs.BoolLaws.{and-left, and-right}
 
 -- one step of a search downwards: it takes suc n where that passes, and what is found up to n where it does not
 module _ (p : ℕ → Bool) (n g : ℕ) where

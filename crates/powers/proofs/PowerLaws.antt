@@ -4,6 +4,7 @@
 --   power-zero        T(0) is 0
 --   power-mono        T rises
 --   power-le          no T is above 1,000,000
+--   table_entries     for tactics: power_table-at
 -- Assumes nothing.
 use Rattle.std.proofs.Common.{◌≡◌, refl, Bool, ◌&&◌, ◌∷◌, ℕ, zero, suc, ◌*◌, ◌^◌, ◌≤◌, arith, le_trans, le_refl, T, leb, leb→le, le→leb}
 use Rattle.std.proofs.Common.{get_or, length}

@@ -4,26 +4,27 @@
 --   total_clearance_adjustment-le, median_adjustment-le, access_adjustment-le   the most that it is
 --   right_clearance_adjustment-antitone, total_clearance_adjustment-antitone    with more lanes it is no more
 --   right_clearance_adjustment-whole, total_clearance_adjustment-whole          the interpolation rounds nothing
---   right_clearance_adjustment-tenths                                           a missing tenth takes off a tenth of what a foot takes
+--   right_clearance_adjustment-tenths, right_clearance_adjustment-by            a missing tenth takes off a tenth of what a foot takes
 --   total_clearance_row-line-le                                                 the line of a row of kind M is at most 5,400
 --   total_clearance_row-rises, total_clearance_row-after-le                     its entries on both sides of a place
+--   adjustment_laws, line_laws                                                  for tactics
 -- Assumes nothing.
 use Rattle.std.proofs.Common.{◌≡◌, Bool, List, ℕ, ◌*◌, ◌-◌, ◌/◌, ◌≤◌, min, arith, mul-le-mul, mul-le-mul_left, le_refl, le_trans, le-leb, T}
 use Rattle.std.proofs.Common.{leb, eqb, leb→le, eqb→eq, get_or}
 use Rattle.std.proofs.Math.Decide.{dec_le}
 use Rattle.std.proofs.lemmas.Bool.{lt-leb}
+use Rattle.std.proofs.lemmas.Bool.Decides.{nat_tests}
 use Rattle.numbers.specs.Division.{div_up}
 use Rattle.numbers.specs.Table.{every_up_to}
 use Rattle.numbers.proofs.DivisionLaws.{div_ceil-eq}
-use Rattle.road.proofs.InterpolationLaws.{interpolated-rise}
 use Rattle.numbers.proofs.TableLaws.{every_up_to-at}
 use Rattle.numbers.proofs.BoolLaws.{cond-all}
-use Rattle.std.proofs.lemmas.Bool.Decides.{nat_tests}
 use Rattle.road.specs.declared.Median.{Median}
 use Rattle.road.specs.Interpolation.{entry_before, entry_after, weighted_sum, interpolated}
 use Rattle.road.specs.Adjustments.{lane_width_adjustment, per_missing_foot, right_clearance_row, right_clearance_adjustment}
 use Rattle.road.specs.Adjustments.{counted_left_clearance, total_clearance, two_lane_row, three_lane_row, total_clearance_row}
 use Rattle.road.specs.Adjustments.{total_clearance_adjustment, median_adjustment, access_adjustment}
+use Rattle.road.proofs.InterpolationLaws.{interpolated-rise}
 
 pub lane_width_adjustment-le : (w : ℕ) → lane_width_adjustment w ≤ 6600
 unfolding lane_width_adjustment
@@ -153,7 +154,24 @@ access_adjustment-le p = omega arith
 
 -- ---- for tactics
 -- the most that each is, and what a missing tenth takes off
-pub ruleset adjustment_laws = (lane_width_adjustment-le, per_missing_foot-le, right_clearance_adjustment-le, counted_left_clearance-le, total_clearance-le, total_clearance_adjustment-le, total_clearance_row-line-le, median_adjustment-le, access_adjustment-le, right_clearance_adjustment-by)
+pub ruleset adjustment_laws = (
+  lane_width_adjustment-le,
+  per_missing_foot-le,
+  right_clearance_adjustment-le,
+  counted_left_clearance-le,
+  total_clearance-le,
+  total_clearance_adjustment-le,
+  total_clearance_row-line-le,
+  median_adjustment-le,
+  access_adjustment-le,
+  right_clearance_adjustment-by,
+)
 
 -- of a place in a row of kind M
-pub ruleset line_laws = (div_ceil-eq, total_clearance_row-rises, total_clearance_row-after-le, total_clearance_row-line-le, interpolated-rise)
+pub ruleset line_laws = (
+  div_ceil-eq,
+  total_clearance_row-rises,
+  total_clearance_row-after-le,
+  total_clearance_row-line-le,
+  interpolated-rise,
+)

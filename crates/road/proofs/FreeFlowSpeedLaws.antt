@@ -1,6 +1,7 @@
 -- Free-flow speed (specs/FreeFlowSpeed): no subtraction goes below 0, and F never falls with more lanes.
 --   freeway_terms-le          what is taken off on kind F is at most 30,000
 --   multilane_terms-le        what is taken off on kind M is at most 30,000
+--   estimate_terms            for tactics: the most that each of them is
 --   uncapped_speed-mono       F before its upper end never falls with more lanes
 --   free_flow_speed_of-mono   F never falls with more lanes
 --   free_flow_speed_of-le     F is at most its upper end
@@ -8,9 +9,9 @@
 -- Assumes nothing.
 use Rattle.std.proofs.Common.{◌≡◌, ℕ, ◌+◌, ◌-◌, ◌≤◌, arith, le_refl}
 use Rattle.curve.specs.declared.kind.Kind.{Kind}
+use Rattle.curve.specs.Kinds.{highest_speed}
 use Rattle.road.specs.declared.Way.{Way}
 use Rattle.road.specs.declared.Road.{Road}
-use Rattle.curve.specs.Kinds.{highest_speed}
 use Rattle.road.specs.Adjustments.{lane_width_adjustment, right_clearance_adjustment, total_clearance, total_clearance_adjustment}
 use Rattle.road.specs.Adjustments.{median_adjustment, access_adjustment}
 use Rattle.road.specs.RampTerm.{ramp_term}

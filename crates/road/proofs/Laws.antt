@@ -4,8 +4,8 @@
 -- Assumes nothing.
 use Rattle.std.proofs.Common.{◌≡◌, ◌≤◌, min, arith}
 use Rattle.road.specs.FreeFlowSpeed.{estimated_by}
-use Rattle.road.specs.Laws.{StraightBetweenEntries, ClearancesAreWhole, RightClearanceByTenths, RampTermIsGreatest}
-use Rattle.road.specs.Laws.{EstimateNeverBelowZero, FreeFlowSpeedNeverFallsWithLanes, WeatherFitsExactly}
+use Rattle.road.specs.Laws.{StraightBetweenEntries, ClearancesAreWhole, RightClearanceByTenths, RampTermIsGreatest, EstimateNeverBelowZero}
+use Rattle.road.specs.Laws.{FreeFlowSpeedNeverFallsWithLanes, WeatherFitsExactly}
 use Rattle.road.proofs.InterpolationLaws.{weighted_sum-between}
 use Rattle.road.proofs.AdjustmentLaws.{right_clearance_adjustment-whole, right_clearance_adjustment-tenths}
 use Rattle.road.proofs.AdjustmentLaws.{total_clearance_adjustment-whole}

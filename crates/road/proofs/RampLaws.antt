@@ -3,6 +3,7 @@
 --   ramp_term-le    it is at most 19,000
 --   ramp_table-at   the entry at k is the term of k ramps
 --   ramp_term-rule  it is at most the exact term, and no greater number is, for k to 48
+--   table_entries   for tactics: ramp_table-at
 -- Assumes nothing.
 use Rattle.std.proofs.Common.{◌≡◌, refl, Bool, ◌&&◌, ◌∷◌, ℕ, ◌*◌, ◌^◌, ◌≤◌, arith, le_trans, mul-le-mul_right, T, leb, leb→le, le→leb}
 use Rattle.std.proofs.Common.{get_or, length}

@@ -1,28 +1,28 @@
 -- Refusals 1 to 9 and 19 (specs/Refusals).
---   section-road, fields-road   a case that none of 1 to 6 refuses, or none of them: 1 to 5 do not refuse its road
 --   road-numbered, section-numbered, load-numbered, fields-numbered   every number is above 0
---   RoadEnds, road-ends  the ends that 1 and 5 leave to a road
+--   section_in_turn, fields_in_turn   for tactics: of code that asks one part after another
+--   section-road, fields-road   a case that none of 1 to 6 refuses, or none of them: 1 to 5 do not refuse its road
+--   road-speed-low, freeway-ramps-high, multilane-access-high   the ends that 1 and 5 leave to a road
+--   road_ends            for tactics: the three
 --   loads-exactly        a load that 7 to 9 let pass, by its ends
 --   LoadEnds, load-ends  the ends that 6 to 9 leave to a case
 --   weather-exactly, weather-fits, fields-weather   the factors that 19 lets pass
---   fields-with_lanes     a case that none of them refuses is so with every lane count of the kind
+--   fields-with_lanes    a case that none of them refuses is so with every lane count of the kind
 -- Assumes nothing.
-use Rattle.std.proofs.Common.{arith, ◌≡◌, ◌∙◌, false, ◌++◌, ◌↔◌, ℕ, ◌≤◌, ltb-false, le-ltb, T}
-use Rattle.std.proofs.lemmas.Bool.{or_parts}
+use Rattle.std.proofs.Common.{arith, ◌≡◌, ◌∙◌, false, ◌++◌, ◌↔◌, ℕ, ◌≤◌, T}
 use Rattle.std.proofs.lemmas.Bool.Decides.{nat_tests}
 use Rattle.checks.specs.Refusals.{first_refusal, outside}
-use Rattle.checks.proofs.RefusalLaws.{numbered, first_refusal-none, first_refusal-join, none-met, none-of}
-use Rattle.checks.proofs.RefusalLaws.{within, inside}
+use Rattle.checks.proofs.RefusalLaws.{numbered, first_refusal-none, first_refusal-join, none-met, none-of, within, inside}
 use Rattle.checks.proofs.NumberLaws.{in_turn}
 use Rattle.curve.specs.declared.kind.Kind.{Kind}
 use Rattle.curve.specs.declared.Weather.{Weather}
-use Rattle.curve.specs.Kinds.{lowest_factor, fewest_lanes, most_lanes}
+use Rattle.curve.specs.Kinds.{fewest_lanes, most_lanes}
 use Rattle.curve.specs.Weather.{FactorsFit}
 use Rattle.road.specs.declared.Road.{Road}
 use Rattle.road.specs.declared.Case.{Case}
 use Rattle.road.specs.Cases.{with_lanes}
-use Rattle.road.specs.Refusals.{most_access, greatest_demand, weather_unfit, road_refusals, lane_refusals, section_refusals}
-use Rattle.road.specs.Refusals.{load_refusals, weather_refusals, field_refusals, RoadFits, SectionFits, FieldsFit}
+use Rattle.road.specs.Refusals.{greatest_demand, weather_unfit, road_refusals, lane_refusals, section_refusals, load_refusals}
+use Rattle.road.specs.Refusals.{weather_refusals, field_refusals, RoadFits, SectionFits, FieldsFit}
 
 -- ---- the parts of the list
 pub road-numbered : (road : Road) → T (numbered (road_refusals road))
@@ -41,8 +41,9 @@ pub fields-numbered : (case : Case) → T (numbered (field_refusals case))
 unfolding field_refusals road_refusals load_refusals
 fields-numbered case = tt
 
--- for tactics, where code asks one part after another
-pub ruleset asked_in_turn = (in_turn, road-numbered, section-numbered, load-numbered)
+pub ruleset section_in_turn = (in_turn, road-numbered, nat_tests)
+
+pub ruleset fields_in_turn = (in_turn, section-numbered, load-numbered)
 
 -- a case that none of them refuses: neither 1 to 6 nor 7 to 9 nor 19 do; and the converse
 fields-parts : (case : Case) → FieldsFit case

@@ -67,7 +67,7 @@ impl Road {
 }
 
 impl Case {
-    #[tactic(auto, using(crate::proofs::RefusalLaws::asked_in_turn))]
+    #[tactic(auto, using(crate::proofs::RefusalLaws::section_in_turn))]
     pub fn check_section(&self) -> Result<(), Refusal>
         ensures { refusal_number result ≡ first_refusal (section_refusals self.now) }
     {
@@ -104,7 +104,7 @@ impl Case {
         Ok(())
     }
 
-    #[tactic(auto, using(crate::proofs::RefusalLaws::asked_in_turn), unfolding(crate::specs::Refusals::field_refusals))]
+    #[tactic(auto, using(crate::proofs::RefusalLaws::fields_in_turn), unfolding(crate::specs::Refusals::field_refusals))]
     pub fn check_fields(&self) -> Result<(), Refusal>
         ensures { refusal_number result ≡ first_refusal (field_refusals self.now) }
     {
