@@ -13,8 +13,8 @@ use Rattle.curve.specs.Speed.{beyond_breakpoint, span_to_capacity}
 --   (9F − 2c) × (p/q)^1.31 ≤ 9(F − s)                times 9, since 10c/45 is 2c/9
 --   (9F − 2c)^100 × (p/q)^131 ≤ (9(F − s))^100       both sides to the power 100
 --   (9F − 2c)^100 × p^131 ≤ (9(F − s))^100 × q^131   times q^131
--- Each line says what the one before says: of two numbers that are not below 0 the greater has the greater power, 9F − 2c is at least 25,000
--- for F from 45,000 to 70,000, and q is above 0.
+-- Each line says what the one before says: of two numbers that are not below 0 the greater has the greater power, 9F − 2c is at least
+-- 25,000 for F from 45,000 to 70,000, and q is above 0.
 unfoldable pub AtMostManualCurve : (f v s : ℕ) → Type 0
 AtMostManualCurve f v s =
     (s ≤ f)

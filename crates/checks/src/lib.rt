@@ -1,4 +1,4 @@
-// Checks: numbered refusals, the first that is met first.
+// Checks: the refusals, each with the documents' number.
 //   Refusal          why a line, a case or a call is refused; number: the documents' number of each
 //   lesser_refusal   of two checks that are asked by turns: the refusal with the lesser number
 #![tactic(auto)]

@@ -1,5 +1,5 @@
 // Speed on a curve, as an exact fraction of thousandths of mi/h.
-//   CurveTerms    a curve with what its speeds have in common, worked out once
+//   CurveTerms    a curve with what its speeds have in common, worked out once; CurveTerms::new: of a well-formed curve
 //   exact_speed   S at a flow rate up to capacity, in the form that 64 bits hold
 ghost use Rattle.std.specs.Prelude.{◌≡◌, ◌*◌, ◌-◌, ◌/◌, ◌≤◌};
 ghost use Rattle.curve.specs.Curves.{WellFormed, Sized};
@@ -25,11 +25,11 @@ pub struct CurveTerms {
     pub fall_term: u64,
     pub ghost well_formed: { WellFormed curve },
     pub ghost sized: { Sized curve },
-    ghost own_most_flow: { most_flow ≡ curve.capacity / 100 },
-    ghost own_span: { span ≡ span_to_capacity curve },
-    ghost own_denominator: { share_denominator ≡ share_denominator_of curve.kind span },
-    ghost own_free_flow_term: { free_flow_term ≡ 9 * curve.free_flow_speed * share_denominator },
-    ghost own_fall_term: { fall_term ≡ 9 * curve.free_flow_speed - 2 * curve.capacity },
+    pub ghost own_most_flow: { most_flow ≡ curve.capacity / 100 },
+    pub ghost own_span: { span ≡ span_to_capacity curve },
+    pub ghost own_denominator: { share_denominator ≡ share_denominator_of curve.kind span },
+    pub ghost own_free_flow_term: { free_flow_term ≡ 9 * curve.free_flow_speed * share_denominator },
+    pub ghost own_fall_term: { fall_term ≡ 9 * curve.free_flow_speed - 2 * curve.capacity },
 }
 
 impl Kind {

@@ -6,7 +6,7 @@
 --   day_figures-count             as many answers as demands
 --   lent-room                     where 18 does not refuse there is room for every answer
 --   day-refused, day-answered     the lent numbers where 18 refuses, and where it does not
---   next-room, next-answer        a turn of put_answers: there is room for one answer more; it is written
+--   next-room, next-answer        a turn of put_day: there is room for one answer more; it is written
 -- Assumes nothing.
 use Rattle.std.proofs.Common.{Result, Ok, Err}
 use mathlib.Core.Path.{◌≡◌, refl, sym}

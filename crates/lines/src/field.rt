@@ -1,6 +1,6 @@
 // The fields of a line.
 //   FieldRead      a well-formed field: its number, or its letter's byte, and how many bytes it has
-//   field_values   the values of a line's fields, where each is well formed; each byte of a number is looked at once
+//   field_values   the values of a line's fields, where each is well formed; a number is read in one pass
 ghost use Rattle.std.specs.Prelude.{◌≡◌, ◌||◌, ◌≤◌, eqb};
 ghost use Rattle.text.specs.Bytes.{tab};
 ghost use Rattle.text.specs.Parts.{parts};

@@ -1,2 +1,2 @@
--- What the proofs of the program lean on.
+-- What the proofs of the program use.
 mod StepLaws

@@ -31,7 +31,7 @@ struct Step {
     more: bool,
 }
 
-// Tells on standard error what stopped it, as far as that can be written.
+// Tells on standard error what stopped it, as far as that can be written; nothing where nobody reads its output.
 fn tell(rt: HostRuntime, stop: Stop) {
     let message: &[u8] = match stop {
         Stop::InputUnread => b"los: standard input can't be read\n",

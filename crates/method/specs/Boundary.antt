@@ -5,8 +5,8 @@
 --   two_lanes road v  the same in clear weather
 --   example           the printed line's case
 --   refused_by_all    a case that breaks 1 to 9, 19 and 10
---   boundary_figures, clearance_figures, speed_figures, weather_figures, order_figures, limit_figures   the list, and its last parts, each the
---                    end of the one before
+--   boundary_figures, clearance_figures, speed_figures, weather_figures, order_figures, limit_figures   the list, and its last parts, each
+--                    the end of the one before
 -- Assumes nothing.
 use Rattle.std.specs.Prelude.{List, [], ◌∷◌, map, ℕ}
 use Rattle.checks.specs.Figures.{Figure, figure}
@@ -77,8 +77,8 @@ faulty speed width right median access lanes demand factor share speed_factor =
 abbrev pub refused_by_all : Case
 refused_by_all = faulty 0 99 401 Median.Undivided 49 1 1000000 249 1001 499
 
--- The numbers that 1 to 9 leave at the ends of each range, and those past them: speed, width, clearance on either side, medians of kind F and
--- of kind M, ramps and access, lanes of kind F and of kind M, demand, peak-hour factor, heavy share. 10 refuses a given speed of 30,000.
+-- The numbers that 1 to 9 leave at the ends of each range, and those past them: speed, width, clearance on either side, medians of kind F
+-- and of kind M, ramps and access, lanes of kind F and of kind M, demand, peak-hour factor, heavy share. 10 refuses a given speed of 30,000.
 unfoldable pub limit_figures : List Figure
 limit_figures =
     figure (map (λ f. refusal (two_lanes (given Kind.Freeway f 120) 0)) (29999 ∷ 30000 ∷ 90000 ∷ 90001 ∷ [])) (1 ∷ 10 ∷ 0 ∷ 1 ∷ [])

@@ -1,5 +1,6 @@
 // From a case to what it gets, or to its refusal.
-//   AcceptedCase    a case that none of 1 to 9, 19 and 10 refuses, with what its demands have in common worked out once
+//   AcceptedCase    a case that none of 1 to 9, 19 and 10 refuses, with what its demands have in common worked out once;
+//                   AcceptedCase::new: from the case and its curve
 //   Measures        the curve of an accepted case, its flow rate, and what that gets on the curve
 //   measures_at     the measures of an accepted case with a demand in the place of its own
 //   measures        with its own

@@ -1,5 +1,6 @@
 // Road: a road and its load, from their fields to the free-flow speed, and refusals 1 to 9 and 19.
-//   Road, Case   a road, and a road with its load and weather, with their methods; Way, Median, Terrain: the types of their fields
+//   Road, Case   a road, and a road with its load and weather; Case::with_demand: with another demand; Way, Median, Terrain: the types of
+//                their fields
 //   adjustment   what lane width, clearances, median and access take off a base speed
 //   ramp         what ramps take off
 //   free_flow    free-flow speed
