@@ -16,21 +16,23 @@
 --   answer-stopped, answer-graded, answer-refused   what is answered by what 20 and 21, and then the engine, say
 --   by_engine          what a grade of the engine's asks and gives, for tactics
 -- Assumes nothing.
-use Rattle.std.proofs.Common.{◌≡◌, refl, sym, ap, ◌∙◌, ◌↔◌, ℕ, zero, suc, ◌≤◌, ◌<◌, [], T, leb, Result, Ok, Err, arith, rules, le_trans}
+use Rattle.std.proofs.Common.{◌≡◌, refl, sym, ap, ◌∙◌, ◌↔◌, ℕ, zero, suc, ◌≤◌, ◌<◌, [], ◌++◌, T, leb, Result, Ok, Err, arith, rules, le_trans, lit≤}
+use Rattle.std.proofs.Common.{⊎_elim, eq-zero-or-pos}
 use native.Mathlib.Decide.{dec_le}
 use Rattle.numbers.proofs.BoolLaws.{leb-test}
 use Rattle.numbers.proofs.SearchLaws.{greatest-le, greatest-cong}
 use Rattle.checks.specs.declared.Refusal.{Refusal}
 use Rattle.checks.specs.Refusals.{first_refusal}
-use Rattle.checks.specs.Numbers.{number, refusal_number}
-use Rattle.checks.proofs.RefusalLaws.{numbered, first_refusal-none, first_refusal-join}
-use Rattle.checks.proofs.NumberLaws.{ok_unless-ok, ok_unless-err, ok_unless-none, ok_unless-found, refusal_number-ok_unless, first_refusal-err}
+use Rattle.checks.specs.Numbers.{number, refusal_number, refusal_of}
+use Rattle.checks.proofs.RefusalLaws.{numbered, first_refusal-none, first_refusal-join, unless_refused-none, unless_refused-some}
+use Rattle.checks.proofs.NumberLaws.{number-above, number-refusal_of, refusal_of-number, ok_unless-found, first_refusal-err}
 use Rattle.road.specs.declared.Case.{Case}
 use Rattle.road.specs.Cases.{with_demand}
 use Rattle.road.specs.Refusals.{greatest_demand}
 use Rattle.road.proofs.RefusalLaws.{load-ends}
 use Rattle.method.specs.Refusals.{refusals, refusal, Accepted}
 use Rattle.method.proofs.RefusalLaws.{accepted-fields, refusal-le}
+use Rattle.answer.specs.declared.evaluate.Volumes.{Volumes}
 use Rattle.answer.specs.declared.evaluate.Grade.{Grade}
 use Rattle.answer.specs.Volumes.{meets, service_volume, service_volumes}
 use Rattle.answer.specs.Answers.{graded, answer_to}
@@ -41,18 +43,28 @@ use Rattle.answer.proofs.Promises.{meets-up-to-the-service-volume}
 use Rattle.daily.specs.declared.Shares.{Shares}
 use Rattle.daily.specs.declared.DailyGrade.{DailyGrade}
 use Rattle.daily.specs.Daily.{greatest_daily_traffic, traffic_refusals, TrafficFits, hourly_demand, hourly_case, daily_volume}
-use Rattle.daily.specs.Daily.{daily_volumes, daily_refusals, daily_grade, daily_answer, values}
+use Rattle.daily.specs.Daily.{daily_volumes, with_volumes, daily_answer, values}
 use Rattle.daily.specs.Within.{traffic_within, VolumesFit, volumes_within}
 use Rattle.daily.specs.Promises.{AcceptedTraffic, letter_in, MeetsByDay}
 use Rattle.daily.proofs.WithinLaws.{fits-ends}
 
 -- ---- refusals
+volumes-number : (a : Result Grade Refusal) (volumes : Volumes) → refusal_number (with_volumes a volumes) ≡ refusal_number a
+volumes-number (Ok grade) volumes = refl
+volumes-number (Err r) volumes = refl
+
 module _ (case : Case) (shares : Shares) (daily : ℕ) where
   abbrev hourly : Case
   hourly = hourly_case case shares daily
 
+  abbrev asked : ℕ
+  asked = first_refusal (traffic_refusals shares daily)
+
   abbrev refused : ℕ
-  refused = first_refusal (daily_refusals case shares daily)
+  refused = first_refusal (traffic_refusals shares daily ++ refusals hourly)
+
+  abbrev answered : Result DailyGrade Refusal
+  answered = with_volumes (answer_to hourly) (daily_volumes case shares)
 
   traffic-numbered : T (numbered (traffic_refusals shares daily))
   unfolding traffic_refusals
@@ -62,14 +74,32 @@ module _ (case : Case) (shares : Shares) (daily : ℕ) where
   unfolding traffic_refusals
   refused-le = let engine = refusal-le hourly in search rules
 
-  pub in-order : refusal_number (daily_answer case shares daily) ≡ refused
-  in-order = refusal_number-ok_unless refused (daily_grade case shares daily) (omega (arith, refused-le))
-
-  pub number-le : refusal_number (daily_answer case shares daily) ≤ 21
-  number-le = omega (arith, in-order, refused-le)
+  asked-le : asked ≤ 21
+  unfolding traffic_refusals
+  asked-le = search rules
 
   pub number-fits : TrafficFits shares daily → refused ≡ refusal hourly
   number-fits fits = first_refusal-none (traffic_refusals shares daily) (refusals hourly) traffic-numbered fits
+
+  -- what 20 and 21 leave to the engine, and what they stop
+  fitting : TrafficFits shares daily → daily_answer case shares daily ≡ answered
+  fitting fits = unless_refused-none asked answered (λ n. Err (refusal_of n)) fits
+
+  stopped : 0 < asked → daily_answer case shares daily ≡ Err (refusal_of asked)
+  stopped p = unless_refused-some asked answered (λ n. Err (refusal_of n)) p
+
+  pub in-order : refusal_number (daily_answer case shares daily) ≡ refused
+  in-order =
+      ⊎_elim
+      (λ fits. ap refusal_number (fitting fits) ∙ volumes-number (answer_to hourly) (daily_volumes case shares) ∙ answer_to-number hourly
+      ∙ sym (number-fits fits))
+      (λ p.
+      let own = number-refusal_of asked p (le_trans asked-le (lit≤ tt)) in
+      ap refusal_number (stopped p) ∙ first_refusal-err (traffic_refusals shares daily) (refusals hourly) (refusal_of asked) own)
+      (eq-zero-or-pos asked)
+
+  pub number-le : refusal_number (daily_answer case shares daily) ≤ 21
+  number-le = omega (arith, in-order, refused-le)
 
   pub accepted-parts : AcceptedTraffic case shares daily → TrafficFits shares daily × Accepted hourly
   accepted-parts z = first_refusal-join (traffic_refusals shares daily) (refusals hourly) traffic-numbered (sym in-order ∙ z)
@@ -77,8 +107,11 @@ module _ (case : Case) (shares : Shares) (daily : ℕ) where
   pub accepted-of : TrafficFits shares daily → Accepted hourly → AcceptedTraffic case shares daily
   accepted-of fits a = in-order ∙ number-fits fits ∙ a
 
-  pub answer-accepted : AcceptedTraffic case shares daily → daily_answer case shares daily ≡ Ok (daily_grade case shares daily)
-  answer-accepted z = ok_unless-none refused (daily_grade case shares daily) (sym in-order ∙ z)
+  pub answer-accepted : AcceptedTraffic case shares daily
+      → daily_answer case shares daily ≡ Ok (record { grade = graded hourly; volumes = daily_volumes case shares })
+  answer-accepted z =
+      let parts = accepted-parts z in
+      fitting parts.0 ∙ ap (λ a. with_volumes a (daily_volumes case shares)) (answer_to-accepted hourly parts.1)
 
   pub letter-accepted : AcceptedTraffic case shares daily → letter_in (daily_answer case shares daily) ≡ engine.letter_in (answer_to hourly)
   letter-accepted z = rw (answer-accepted z, answer_to-accepted hourly (accepted-parts z).1) refl
@@ -168,8 +201,7 @@ graded-fits c grade e = rw (ok_unless-found (refusal c) (graded c) grade (sym e)
 module _ (case : Case) (shares : Shares) (daily : ℕ) where
   pub answer-stopped : (r : Refusal) → number r ≡ first_refusal (traffic_refusals shares daily) → Err r ≡ daily_answer case shares daily
   answer-stopped r e =
-      ok_unless-err r (refused case shares daily) (daily_grade case shares daily)
-      (first_refusal-err (traffic_refusals shares daily) (refusals (hourly case shares daily)) r e)
+      sym (stopped case shares daily (omega (arith, e, number-above r)) ∙ ap (λ n. Err (refusal_of n)) (sym e) ∙ ap Err (refusal_of-number r))
 
   module _ (fits : TrafficFits shares daily) where
     pub answer-graded : (grade : Grade) → Ok grade ≡ answer_to (hourly case shares daily)
@@ -177,12 +209,12 @@ module _ (case : Case) (shares : Shares) (daily : ℕ) where
     unfolding graded
     answer-graded grade e =
         let (a, own) = ok_unless-found (refusal (hourly case shares daily)) (graded (hourly case shares daily)) grade (sym e) in
-        ok_unless-ok (refused case shares daily) _ (daily_grade case shares daily) (number-fits case shares daily fits ∙ a)
-        (rw (own, volumes-eq case shares daily a) refl)
+        let volumes : volumes_within shares grade.volumes ≡ daily_volumes case shares = rw (own) (volumes-eq case shares daily a) in
+        sym (fitting case shares daily fits ∙ ap (λ a. with_volumes a (daily_volumes case shares)) (sym e)
+        ∙ ap (λ vs. Ok (record { grade = grade; volumes = vs })) (sym volumes))
 
     pub answer-refused : (r : Refusal) → Err r ≡ answer_to (hourly case shares daily) → Err r ≡ daily_answer case shares daily
     answer-refused r e =
-        ok_unless-err r (refused case shares daily) (daily_grade case shares daily)
-        (ap refusal_number e ∙ answer_to-number (hourly case shares daily) ∙ sym (number-fits case shares daily fits))
+        sym (fitting case shares daily fits ∙ ap (λ a. with_volumes a (daily_volumes case shares)) (sym e))
 
 pub ruleset by_engine = (fits-ends, graded-fits, answer-graded)

@@ -10,9 +10,8 @@
 --   hourly_case case shares daily  the case with that demand in the place of its own
 --   daily_volume case shares n     the daily service volume of letter number n
 --   daily_volumes case shares      those of A to E
---   daily_refusals case shares daily   20, 21 and the engine's refusals
---   daily_grade case shares daily  the engine's grade with daily service volumes behind it
---   daily_answer case shares daily   that grade, or the first of 20, 21 and the engine's refusals
+--   with_volumes a vs              the engine's answer with daily service volumes behind it
+--   daily_answer case shares daily   that of the hourly case, or 20 or 21
 --   figure_count                   how many numbers an answer has
 --   values a                       the eleven figures of the engine's answer, then the daily service volumes A to E; of a refusal no value
 -- Assumes nothing.
@@ -20,15 +19,15 @@ use Rattle.std.specs.Prelude.{ℕ, ◌*◌, ◌≤◌, ◌≡◌, Bool, ◌||◌
 use Rattle.numbers.specs.Division.{div_up}
 use Rattle.numbers.specs.Search.{greatest}
 use Rattle.checks.specs.declared.Refusal.{Refusal}
-use Rattle.checks.specs.Refusals.{Condition, refuses, first_refusal, outside}
-use Rattle.checks.specs.Numbers.{ok_unless}
+use Rattle.checks.specs.Refusals.{Condition, refuses, first_refusal, unless_refused, outside}
+use Rattle.checks.specs.Numbers.{refusal_of}
 use Rattle.road.specs.declared.Case.{Case}
 use Rattle.road.specs.Cases.{with_demand}
-use Rattle.method.specs.Refusals.{refusals}
 use Rattle.answer.specs.declared.evaluate.Volumes.{Volumes}
+use Rattle.answer.specs.declared.evaluate.Grade.{Grade}
 use Rattle.answer.specs.Volumes.{meets}
 use Rattle.answer.specs.Answers as answers
-use Rattle.answer.specs.Answers.{graded}
+use Rattle.answer.specs.Answers.{answer_to}
 use Rattle.daily.specs.declared.Shares.{Shares}
 use Rattle.daily.specs.declared.DailyGrade.{DailyGrade}
 
@@ -77,16 +76,15 @@ daily_volumes case shares =
       e = daily_volume case shares 5;
     }
 
--- "The hourly demand is then checked as V is", behind 20 and 21
-abbrev pub daily_refusals : Case → Shares → ℕ → List Condition
-daily_refusals case shares daily = traffic_refusals shares daily ++ refusals (hourly_case case shares daily)
-
 -- "It answers the engine's answer for that demand and the five daily service volumes"
-abbrev pub daily_grade : Case → Shares → ℕ → DailyGrade
-daily_grade case shares daily = record { grade = graded (hourly_case case shares daily); volumes = daily_volumes case shares }
+abbrev pub with_volumes : Result Grade Refusal → Volumes → Result DailyGrade Refusal
+with_volumes (Ok grade) volumes = Ok (record { grade = grade; volumes = volumes })
+with_volumes (Err r) volumes = Err r
 
 abbrev pub daily_answer : Case → Shares → ℕ → Result DailyGrade Refusal
-daily_answer case shares daily = ok_unless (first_refusal (daily_refusals case shares daily)) (daily_grade case shares daily)
+daily_answer case shares daily =
+    unless_refused (first_refusal (traffic_refusals shares daily))
+    (with_volumes (answer_to (hourly_case case shares daily)) (daily_volumes case shares)) (λ n. Err (refusal_of n))
 
 -- the eleven figures of the engine's answer and five daily service volumes
 abbrev pub figure_count : ℕ
