@@ -12,6 +12,8 @@ CFLAGS = -std=c11 -Wall -Wextra -Werror -O2
 SOURCES = $(shell find crates -name out -prune -o \( -name "*.rt" -o -name "*.antt" \) -print) crates.txt
 LIBRARY = target/staticlib/libmarehour.a
 PROGRAM = target/bin/los
+# What the tests run; make test builds it side by side.
+TESTED = $(addprefix $(BUILD)/,tables references calls widening widening-test yearly yearly-test stream compare published) $(PROGRAM)
 
 # Plain C is compiled by gcc, and by clang too where it is installed.
 BENCH = $(BUILD)/bench
@@ -27,6 +29,7 @@ run: $(PROGRAM)
 # The last line is the verdict of rt ci, shown only where every test has passed.
 test:
 	@$(MAKE) --no-print-directory prove
+	@$(MAKE) --no-print-directory -j$(shell nproc) $(TESTED)
 	@$(MAKE) --no-print-directory tests
 	@tail -n 1 $(BUILD)/ci.log
 
@@ -37,7 +40,7 @@ prove:
 	rt ci 2>&1 | tee $(BUILD)/ci.log | sed -u '$$d' || { tail -n 1 $(BUILD)/ci.log; exit 1; }
 	@! grep -E '^rt: ok.*, [0-9]+ bad' $(BUILD)/ci.log || { echo "an edit is bad"; exit 1; }
 
-tests: $(addprefix $(BUILD)/,tables references calls widening widening-test yearly yearly-test stream compare published) $(PROGRAM)
+tests: $(TESTED)
 	$(BUILD)/tables check
 	$(BUILD)/references
 	$(BUILD)/calls
@@ -63,7 +66,7 @@ vectors: $(BUILD)/compare
 define rt
 @mkdir -p $(BUILD) $(dir $@)
 @echo "rt $(1) $(2)" >&2
-@cd crates/$(2) && rt $(1) < /dev/null > ../../$(BUILD)/rt.log 2>&1 || { cat ../../$(BUILD)/rt.log; exit 1; }
+@cd crates/$(2) && rt $(1) < /dev/null > ../../$(BUILD)/rt-$(2).log 2>&1 || { cat ../../$(BUILD)/rt-$(2).log; exit 1; }
 @cp crates/$(2)/out/$(3) $@
 endef
 

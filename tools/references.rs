@@ -31,7 +31,7 @@ const PLACEHOLDERS: [char; 4] = ['<', '{', '$', '('];
 const OUTSIDE: [&str; 18] =
     ["std", "bool", "char", "str", "f32", "f64", "u8", "u16", "u32", "u64", "u128", "usize", "i8", "i16", "i32", "i64", "i128", "isize"];
 const QUALIFIERS: [&str; 4] = ["pub", "pub(crate)", "extern", "\"C\""];
-const ITEMS: [&str; 6] = ["fn", "struct", "enum", "type", "const", "static"];
+const ITEMS: [&str; 7] = ["fn", "struct", "enum", "trait", "type", "const", "static"];
 // How far in the members of a block stand, as `rt fmt` lays out.
 const MEMBER_INDENT: usize = 4;
 

@@ -48,7 +48,7 @@ use Rattle.answer.specs.Search.{demand_meets}
 use Rattle.answer.specs.SearchOrder.{eight_lanes}
 use Rattle.answer.specs.Boundary.{example_with, example_in_snow, estimated, given_in_snow, refused_by19, answered, counted}
 use Rattle.answer.specs.Boundary.{added_figures, boundary_figures}
-use Rattle.answer.proofs.VolumeLaws.{demand_meets-down, service_volume-eq}
+use Rattle.answer.proofs.VolumeLaws.{case_meets, case_meets-down, service_volume-eq}
 
 -- F by the lanes, of the printed case and of the one that 10 refuses
 pub example-speeds : (free_flow_speed_of example.road 2 ≡ 60783) × (free_flow_speed_of example.road 3 ≡ 61583)
@@ -122,7 +122,7 @@ module _ (case : Case) (curve : Curve) (a : Accepted case) (own : case_curve cas
   volume l s h k t =
       let last : T (ends_at (keeps (case_curve case) l) s) = rw own (and-right (leb s greatest_demand) _ t) in
       service_volume-eq case l a h k
-      ∙ greatest-last (demand_meets case (density_limit l)) greatest_demand s (demand_meets-down case (density_limit l) a)
+      ∙ greatest-last (case_meets case (density_limit l)) greatest_demand s (case_meets-down case (density_limit l) a)
       (leb→le s greatest_demand (and-left (leb s greatest_demand) _ t)) last
 
   five : (s₁ s₂ s₃ s₄ s₅ : ℕ) → T (ends 1 s₁) → T (ends 2 s₂) → T (ends 3 s₃) → T (ends 4 s₄) → T (ends 5 s₅)

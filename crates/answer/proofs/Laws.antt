@@ -36,12 +36,12 @@ use Rattle.answer.specs.Lanes.{lanes_meet, lanes_found, lanes_refusals, lanes_an
 use Rattle.answer.specs.Search.{demand_meets}
 use Rattle.answer.specs.Laws.{FiguresWithinEnds, RefusalsWithinEnds, RefusalsReachEnds, LanesRefusalsInOrder}
 use Rattle.answer.specs.Laws.{LanesRefusedAsTheCase, CountsAreDigits}
-use Rattle.answer.proofs.VolumeLaws.{demand_meets-zero, service_volume-eq}
+use Rattle.answer.proofs.VolumeLaws.{case_meets, case_meets-zero, service_volume-eq}
 use Rattle.answer.proofs.AnswerLaws.{answer_to-accepted, answer_to-number}
 
 -- ---- figures
 -- what keeps to a capacity of at most 240,000 is at most 19,200 vehicles, each at least a passenger car, on at most 8 lanes
-demand_meets-le : (case : Case) (limit demand : ℕ) → Accepted case → T (demand_meets case limit demand) → demand ≤ 19200
+demand_meets-le : (case : Case) (limit demand : ℕ) → Accepted case → T (case_meets case limit demand) → demand ≤ 19200
 unfolding demand_meets meets_limit flow_rate_of
 demand_meets-le case limit demand a t =
     let curve : Curve = case_curve case in
@@ -59,10 +59,10 @@ demand_meets-le case limit demand a t =
 
 pub service_volume-le : (case : Case) (n : ℕ) → Accepted case → 1 ≤ n → n ≤ 5 → service_volume case n ≤ 19200
 service_volume-le case n a h k =
-    let test : ℕ → Bool = demand_meets case (density_limit n) in
+    let test : ℕ → Bool = case_meets case (density_limit n) in
     rw (service_volume-eq case n a h k)
     (demand_meets-le case (density_limit n) (greatest test greatest_demand) a
-    (greatest-passes test greatest_demand (demand_meets-zero case (density_limit n) a)))
+    (greatest-passes test greatest_demand (case_meets-zero case (density_limit n) a)))
 
 -- H is at least 250, and there are at least 2 lanes
 flow_rate_of-le : (case : Case) → Accepted case → case_flow_rate case ≤ 6 * greatest_demand

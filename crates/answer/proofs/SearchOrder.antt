@@ -13,6 +13,8 @@ use Rattle.road.specs.declared.Case.{Case}
 use Rattle.road.specs.Refusals.{greatest_demand}
 use Rattle.method.specs.Refusals.{refusal, Accepted}
 use Rattle.method.specs.Boundary.{example}
+use Rattle.method.specs.Checked.{case_curve}
+use Rattle.method.specs.Flow.{load_of}
 use Rattle.answer.specs.Volumes.{service_volume}
 use Rattle.answer.specs.Tries.{meets_with, search_end, tried_for, tried_from, demands_tried, counted_answer}
 use Rattle.answer.specs.Boundary.{estimated}
@@ -33,7 +35,7 @@ no-volume-above-the-next case a n h k =
     let last : suc n ≤ 5 = omega arith in
     rw (volume_in-accepted case n a h own, volume_in-accepted case (suc n) a worse last)
     (rw (service_volume-eq case n a h own, service_volume-eq case (suc n) a worse last)
-    (volume-next case n h k))
+    (volume-next (case_curve case) (load_of case case.lanes) n h k))
 
 pub example-volumes-rise : ExampleVolumesRise
 example-volumes-rise = (

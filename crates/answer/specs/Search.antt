@@ -1,17 +1,35 @@
 -- What the searches try, and what they need. It is no part of the method: proofs/VolumeLaws shows that a demand that is tried passes
 -- exactly when it meets the letter.
---   demand_meets case limit demand   on the curve of the case, the flow rate of the demand keeps to capacity and to the density
+--   demand_meets curve load limit demand   on the curve, the flow rate of the demand keeps to capacity and to the density
+--   searched_volume curve load n     the greatest demand that keeps to the density of letter number n
+--   searched_volumes curve load      those of A to E
 --   Asking case n                    none of 16, 1 to 9 and 19 refuses the lanes question
 -- Assumes nothing.
 use Rattle.std.specs.Prelude.{ℕ, ◌≤◌, Bool}
-use Rattle.curve.specs.Service.{meets_limit}
+use Rattle.numbers.specs.Search.{greatest}
+use Rattle.curve.specs.declared.Curve.{Curve}
+use Rattle.curve.specs.Service.{meets_limit, density_limit}
 use Rattle.road.specs.declared.Case.{Case}
-use Rattle.road.specs.Refusals.{FieldsFit}
-use Rattle.method.specs.Checked.{case_curve}
-use Rattle.method.specs.Flow.{load_of, flow_rate_of}
+use Rattle.road.specs.Refusals.{greatest_demand, FieldsFit}
+use Rattle.method.specs.declared.flow.Load.{Load}
+use Rattle.method.specs.Flow.{flow_rate_of}
+use Rattle.answer.specs.declared.evaluate.Volumes.{Volumes}
 
-unfoldable pub demand_meets : Case → ℕ → ℕ → Bool
-demand_meets case limit demand = meets_limit (case_curve case) (flow_rate_of (load_of case case.lanes) demand) limit
+unfoldable pub demand_meets : Curve → Load → ℕ → ℕ → Bool
+demand_meets curve load limit demand = meets_limit curve (flow_rate_of load demand) limit
+
+abbrev pub searched_volume : Curve → Load → ℕ → ℕ
+searched_volume curve load n = greatest (demand_meets curve load (density_limit n)) greatest_demand
+
+abbrev pub searched_volumes : Curve → Load → Volumes
+searched_volumes curve load =
+    record {
+      a = searched_volume curve load 1;
+      b = searched_volume curve load 2;
+      c = searched_volume curve load 3;
+      d = searched_volume curve load 4;
+      e = searched_volume curve load 5;
+    }
 
 pub record Asking (case : Case) (n : ℕ) : Type 0 where
   pub fields : FieldsFit case

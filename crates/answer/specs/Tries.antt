@@ -1,12 +1,13 @@
 -- Which demands the searches for the five service volumes try, and how many (document 02, T-04). It is no part of the method.
 -- Letter numbers: A is 1.
 --   meets_with case n demand   the case with that demand meets letter number n
---   tests_of case n demand     what is tried of it
+--   tests_of curve load n demand   what is tried of it
 --   search_end test n     up to where letter number n is searched for, if test n tells whether a demand meets it
 --   tried_for test n      the demands that are tried for it
 --   tried_from test n     those for letter number n and then for each better one
 --   demands_tried case    those for E, D, C, B and A, of a case
 --   found p end           what the search for the greatest demand up to an end hands back: the demand, and how many were tried
+--   found_volumes curve load   what the five searches hand back together
 --   counted_answer case   the answer to a case, and how many demands were tried for it: none for a refused one
 -- Assumes nothing.
 use Rattle.std.specs.Prelude.{ℕ, zero, suc, Bool, cond, List, [], ◌++◌, ltb, length, Result}
@@ -14,23 +15,26 @@ use Rattle.numbers.specs.Search.{greatest}
 use Rattle.numbers.specs.Halving.{tried_up_to}
 use Rattle.checks.specs.declared.Refusal.{Refusal}
 use Rattle.checks.specs.Refusals.{unless_refused}
+use Rattle.curve.specs.declared.Curve.{Curve}
 use Rattle.curve.specs.Service.{density_limit}
 use Rattle.road.specs.declared.Case.{Case}
 use Rattle.road.specs.Cases.{with_demand}
 use Rattle.road.specs.Refusals.{greatest_demand}
+use Rattle.method.specs.declared.flow.Load.{Load}
 use Rattle.method.specs.Refusals.{refusal}
+use Rattle.answer.specs.declared.evaluate.Volumes.{Volumes}
 use Rattle.answer.specs.declared.evaluate.Grade.{Grade}
 use Rattle.answer.specs.declared.evaluate.Counted.{Counted}
 use Rattle.answer.specs.Volumes.{meets}
 use Rattle.answer.specs.Answers.{answer_to}
-use Rattle.answer.specs.Search.{demand_meets}
+use Rattle.answer.specs.Search.{demand_meets, searched_volumes}
 
 -- "A demand meets a letter when the case with that demand, all other fields kept, gets it or a better one"
 abbrev pub meets_with : Case → ℕ → ℕ → Bool
 meets_with case n demand = meets (with_demand case demand) n
 
-abbrev pub tests_of : Case → ℕ → ℕ → Bool
-tests_of case n = demand_meets case (density_limit n)
+abbrev pub tests_of : Curve → Load → ℕ → ℕ → Bool
+tests_of curve load n = demand_meets curve load (density_limit n)
 
 -- "E first, then each letter from zero up to the volume found for the one before": what is found for it is the greatest demand of all that
 -- meets it, by proofs/TriesLaws
@@ -49,6 +53,9 @@ demands_tried case = tried_from (meets_with case) 5
 
 abbrev pub found : (ℕ → Bool) → ℕ → Counted ℕ
 found p end = record { value = greatest p end; tries = length (tried_up_to p end) }
+
+abbrev pub found_volumes : Curve → Load → Counted Volumes
+found_volumes curve load = record { value = searched_volumes curve load; tries = length (tried_from (tests_of curve load) 5) }
 
 abbrev pub counted_answer : Case → Counted (Result Grade Refusal)
 counted_answer case =

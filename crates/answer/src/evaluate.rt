@@ -4,24 +4,25 @@
 //   Grade::new     the grade of what a case gets and its service volumes
 //   values         the eleven figures of a grade, the letter by its number
 //   Counted        what is found, and how many demands were tried for it
-//   service_volumes   the service volumes of an accepted case
+//   searched_volumes   the volumes on any curve, with any load that fits
+//   service_volumes   those of an accepted case
 //   evaluate_counted   the grade of any case at all, or its refusal, with how many demands were tried
 //   evaluate       without the count
-ghost use Rattle.std.specs.Prelude.{◌≡◌, ◌≤◌, length};
+ghost use Rattle.std.specs.Prelude.{◌≡◌, ◌≤◌};
 ghost use Rattle.road.specs.Refusals.{greatest_demand};
 ghost use Rattle.answer.specs.Volumes.{service_volumes};
-ghost use Rattle.answer.specs.Search.{demand_meets};
+ghost use Rattle.answer.specs.Search.{demand_meets, searched_volumes};
 ghost use Rattle.answer.specs.Answers.{grade_of, answer_to, values};
-ghost use Rattle.answer.specs.Tries.{demands_tried, found, counted_answer};
+ghost use Rattle.answer.specs.Tries.{found, found_volumes, counted_answer};
 
 use checks::Refusal;
 use curve::service::{self, Letter};
-use method::assess::{AcceptedCase, Measures};
+use method::assess::{AcceptedCase, CaseTerms, Measures};
 use method::checked;
 use road::Case;
 use road::refusal::GREATEST_DEMAND;
 
-#[derive(Clone, Copy, Debug, PartialEq, Eq)]
+#[derive(Clone, Copy, PartialEq, Eq)]
 pub struct Volumes {
     pub a: u64,
     pub b: u64,
@@ -30,7 +31,7 @@ pub struct Volumes {
     pub e: u64,
 }
 
-#[derive(Clone, Copy, Debug, PartialEq, Eq)]
+#[derive(Clone, Copy, PartialEq, Eq)]
 pub struct Grade {
     pub letter: Letter,
     pub free_flow_speed: u64,
@@ -41,7 +42,7 @@ pub struct Grade {
     pub volumes: Volumes,
 }
 
-#[derive(Clone, Copy, Debug, PartialEq, Eq)]
+#[derive(Clone, Copy)]
 pub struct Counted<T> {
     pub value: T,
     pub tries: u64,
@@ -85,20 +86,20 @@ impl Grade {
 
 // Whether a demand keeps to capacity and to a density.
 #[tactic(auto, unfolding(crate::specs::Search::demand_meets))]
-fn demand_meets(accepted: &AcceptedCase, limit: u64, demand: u64) -> bool
+fn demand_meets(terms: &CaseTerms, limit: u64, demand: u64) -> bool
     requires limit_high { limit ≤ 450 }
     requires demand_high { demand ≤ greatest_demand }
-    ensures { result ≡ demand_meets accepted.now.case limit demand }
+    ensures { result ≡ demand_meets terms.now.curve_terms.curve terms.now.load limit demand }
 {
-    let flow_rate = accepted.load.flow_rate(demand);
-    accepted.curve_terms.meets_limit(flow_rate, limit)
+    let flow_rate = terms.load.flow_rate(demand);
+    terms.curve_terms.meets_limit(flow_rate, limit)
 }
 
 // The greatest demand up to the end that keeps to a density, by halving; 0 is known to.
-fn greatest_meeting(accepted: &AcceptedCase, limit: u64, end: u64) -> Counted<u64>
+fn greatest_meeting(terms: &CaseTerms, limit: u64, end: u64) -> Counted<u64>
     requires limit_high { limit ≤ 450 }
     requires end_high { end ≤ greatest_demand }
-    ensures { result ≡ found (demand_meets accepted.now.case limit) end }
+    ensures { result ≡ found (demand_meets terms.now.curve_terms.curve terms.now.load limit) end }
 {
     let mut low = 0;
     let mut high = end + 1;
@@ -106,7 +107,7 @@ fn greatest_meeting(accepted: &AcceptedCase, limit: u64, end: u64) -> Counted<u6
     while 1 < high - low {
         let middle = low + (high - low) / 2;
         tries += 1;
-        if demand_meets(accepted, limit, middle) {
+        if demand_meets(terms, limit, middle) {
             low = middle;
         } else {
             high = middle;
@@ -116,16 +117,15 @@ fn greatest_meeting(accepted: &AcceptedCase, limit: u64, end: u64) -> Counted<u6
 }
 
 // E first, then each better letter up to the volume found before: no volume is above that of the next worse letter.
-fn found_volumes(accepted: &AcceptedCase) -> Counted<Volumes>
-    ensures volumes { result.value ≡ service_volumes accepted.now.case }
-    ensures tries { result.tries ≡ length (demands_tried accepted.now.case) }
+fn found_volumes(terms: &CaseTerms) -> Counted<Volumes>
+    ensures { result ≡ found_volumes terms.now.curve_terms.curve terms.now.load }
 {
     let mut volumes = [0; 5];
     let mut end = GREATEST_DEMAND;
     let mut tries = 0;
     for place in (0..5).rev() {
         let limit = service::density_limit(place as u64 + 1);
-        let found = greatest_meeting(accepted, limit, end);
+        let found = greatest_meeting(terms, limit, end);
         volumes[place] = found.value;
         end = found.value;
         tries += found.tries;
@@ -137,17 +137,24 @@ fn found_volumes(accepted: &AcceptedCase) -> Counted<Volumes>
     }
 }
 
+pub fn searched_volumes(terms: &CaseTerms) -> Volumes
+    ensures { result ≡ searched_volumes terms.now.curve_terms.curve terms.now.load }
+{
+    found_volumes(terms).value
+}
+
+#[tactic(auto, using(crate::proofs::VolumeLaws::volume_laws))]
 pub fn service_volumes(accepted: &AcceptedCase) -> Volumes
     ensures { result ≡ service_volumes accepted.now.case }
 {
-    found_volumes(accepted).value
+    searched_volumes(&accepted.terms)
 }
 
-#[tactic(auto, unfolding(crate::specs::Answers::graded))]
+#[tactic(auto, using(crate::proofs::TriesLaws::found_laws), unfolding(crate::specs::Answers::graded))]
 fn graded(accepted: &AcceptedCase) -> Counted<Result<Grade, Refusal>>
     ensures { result ≡ counted_answer accepted.now.case }
 {
-    let found = found_volumes(accepted);
+    let found = found_volumes(&accepted.terms);
     Counted {
         value: Ok(Grade::new(accepted.measures(), found.value)),
         tries: found.tries,

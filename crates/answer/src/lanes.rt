@@ -11,13 +11,14 @@ use curve::speed::CurveTerms;
 use method::checked;
 use method::flow::Load;
 use road::Case;
+use road::free_flow::FitRoad;
 
 // Whether the case with a lane count of the kind meets a letter.
 fn lanes_meet(case: &Case, letter: u64, lanes: u64) -> bool
     requires { Asking (with_lanes case.now lanes) letter }
     ensures { result ≡ lanes_meet case.now letter lanes }
 {
-    match checked::checked_curve(&case.road, case.weather, lanes) {
+    match checked::checked_curve(&FitRoad { road: case.road }, case.weather, lanes) {
         Ok(curve) => {
             let flow_rate = Load::of(case, lanes).flow_rate(case.demand);
             CurveTerms::new(curve).meets_limit(flow_rate, service::density_limit(letter))
@@ -34,8 +35,8 @@ pub fn lanes_needed(case: Case, letter: u64) -> Result<u64, Refusal>
         return Err(Refusal::LetterUnknown);
     }
     case.check_fields()?;
-    let kind = case.road.kind;
-    for lanes in kind.fewest_lanes()..=kind.most_lanes() {
+    let figures = case.road.kind.figures();
+    for lanes in figures.fewest_lanes..=figures.most_lanes {
         if lanes_meet(&case, letter, lanes) {
             return Ok(lanes);
         }

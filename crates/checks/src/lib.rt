@@ -7,7 +7,7 @@ ghost use Rattle.std.specs.Prelude.{◌≡◌};
 ghost use Rattle.checks.specs.Refusals.{lesser_refusal};
 ghost use Rattle.checks.specs.Numbers.{number, refusal_number};
 
-#[derive(Clone, Copy, Debug, PartialEq, Eq)]
+#[derive(Clone, Copy, PartialEq, Eq, PartialOrd, Ord)]
 pub enum Refusal {
     SpeedOutOfRange = 1,
     WidthOutOfRange = 2,
@@ -47,7 +47,7 @@ pub fn lesser_refusal(one: Result<(), Refusal>, other: Result<(), Refusal>) -> R
     ensures { refusal_number result ≡ lesser_refusal (refusal_number one) (refusal_number other) }
 {
     match (one, other) {
-        (Err(first), Err(second)) if second.number() < first.number() => other,
+        (Err(first), Err(second)) if second < first => other,
         (Err(_), _) => one,
         (Ok(()), _) => other,
     }

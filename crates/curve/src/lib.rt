@@ -15,9 +15,9 @@ ghost use Rattle.curve.specs.Kinds.{highest_speed};
 ghost use Rattle.curve.specs.Curves.{capacity, breakpoint};
 ghost use Rattle.curve.specs.Weather.{FactorsFit, adjusted_speed, curve_under};
 
-use crate::kind::{Freeway, Kind, Multilane};
+use crate::kind::Kind;
 
-#[derive(Clone, Copy, Debug, PartialEq, Eq)]
+#[derive(Clone, Copy, PartialEq, Eq)]
 pub struct Curve {
     pub kind: Kind,
     // thousandths of mi/h
@@ -29,7 +29,7 @@ pub struct Curve {
 }
 
 // Snow or rain. Any number may stand in a field; refusal 19 says which are fit.
-#[derive(Clone, Copy, Debug, PartialEq, Eq)]
+#[derive(Clone, Copy, PartialEq, Eq)]
 pub struct Weather {
     // thousandths, on the free-flow speed
     pub speed_factor: u64,
@@ -43,16 +43,12 @@ impl Kind {
         requires { speed ≤ highest_speed self }
         ensures { result ≡ capacity self speed }
     {
-        match self {
-            Kind::Freeway => {
-                let by_speed = Freeway::LOWEST_CAPACITY + speed - Freeway::LOWEST_SPEED;
-                by_speed.min(Freeway::HIGHEST_CAPACITY)
-            }
-            Kind::Multilane => {
-                let by_speed = Multilane::LOWEST_CAPACITY + 2 * speed - 2 * Multilane::LOWEST_SPEED;
-                by_speed.min(Multilane::HIGHEST_CAPACITY)
-            }
-        }
+        let figures = self.figures();
+        let by_speed = match self {
+            Kind::Freeway => figures.lowest_capacity + speed - figures.lowest_speed,
+            Kind::Multilane => figures.lowest_capacity + 2 * speed - 2 * figures.lowest_speed,
+        };
+        by_speed.min(figures.highest_capacity)
     }
 
     #[tactic(auto, unfolding(crate::specs::Curves::breakpoint))]

@@ -9,7 +9,7 @@ ghost use Rattle.curve.specs.Service.{letter_number, density_letter, performance
 
 use crate::speed::CurveTerms;
 
-#[derive(Clone, Copy, Debug, PartialEq, Eq)]
+#[derive(Clone, Copy, PartialEq, Eq)]
 pub enum Letter {
     A = 1,
     B = 2,
@@ -19,7 +19,7 @@ pub enum Letter {
     F = 6,
 }
 
-#[derive(Clone, Copy, Debug, PartialEq, Eq)]
+#[derive(Clone, Copy, PartialEq, Eq)]
 pub struct Performance {
     // thousandths of mi/h, 0 above capacity
     pub speed: u64,

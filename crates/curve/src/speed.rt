@@ -10,7 +10,7 @@ use crate::Curve;
 use crate::kind::Kind;
 use numbers::Fraction;
 
-#[derive(Clone, Copy, Debug, PartialEq, Eq)]
+#[derive(Clone, Copy)]
 pub struct CurveTerms {
     pub curve: Curve,
     // the greatest flow rate up to capacity

@@ -28,13 +28,13 @@ const MILLION: u64 = 1_000_000;
 
 pub const FIGURES: usize = 16;
 
-#[derive(Clone, Copy, Debug, PartialEq, Eq)]
+#[derive(Clone, Copy, PartialEq, Eq)]
 pub struct Shares {
     pub peak: u64,
     pub direction: u64,
 }
 
-#[derive(Clone, Copy, Debug, PartialEq, Eq)]
+#[derive(Clone, Copy, PartialEq, Eq)]
 pub struct DailyGrade {
     pub grade: Grade,
     pub volumes: Volumes,
@@ -92,11 +92,11 @@ impl Shares {
 impl DailyGrade {
     pub fn put_figures(&self, out: &mut [u64]) -> usize
         requires { figure_count ≤ length out.old }
-        ensures { Wrote (values (Ok self.now)) 0 out.old out.new result }
+        ensures { Wrote (values (Ok self.now)) out.old out.new result }
     {
-        let at = buffer::put_numbers(&self.grade.values(), out, 0);
+        let count = buffer::put_numbers(&self.grade.values(), out);
         let Volumes { a, b, c, d, e } = self.volumes;
-        buffer::put_numbers(&[a, b, c, d, e], out, at)
+        count + buffer::put_numbers(&[a, b, c, d, e], &mut out[count..])
     }
 }
 

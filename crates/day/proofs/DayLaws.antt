@@ -6,7 +6,7 @@
 --   day_figures-count             as many answers as demands
 --   lent-room                     where 18 does not refuse there is room for every answer
 --   day-refused, day-answered     the lent numbers where 18 refuses, and where it does not
---   next-room, next-answer        a turn of put_day: there is room for one answer more; it is written
+--   next-answer                   a turn of put_day: an answer more is written
 -- Assumes nothing.
 use Rattle.std.proofs.Common.{Result, Ok, Err}
 use mathlib.Core.Path.{◌≡◌, refl, sym}
@@ -16,13 +16,12 @@ use native.Mathlib.Omega.{arith}
 use borrow.Author.Tests.{ltb-false}
 use lib.Dec.{ltb}
 use lib.ListN.{length, take, drop, get_or}
-use lib.Seq.{length-take-le}
 use Rattle.std.proofs.lemmas.Bool.{or_parts}
 use Rattle.numbers.proofs.RowsLaws.{rows-next, rows-length, rows-at}
 use Rattle.checks.specs.Refusals.{first_refusal, outside}
 use Rattle.checks.proofs.RefusalLaws.{none-met, unless_refused-none, unless_refused-some}
 use Rattle.text.specs.Buffer.{Wrote}
-use Rattle.text.proofs.BufferLaws.{then}
+use Rattle.text.proofs.BufferLaws.{rest_of, put_rest, then}
 use Rattle.road.specs.declared.Case.{Case}
 use Rattle.road.specs.Cases.{with_demand}
 use Rattle.checks.specs.declared.Refusal.{Refusal}
@@ -83,21 +82,7 @@ module _ (case : Case) (demands : List ℕ) where
   unfolding day_figures
   day_figures-next i h = rows-next _ demands i 0 h
 
-  module _ {old out : List ℕ} {at : ℕ} (i : ℕ) (h : i < length demands) (fits : LentFits (length demands) (length old))
-      (w : Wrote (day_figures case (take i demands)) 0 old out at) where
-    pub next-room : at + figure_count ≤ length old
-    next-room =
-        omega (
-          arith,
-          lent-room (length demands) (length old) fits,
-          w.ends,
-          day_figures-length case (take i demands),
-          length-take-le i demands (omega arith),
-        )
-
-    pub next-answer : {new : List ℕ} {e : ℕ}
-        → Wrote (answer_figures (answer_to (with_demand case (get_or demands i 0)))) at out new e
-        → Wrote (day_figures case (take (i + 1) demands)) 0 old new e
-    next-answer v =
-        rw (day_figures-next i h)
-        (then w v (omega (arith, next-room, w.ends, answer_figures-length (answer_to (with_demand case (get_or demands i 0))))))
+  pub next-answer : {old out new : List ℕ} {at n : ℕ} (i : ℕ) → i < length demands → Wrote (day_figures case (take i demands)) old out at
+      → Wrote (answer_figures (answer_to (with_demand case (get_or demands i 0)))) (rest_of at out) new n
+      → Wrote (day_figures case (take (i + 1) demands)) old (put_rest at out new) (at + n)
+  next-answer i h w v = rw (day_figures-next i h) (then w v)

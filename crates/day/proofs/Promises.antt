@@ -8,7 +8,7 @@ use mathlib.Core.Logic.{◌⊎◌, ⊎_elim, inr}
 use mathlib.Core.Bool.{cond}
 use mathlib.Core.List.{List, ◌++◌}
 use Prim.Native.Nat.{ℕ, ◌*◌, ◌/◌, ◌≤◌, ◌<◌, min}
-use native.Mathlib.Nat.{zero-add, eq-zero-or-pos}
+use native.Mathlib.Nat.{eq-zero-or-pos}
 use native.Mathlib.Omega.{arith}
 use native.Mathlib.Decide.{dec_le}
 use borrow.Author.Tests.{le-ltb, ne_eqb}
@@ -44,7 +44,7 @@ pub day-is-the-single-calls : DayIsTheSingleCalls
 unfolding written
 day-is-the-single-calls case demands old z =
     sym (day-answered case demands old z)
-    ∙ ap (λ n. day_figures case demands ++ drop n old) (zero-add (length (day_figures case demands)) ∙ day_figures-length case demands)
+    ∙ ap (λ n. day_figures case demands ++ drop n old) (day_figures-length case demands)
 
 pub position-holds-the-answer : PositionHoldsTheAnswer
 position-holds-the-answer case demands old z i h =

@@ -47,7 +47,7 @@ day_figures case demands = flat_map (λ demand. answer_figures (answer_to (with_
 
 -- "Answers past the demands keep their content"
 abbrev pub day_written : Case → List ℕ → List ℕ → List ℕ
-day_written case demands old = written (day_figures case demands) 0 old
+day_written case demands old = written (day_figures case demands) old
 
 -- "no demand or more than 24, or answers fewer than demands"
 unfoldable pub lent_unfit : ℕ → ℕ → Bool

@@ -8,7 +8,7 @@
 
 mod shared;
 
-ghost use Rattle.std.specs.Prelude.{◌≡◌, ◌∷◌, ◌+◌, ◌≤◌, ◌<◌, length};
+ghost use Rattle.std.specs.Prelude.{◌≡◌, ◌∷◌, ◌≤◌, ◌<◌, length};
 ghost use Rattle.checks.specs.Refusals.{first_refusal};
 ghost use Rattle.checks.specs.Numbers.{refusal_number};
 ghost use Rattle.text.specs.Buffer.{Wrote};
@@ -40,23 +40,22 @@ pub fn check_lent(demands: usize, numbers: usize) -> Result<(), Refusal>
     Ok(())
 }
 
-// A refusal's number, or 0, and the figures behind it, at a place.
-fn put_position(number: u64, figures: &[u64], out: &mut [u64], at: usize) -> usize
-    requires { at + length figures.now < length out.old }
-    ensures { Wrote (number ∷ figures.now) at out.old out.new result }
+// A refusal's number, or 0, and the figures behind it; answers how many numbers they are.
+fn put_position(number: u64, figures: &[u64], out: &mut [u64]) -> usize
+    requires { length figures.now < length out.old }
+    ensures { Wrote (number ∷ figures.now) out.old out.new result }
 {
-    out[at] = number;
-    text::buffer::put_numbers(figures, out, at + 1)
+    out[0] = number;
+    1 + text::buffer::put_numbers(figures, &mut out[1..])
 }
 
-// An answer at a place; answers the place after it.
-fn put_answer(answer: Result<Grade, Refusal>, out: &mut [u64], at: usize) -> usize
-    requires { at + figure_count ≤ length out.old }
-    ensures { Wrote (answer_figures answer) at out.old out.new result }
+fn put_answer(answer: Result<Grade, Refusal>, out: &mut [u64]) -> usize
+    requires { figure_count ≤ length out.old }
+    ensures { Wrote (answer_figures answer) out.old out.new result }
 {
     match answer {
-        Ok(grade) => put_position(0, &grade.values(), out, at),
-        Err(refusal) => put_position(refusal.number(), &[0; 11], out, at),
+        Ok(grade) => put_position(0, &grade.values(), out),
+        Err(refusal) => put_position(refusal.number(), &[0; 11], out),
     }
 }
 
@@ -66,13 +65,13 @@ pub fn put_day(case: Case, demands: &[u64], answers: &mut [u64])
     ensures { answers.new ≡ day_written case demands.now answers.old }
 {
     let shared = Shared::of(case);
-    let mut at = 0;
+    let mut written = 0;
     for demand in demands {
         let answer = match &shared {
             Ok(shared) => shared.answer_with(*demand),
             Err(refusal) => Err(refusal_with(*refusal, *demand)),
         };
-        at = put_answer(answer, answers, at);
+        written += put_answer(answer, &mut answers[written..]);
     }
 }
 

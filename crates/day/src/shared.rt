@@ -18,7 +18,7 @@ use method::checked;
 use road::Case;
 use road::refusal::GREATEST_DEMAND;
 
-#[derive(Clone, Copy, Debug, PartialEq, Eq)]
+#[derive(Clone, Copy)]
 pub(crate) struct Shared {
     pub accepted: AcceptedCase,
     pub volumes: Volumes,
@@ -52,7 +52,7 @@ impl Shared {
 pub(crate) fn refusal_with(refusal: Refusal, demand: u64) -> Refusal
     ensures { number result ≡ number_with (number refusal) demand }
 {
-    if GREATEST_DEMAND < demand && Refusal::DemandTooLarge.number() < refusal.number() {
+    if GREATEST_DEMAND < demand && Refusal::DemandTooLarge < refusal {
         return Refusal::DemandTooLarge;
     }
     refusal

@@ -14,30 +14,29 @@
 --   best-accepted, worst-accepted   those at the ends too
 --   ends-between        the letter of a combination within the ends is between those at the ends
 --   answer-accepted     these are the best and the worst, so that they are answered
---   refused-section, refused-range, last-asked, refused-weather   which of the code's checks decides, in their order
---   best-on-curve, worst-on-curve, answer-passed   where none of them refuses: the curve of the case is that of the combinations at the
---                       two ends too, and the letters there are answered
---   asked_in_turn       the exits of the code's checks, and its calls behind them, for tactics
+--   refused-with        what the check refuses with what the ranges found is refused
+--   best-on-curve, worst-on-curve, answer-passed   where it finds a curve: it is that of the combinations at the two ends too, and the
+--                       letters there are answered
+--   checked_ends        for tactics: the calls of the code behind its check
 -- Assumes nothing.
 use Rattle.std.proofs.Common.{◌≡◌, refl, sym, ap, ◌∙◌, Bool, ◌↔◌, inr, List, [], ◌++◌, ℕ, ◌≤◌, ◌<◌, arith, le_refl, le_trans, T, Result, Ok, Err}
 use Rattle.numbers.proofs.SearchLaws.{least-eq}
 use Rattle.checks.specs.declared.Refusal.{Refusal}
-use Rattle.checks.specs.Refusals.{Condition, first_refusal}
-use Rattle.checks.specs.Numbers.{number, refusal_number}
+use Rattle.checks.specs.Refusals.{Condition, first_refusal, found}
+use Rattle.checks.specs.Numbers.{refusal_number, ok_unless}
 use Rattle.checks.proofs.RefusalLaws.{first_refusal-none, first_refusal-le}
-use Rattle.checks.proofs.NumberLaws.{number-above, refusal_of-number, ok_unless-none, ok_unless-found, refusal_number-ok_unless}
-use Rattle.checks.proofs.NumberLaws.{first_refusal-err, first_refusal-ok}
+use Rattle.checks.proofs.NumberLaws.{ok_unless-none, ok_unless-found, ok_unless-refused, refusal_number-ok_unless}
 use Rattle.curve.specs.declared.Curve.{Curve}
 use Rattle.curve.specs.declared.service.Letter.{Letter}
 use Rattle.curve.specs.Service.{letter_number}
 use Rattle.curve.proofs.ServiceLaws.{letter_number-le}
 use Rattle.road.specs.declared.Case.{Case}
 use Rattle.road.specs.Refusals.{road_refusals, section_refusals, load_refusals, weather_refusals, field_refusals, SectionFits}
-use Rattle.road.proofs.RefusalLaws.{loads-exactly, section-numbered, load-numbered}
+use Rattle.road.proofs.RefusalLaws.{loads-exactly, load-numbered}
 use Rattle.method.specs.Refusals.{speed_refusals, refusals, refusal, Accepted}
-use Rattle.method.specs.Checked.{case_curve, checked_curve, checked}
+use Rattle.method.specs.Checked.{case_curve, checked_with, checked}
 use Rattle.method.specs.Assess.{measures}
-use Rattle.method.proofs.RefusalLaws.{refusals_with-joined, with-accepted, with-of}
+use Rattle.method.proofs.RefusalLaws.{refusals_with-joined, refusals_with-found, with-accepted, with-of}
 use Rattle.answer.specs.Answers.{graded, answer_to}
 use Rattle.answer.specs.Volumes.{meets}
 use Rattle.answer.specs.Promises.{letter_in}
@@ -217,44 +216,24 @@ module _ (case : Case) (forecast : Forecast) where
         ok_unless-none _ _ (sym forecast-number ∙ z)
         ∙ rw (best_letter-eq, worst_letter-eq, shown (best_case case forecast) best-accepted, shown (worst_case case forecast) worst-accepted)
 
-  -- ---- the code's checks, in their order
-  pub refused-section : (r : Refusal) → number r ≡ first_refusal (section_refusals case)
-      → number r ≡ first_refusal (forecast_refusals case forecast)
-  refused-section r e =
-      first_refusal-err (section_refusals case) (range_refusals case forecast ++ last_refusals case) r e ∙ sym forecast-joined
+  -- ---- the check with what the ranges found
+  abbrev checked-ranges : Result Curve Refusal
+  checked-ranges = checked_with (found (first_refusal (range_refusals case forecast))) case
 
-  module _ (section : 0 ≡ first_refusal (section_refusals case)) where
-    pub refused-range : (r : Refusal) → number r ≡ first_refusal (range_refusals case forecast)
-        → number r ≡ first_refusal (forecast_refusals case forecast)
-    refused-range r e =
-        first_refusal-ok (section_refusals case) (range_refusals case forecast ++ last_refusals case) (number r)
-        (section-numbered case) section
-        (first_refusal-err (range_refusals case forecast) (last_refusals case) r e)
-        ∙ sym forecast-joined
+  list-found : checked-ranges ≡ ok_unless (first_refusal (forecast_refusals case forecast)) (case_curve case)
+  unfolding forecast_refusals
+  list-found = ap (λ n. ok_unless n (case_curve case)) (refusals_with-found (range_refusals case forecast) case (range-numbered case forecast))
 
-    pub last-asked : 0 ≡ first_refusal (range_refusals case forecast)
-        → first_refusal (forecast_refusals case forecast) ≡ first_refusal (last_refusals case)
-    unfolding forecast_refusals
-    last-asked range = with-of (range_refusals case forecast) case (range-numbered case forecast) (sym section) (sym range)
-
-    pub refused-weather : (r : Refusal) → 0 ≡ first_refusal (range_refusals case forecast) → number r ≡ first_refusal (weather_refusals case)
-        → number r ≡ first_refusal (forecast_refusals case forecast)
-    refused-weather r range e =
-        first_refusal-err (weather_refusals case) (speed_refusals case.road case.weather case.lanes) r e ∙ sym (last-asked range)
+  pub refused-with : (r : Refusal) → checked-ranges ≡ Err r → Err r ≡ forecast_answer case forecast
+  refused-with r e = ok_unless-refused _ (case_curve case) _ r (sym list-found ∙ e)
 
   -- none of them refuses
-  module _ (section : 0 ≡ first_refusal (section_refusals case)) (range : 0 ≡ first_refusal (range_refusals case forecast))
-      (weather : 0 ≡ first_refusal (weather_refusals case)) (curve : Curve)
-      (e : checked_curve case.road case.weather case.lanes ≡ Ok curve) where
-    passed : (first_refusal (speed_refusals case.road case.weather case.lanes) ≡ 0) × (curve ≡ case_curve case)
-    passed = ok_unless-found (first_refusal (speed_refusals case.road case.weather case.lanes)) (case_curve case) curve e
+  module _ (curve : Curve) (e : checked-ranges ≡ Ok curve) where
+    passed : (first_refusal (forecast_refusals case forecast) ≡ 0) × (curve ≡ case_curve case)
+    passed = ok_unless-found (first_refusal (forecast_refusals case forecast)) (case_curve case) curve (sym list-found ∙ e)
 
     passed-accepted : AcceptedForecast case forecast
-    passed-accepted =
-        forecast-number
-        ∙ last-asked section range
-        ∙ first_refusal-none (weather_refusals case) (speed_refusals case.road case.weather case.lanes) tt (sym weather)
-        ∙ passed.0
+    passed-accepted = forecast-number ∙ passed.0
 
     -- no combination changes the curve
     on-curve : (combination : Combination) → Accepted (with_combination case combination)
@@ -271,6 +250,5 @@ module _ (case : Case) (forecast : Forecast) where
     pub answer-passed : Ok (end_outcomes case forecast) ≡ forecast_answer case forecast
     answer-passed = sym (answer-accepted passed-accepted)
 
--- the exits of the code's checks, and its calls behind them, for tactics
-pub ruleset asked_in_turn =
-    (refused-section, refused-range, last-asked, refused-weather, number-above, refusal_of-number, best-on-curve, worst-on-curve)
+-- the calls of the code behind its check, for tactics
+pub ruleset checked_ends = (best-on-curve, worst-on-curve)

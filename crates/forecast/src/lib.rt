@@ -28,13 +28,13 @@ use text::buffer;
 
 pub const FIGURES: usize = 8;
 
-#[derive(Clone, Copy, Debug, PartialEq, Eq)]
+#[derive(Clone, Copy, PartialEq, Eq)]
 pub struct Range {
     pub low: u64,
     pub high: u64,
 }
 
-#[derive(Clone, Copy, Debug, PartialEq, Eq)]
+#[derive(Clone, Copy, PartialEq, Eq)]
 pub struct Forecast {
     pub demand: Range,
     // thousandths
@@ -43,20 +43,20 @@ pub struct Forecast {
     pub peak_hour_factor: Range,
 }
 
-#[derive(Clone, Copy, Debug, PartialEq, Eq)]
+#[derive(Clone, Copy, PartialEq, Eq)]
 pub struct Combination {
     pub demand: u64,
     pub heavy_share: u64,
     pub peak_hour_factor: u64,
 }
 
-#[derive(Clone, Copy, Debug, PartialEq, Eq)]
+#[derive(Clone, Copy, PartialEq, Eq)]
 pub struct Outcome {
     pub letter: Letter,
     pub combination: Combination,
 }
 
-#[derive(Clone, Copy, Debug, PartialEq, Eq)]
+#[derive(Clone, Copy, PartialEq, Eq)]
 pub struct Outcomes {
     pub best: Outcome,
     pub worst: Outcome,
@@ -152,21 +152,18 @@ impl Outcomes {
 
     pub fn put_figures(&self, out: &mut [u64]) -> usize
         requires { figure_count ≤ length out.old }
-        ensures { Wrote (values (Ok self.now)) 0 out.old out.new result }
+        ensures { Wrote (values (Ok self.now)) out.old out.new result }
     {
-        buffer::put_numbers(&self.values(), out, 0)
+        buffer::put_numbers(&self.values(), out)
     }
 }
 
 // Two combinations are looked at: what the engine promises of more load carries over to all within the ends.
-#[tactic(auto, using(crate::proofs::ForecastLaws::asked_in_turn))]
+#[tactic(auto, using(crate::proofs::ForecastLaws::checked_ends))]
 pub fn evaluate_forecast(case: Case, forecast: Forecast) -> Result<Outcomes, Refusal>
     ensures { result ≡ forecast_answer case forecast }
 {
-    case.check_section()?;
-    forecast.check_ranges(case)?;
-    case.check_weather()?;
-    let curve = checked::checked_curve(&case.road, case.weather, case.lanes)?;
+    let curve = checked::check_with(&case, forecast.check_ranges(case))?;
     Ok(Outcomes {
         best: Outcome::new(case, forecast.best(), curve),
         worst: Outcome::new(case, forecast.worst(), curve),

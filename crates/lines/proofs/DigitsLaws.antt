@@ -1,34 +1,27 @@
 -- A number read digit by digit (specs/Fields, specs/Places).
---   fits-more, fits-word    a number of i digits with one digit more; 64 bits hold it with another digit
+--   fits-more               a number of i digits with one digit more
 --   DigitsRead bs i n       the first i bytes of bs are digits of its first field, and spell n
---   read-none, read-more    no digit is read; one more is
+--   read-more               one digit more is read
 --   read-stops              a byte that is no digit follows, or a digit too many: malformed
---   read-all                no byte of the field follows: it is the number, unless there is no digit or a leading zero
+--   counts-all              no byte of the field follows: it has the digits that were read
+--   read-all                then it is the number, unless there is no digit or a leading zero
 -- Assumes nothing.
 use Rattle.std.proofs.Common.{◌≡◌, ℕ, suc, ◌+◌, ◌-◌, ◌*◌, ◌^◌, ◌≤◌, ◌<◌, Bool, true, false, cond, ◌||◌, ◌⊎◌, Some, None}
-use Rattle.std.proofs.Common.{option_map, List, [], ◌∷◌, length, get_or, take, drop, eqb, refl, sym, ◌∙◌, arith, add-one, pow-suc, drop-cons}
-use Rattle.std.proofs.Common.{lt_of_lt_of_le, ne_eqb, eq-eqb, length-take-le, drop_of_length-le, ⊎_elim, eq-or-lt_of_le}
+use Rattle.std.proofs.Common.{List, [], ◌∷◌, length, get_or, take, drop, eqb, sym, ◌∙◌, arith, add-one, pow-suc, drop-cons}
+use Rattle.std.proofs.Common.{ne_eqb, eq-eqb, length-take-le, drop_of_length-le, ⊎_elim, eq-or-lt_of_le}
 use Rattle.std.proofs.lemmas.Grind.{common_steps}
-use native.Mathlib.Nat.{pow-le-pow_right}
 use Rattle.text.specs.Bytes.{tab}
 use Rattle.text.specs.Parts.{count_before}
 use Rattle.text.proofs.PartsLaws.{count_before-le}
-use Rattle.lines.specs.declared.field.FieldRead.{FieldRead}
 use Rattle.lines.specs.Fields.{digits, digit, spelled, leading_zero, number, field_as}
-use Rattle.lines.specs.Places.{first_field, read_as}
+use Rattle.lines.specs.Places.{first_field}
 
 pub fits-more : (n d i : ℕ) → n < 10 ^ i → d ≤ 9 → 10 * n + d < 10 ^ (i + 1)
 fits-more n d i h k = rw (add-one i) (omega (arith, pow-suc 10 i))
 
-pub fits-word : (n i : ℕ) → n < 10 ^ i → i < 18 → 10 * n + 9 < 2 ^ 64
-fits-word n i h k = omega (arith, lt_of_lt_of_le h (pow-le-pow_right {n = 10} (omega arith) {j = 17} (omega arith)))
-
 pub record DigitsRead (bs : List ℕ) (i n : ℕ) : Type 0 where
   pub same-field : i + count_before tab (drop i bs) ≡ count_before tab bs
   pub spells : spelled 0 (first_field bs) ≡ spelled n (first_field (drop i bs))
-
-pub read-none : (bs : List ℕ) → DigitsRead bs 0 0
-read-none bs = record { same-field = omega arith; spells = refl }
 
 number-by : (k n : ℕ) (bs : List ℕ) → length bs ≤ k → spelled 0 bs ≡ Some n
     → number k bs ≡ cond (eqb (length bs) 0 || leading_zero bs) None (Some n)
@@ -50,7 +43,7 @@ module _ (bs : List ℕ) (i n : ℕ) (r : DigitsRead bs i n) where
     read-more d = record { same-field = omega (arith, r.same-field, counted); spells = r.spells ∙ rw (next, d) }
 
     -- it is no digit, or a digit too many
-    pub read-stops : (k : ℕ) (d : Bool) → d ≡ digit (get_or bs i 0) → (d ≡ false) ⊎ (i ≡ k) → None ≡ read_as (digits k) bs
+    pub read-stops : (k : ℕ) (d : Bool) → d ≡ digit (get_or bs i 0) → (d ≡ false) ⊎ (i ≡ k) → field_as (digits k) (first_field bs) ≡ None
     unfolding spelled number field_as
     read-stops k d e s =
         let size = length-take-le (count_before tab bs) bs (count_before-le tab bs) in
@@ -67,19 +60,13 @@ module _ (bs : List ℕ) (i n : ℕ) (r : DigitsRead bs i n) where
         ⊎_elim (λ e. rw (drop_of_length-le bs {i = i} (omega arith))) (λ l. rw (drop-cons bs i 0 l, eq-eqb (get_or bs i 0) tab (t l)))
         (eq-or-lt_of_le h)
 
-    counts-all : count_before tab bs ≡ i
+    pub counts-all : count_before tab bs ≡ i
     counts-all = omega (arith, r.same-field, uncounted)
 
-    pub read-all : (k : ℕ) → i ≤ k → read_as (digits k) bs
-        ≡ cond (eqb (length (take i bs)) 0 || leading_zero (take i bs)) None (Some (record { value = n; length = i }))
+    pub read-all : (k : ℕ) → i ≤ k
+        → field_as (digits k) (first_field bs) ≡ cond (eqb (length (take i bs)) 0 || leading_zero (take i bs)) None (Some n)
     unfolding spelled field_as
     read-all k few =
         let nothing : first_field (drop i bs) ≡ [] = rw uncounted in
         let spells : spelled 0 (first_field bs) ≡ Some n = r.spells ∙ rw nothing in
         rw (counts-all, number-by k n (take i bs) (rw (length-take-le i bs h) few) (rw counts-all at spells))
-        (map-cond (eqb (length (take i bs)) 0 || leading_zero (take i bs)))
-      where
-        map-cond : (b : Bool) → option_map {U = FieldRead} (λ v. record { value = v; length = i }) (cond b None (Some n))
-            ≡ cond b None (Some (record { value = n; length = i }))
-        map-cond true = refl
-        map-cond false = refl

@@ -1,141 +1,176 @@
--- The fields of a line, one after the other (specs/Fields).
---   completed_from, completed_from-zero   the parts of a line from place j on, with the last two fields where the line has 13; from 0 on
---   after, after-nil   the values before, and those of the rest
---   read_as-none, read_as-some   what was handed on of a field
---   more-of, last-of   a field read, with a tab behind it and at the line's end
---   field-bad, too-many   a malformed field, and a field too many
+-- The fields of a line, read in turn (specs/Fields, specs/Places).
+--   lone, not-lone     when the first field is one byte
+--   reads-none, reads, none-left   the first field is malformed; it has a value or none; no field is left
+--   last, not-last     what is left behind the first field, where no tab follows and where one does
+--   letter-read, letter-none   a field of one byte, and another
+--   both               the values of some fields before those of the fields after them
+--   more, stop         fields read, and what was read of those after them; fields not read
+--   line-read, too-many   a line by what was read of it; a field too many
+--   line_laws          what read_line rests on
+--   some-left          where a field is left, no weather is taken as clear
+--   short, long        the first 13 fields are not read; they are, and then the weather
 -- Assumes nothing.
-use Rattle.std.proofs.Common.{◌≡◌, ℕ, suc, ◌+◌, ◌≤◌, ◌<◌, cond, ◌||◌, Option, Some, None, option_map, List, [], ◌∷◌, ◌++◌}
-use Rattle.std.proofs.Common.{length, take, drop, get_or, set, eqb, refl, sym, ap, ◌∙◌, arith, add-one, zero-add, drop-cons, take-suc-set}
-use Rattle.std.proofs.Common.{append_assoc, length-set, drop_of_length-le, take_all, ⊎_elim, eq-or-lt_of_le, eq-eqb, ne_eqb}
-use native.Mathlib.Decide.{ℕ_discrete}
-use lib.Seq.{set_split}
-use Rattle.std.specs.Bool.{then_some}
+use Rattle.std.proofs.Common.{◌≡◌, ℕ, suc, ◌+◌, ◌-◌, ◌≤◌, ◌<◌, Option, Some, None, IfSome, List, [], ◌∷◌, ◌++◌}
+use Rattle.std.proofs.Common.{length, take, drop, get_or, refl, sym, ap, ◌∙◌, arith, length-append, length-take-le, drop-drop, append-nil, take-take}
+use Rattle.std.proofs.Common.{⊎_elim, eq-or-lt_of_le, take_all, eq-eqb, ne_eqb, length-take}
+use Rattle.std.proofs.lemmas.List.{take-append-le, take_rest, drop-take}
 use Rattle.std.proofs.lemmas.Grind.{common_steps}
+use Rattle.std.proofs.lemmas.Bool.Decides.{nat_tests}
+use Rattle.std.specs.Borrow.{Bor}
 use Rattle.text.specs.Bytes.{tab}
 use Rattle.text.specs.Parts.{parts, count_before}
-use Rattle.text.proofs.PartsLaws.{count_before-le, parts-one, parts-more}
-use Rattle.lines.specs.declared.field.FieldRead.{FieldRead}
-use Rattle.lines.specs.Fields.{Field, clear_factors, completed, field_as, values_of, joined}
-use Rattle.lines.specs.Places.{first_field, read_as}
+use Rattle.text.proofs.PartsLaws.{count_before-le, parts-one, parts-more, parts-pos}
+use Rattle.lines.specs.Fields.{Field, layout, letters, letter, completed, field_as, values_of, joined}
+use Rattle.lines.specs.Places.{first_field, one, Reads, ReadsOne, letter_among, or_clear, parts_left}
+use Rattle.lines.specs.Reading.{read_values, read_line}
+use Rattle.lines.proofs.ReadingLaws.{case_of-values, read_line-long}
+use Rattle.lines.proofs.Laws.{values_of-sizes, length-never-decides-alone}
 
--- ---- the parts from place j on
-unfoldable pub completed_from : ℕ → List (List ℕ) → List (List ℕ)
-completed_from j ps = cond (eqb (j + length ps) 13) (ps ++ clear_factors) ps
+-- ---- one field
+-- the first field is one byte
+pub lone : (bs : List ℕ) → (get_or bs 0 0 ≡ tab → ⊥) → 0 < length bs → (1 < length bs → get_or bs 1 0 ≡ tab)
+    → count_before tab bs ≡ 1
+unfolding count_before
+lone [] n h t = absurd (omega arith)
+lone (b ∷ []) n h t = rw (ne_eqb b tab n)
+lone (b ∷ d ∷ bs) n h t = let e : d ≡ tab = t (omega arith) in rw (ne_eqb b tab n, eq-eqb d tab e)
 
-pub completed_from-zero : (ps : List (List ℕ)) → completed ps ≡ completed_from 0 ps
-unfolding completed completed_from
-completed_from-zero ps = rw (zero-add (length ps))
+pub not-lone : (bs : List ℕ) → count_before tab bs ≡ 1
+    → (get_or bs 0 0 ≡ tab → ⊥) × (0 < length bs) × (1 < length bs → get_or bs 1 0 ≡ tab)
+unfolding count_before
+not-lone [] e = absurd (omega arith)
+not-lone (b ∷ []) e = grind (arith, nat_tests)
+not-lone (b ∷ d ∷ bs) e = grind (arith, nat_tests)
 
-completed_from-cons : (j : ℕ) (p : List ℕ) (ps : List (List ℕ)) → completed_from j (p ∷ ps) ≡ p ∷ completed_from (j + 1) ps
-unfolding completed_from
-completed_from-cons j p ps = grind (arith, common_steps)
+first-part : (bs : List ℕ) → take 1 (parts tab bs) ≡ one (first_field bs)
+first-part bs =
+    ⊎_elim (λ e. rw (parts-one tab bs e, take_all (count_before tab bs) bs (omega arith))) (λ l. rw (parts-more tab bs l))
+    (eq-or-lt_of_le (count_before-le tab bs))
 
-completed_from-none : (j : ℕ) → (j ≡ 13 → ⊥) → completed_from j [] ≡ []
-unfolding completed_from
-completed_from-none j n = grind (arith, common_steps)
+module _ (f : Field) (bs : List ℕ) (qs : List (List ℕ)) where
+  pub reads-none : field_as f (first_field bs) ≡ None → ReadsOne f None (parts tab bs) qs
+  unfolding values_of
+  reads-none e = record { values = rw (first-part bs, e); rest = tt }
 
-completed_from-past : (j : ℕ) (ps : List (List ℕ)) → 13 < j → completed_from j ps ≡ ps
-unfolding completed_from
-completed_from-past j ps h = grind (arith, common_steps)
+  pub reads : (v : Option ℕ) → v ≡ field_as f (first_field bs) → qs ≡ drop 1 (parts tab bs) → ReadsOne f v (parts tab bs) qs
+  unfolding values_of
+  reads None e r = reads-none (sym e)
+  reads (Some v) e r = record { values = rw (first-part bs, sym e); rest = r }
 
--- ---- the values before, and those of the rest
-abbrev pub after : List ℕ → Option (List ℕ) → Option (List ℕ)
-after vs o = option_map (λ ws. vs ++ ws) o
-
-pub after-nil : (o : Option (List ℕ)) → after [] o ≡ o
-after-nil None = refl
-after-nil (Some ws) = refl
-
-joined-none : (v : Option ℕ) → joined v None ≡ None
-joined-none None = refl
-joined-none (Some v) = refl
-
-after-joined : (vs : List ℕ) (v : ℕ) (o : Option (List ℕ)) → after vs (joined (Some v) o) ≡ after (vs ++ (v ∷ [])) o
-after-joined vs v None = refl
-after-joined vs v (Some ws) = ap Some (sym (append_assoc vs (v ∷ []) ws))
-
--- what was handed on of a field
-pub read_as-none : (f : Field) (bs : List ℕ) → None ≡ read_as f bs → field_as f (first_field bs) ≡ None
-read_as-none f bs e = go (field_as f (first_field bs)) e
-  where
-    go : (o : Option ℕ) → None ≡ option_map {U = FieldRead} (λ v. record { value = v; length = count_before tab bs }) o → o ≡ None
-    go None k = refl
-    go (Some v) k = cc
-
-pub read_as-some : (f : Field) (bs : List ℕ) (r : FieldRead) → Some r ≡ read_as f bs
-    → (field_as f (first_field bs) ≡ Some r.value) × (r.length ≡ count_before tab bs) × (r.length ≤ length bs)
-read_as-some f bs r e = go (field_as f (first_field bs)) e
-  where
-    go : (o : Option ℕ) → Some r ≡ option_map {U = FieldRead} (λ v. record { value = v; length = count_before tab bs }) o
-        → (o ≡ Some r.value) × (r.length ≡ count_before tab bs) × (r.length ≤ length bs)
-    go None k = cc
-    go (Some v) k =
-        let same : r ≡ record { value = v; length = count_before tab bs } = cc in
-        (rw same, rw same, rw same (count_before-le tab bs))
-
-no-more : (bs : List ℕ) → values_of [] (parts tab bs) ≡ None
+pub none-left : (f : Field) (qs : List (List ℕ)) → ReadsOne f None [] qs
 unfolding values_of
-no-more bs = ⊎_elim (λ e. rw (parts-one tab bs e)) (λ l. rw (parts-more tab bs l)) (eq-or-lt_of_le (count_before-le tab bs))
+none-left f qs = record { values = refl; rest = tt }
 
--- the field at place j, the first of the bytes bs
-module _ (ls : List Field) (d : Field) (bs vs : List ℕ) (j : ℕ) (hj : j < length ls) where
-  unfoldable pub rest : Option (List ℕ)
-  rest = values_of (drop j ls) (completed_from j (parts tab bs))
+pub last : (bs : List ℕ) → count_before tab bs ≡ length bs → [] ≡ drop 1 (parts tab bs)
+last bs e = rw (parts-one tab bs e)
 
-  -- a tab follows
-  more-is : count_before tab bs < length bs
-      → rest ≡ joined (field_as (get_or ls j d) (first_field bs))
-      (values_of (drop (j + 1) ls) (completed_from (j + 1) (parts tab (drop (count_before tab bs + 1) bs))))
-  unfolding rest values_of
-  more-is h = rw (drop-cons ls j d hj, parts-more tab bs h, completed_from-cons, add-one j, add-one (count_before tab bs))
+pub not-last : (bs : List ℕ) (n i : ℕ) → n + 1 ≡ i → count_before tab bs ≡ n → n < length bs
+    → parts tab (take (length bs - i) (drop i bs)) ≡ drop 1 (parts tab bs)
+not-last bs n i e c h =
+    let more : count_before tab bs < length bs = omega arith in
+    let next : suc n ≡ i = omega arith in
+    rw (take_rest bs i, parts-more tab bs more, c, next)
 
-  pub more-of : (k : ℕ) → k ≡ count_before tab bs → k < length bs → (v : ℕ) → j < length vs
-      → field_as (get_or ls j d) (first_field bs) ≡ Some v
-      → (cs : List ℕ) → cs ≡ drop (k + 1) bs
-      → after (take j vs) rest
-      ≡ after (take (j + 1) (set vs j v)) (values_of (drop (j + 1) ls) (completed_from (j + 1) (parts tab cs)))
-  more-of k n h v hv r cs e =
-      rw (e, n, more-is (omega arith), r, after-joined (take j vs) v _, add-one j, take-suc-set vs j v hv)
+pub letter-read : (ls bs : List ℕ) (v : Option ℕ) (qs : List (List ℕ)) → count_before tab bs ≡ 1 → v ≡ letter_among ls (get_or bs 0 0)
+    → qs ≡ drop 1 (parts tab bs) → ReadsOne (letters ls) v (parts tab bs) qs
+unfolding count_before letter field_as
+letter-read ls [] v qs e h r = absurd (omega arith)
+letter-read ls (b ∷ bs) v qs e h r = reads (letters ls) (b ∷ bs) qs v (h ∙ rw e) r
 
-  -- no tab follows
-  last-is : count_before tab bs ≡ length bs
-      → rest ≡ joined (field_as (get_or ls j d) (first_field bs)) (values_of (drop (j + 1) ls) (completed_from (j + 1) []))
-  unfolding rest values_of
-  last-is h = rw (drop-cons ls j d hj, parts-one tab bs h, completed_from-cons, add-one j, h, take_all (length bs) bs (omega arith))
+pub letter-none : (ls bs : List ℕ) (qs : List (List ℕ)) → (count_before tab bs ≡ 1 → ⊥) → ReadsOne (letters ls) None (parts tab bs) qs
+unfolding letter field_as
+letter-none ls bs qs n =
+    let size = length-take-le (count_before tab bs) bs (count_before-le tab bs) in
+    reads-none (letters ls) bs qs (rw (size, ne_eqb (count_before tab bs) 1 n))
 
-  -- it is the thirteenth, and the last values are those of clear weather; it is the fifteenth; or fields are missing
-  pub last-of : count_before tab bs ≡ length bs → length vs ≡ length ls → length ls ≡ 15 → (v : ℕ)
-      → (j ≤ 12 → values_of (drop 13 ls) clear_factors ≡ Some (drop 13 vs))
-      → field_as (get_or ls j d) (first_field bs) ≡ Some v
-      → after (take j vs) rest ≡ then_some (eqb j 12 || eqb j 14) (set vs j v)
-  unfolding values_of completed_from
-  last-of h l n v clear r = go (ℕ_discrete j 12) (ℕ_discrete j 14)
-    where
-      go : Dec (j ≡ 12) → Dec (j ≡ 14) → after (take j vs) rest ≡ then_some (eqb j 12 || eqb j 14) (set vs j v)
-      go (yes e) k =
-          let z : completed_from 13 [] ≡ clear_factors = refl in
-          rw (last-is h, r, e, z, clear (omega arith)) (ap Some (sym (set_split vs 12 v (omega arith))))
-      go (no e) (yes k) =
-          let w : take (suc j) (set vs j v) ≡ set vs j v = take_all (suc j) (set vs j v) (simp length-set (omega arith)) in
-          let z : drop (j + 1) ls ≡ [] = drop_of_length-le ls {i = j + 1} (omega arith) in
-          rw (eq-eqb j 14 k, ne_eqb j 12 e, last-is h, r, z, completed_from-none (j + 1) (λ n. omega arith))
-          (ap Some (sym (take-suc-set vs j v (omega arith)) ∙ w))
-      go (no e) (no k) =
-          rw (
-            ne_eqb j 12 e,
-            ne_eqb j 14 k,
-            last-is h,
-            completed_from-none (j + 1) (λ n. e (omega arith)),
-            drop-cons ls (j + 1) d (omega arith),
-            joined-none (field_as (get_or ls j d) (first_field bs)),
-          )
+-- ---- fields in turn
+-- the values of some fields before those of the fields after them
+abbrev pub both : Option (List ℕ) → Option (List ℕ) → Option (List ℕ)
+both None ws = None
+both (Some vs) None = None
+both (Some vs) (Some ws) = Some (vs ++ ws)
 
-  -- a field that is not as the layout has it
-  pub field-bad : field_as (get_or ls j d) (first_field bs) ≡ None → after (take j vs) rest ≡ None
-  field-bad r = ⊎_elim (λ h. rw (last-is h, r)) (λ h. rw (more-is h, r)) (eq-or-lt_of_le (count_before-le tab bs))
+both-nil : (o : Option (List ℕ)) → both (Some []) o ≡ o
+both-nil None = refl
+both-nil (Some ws) = refl
 
--- a field too many
-pub too-many : (ls : List Field) (bs vs : List ℕ) (j : ℕ) → j ≡ length ls → 13 < j
-    → after (take j vs) (values_of (drop j ls) (completed_from j (parts tab bs))) ≡ None
-too-many ls bs vs j h k = rw (drop_of_length-le ls {i = j} (omega arith), completed_from-past j (parts tab bs) k, no-more bs)
+joined-both : (v : Option ℕ) (o r : Option (List ℕ)) → joined v (both o r) ≡ both (joined v o) r
+joined-both None o r = refl
+joined-both (Some v) None r = refl
+joined-both (Some v) (Some vs) None = refl
+joined-both (Some v) (Some vs) (Some ws) = refl
+
+parted : (fs gs : List Field) (ps : List (List ℕ))
+    → values_of (fs ++ gs) ps ≡ both (values_of fs (take (length fs) ps)) (values_of gs (drop (length fs) ps))
+unfolding values_of
+parted [] gs ps = sym (both-nil _)
+parted (f ∷ fs) gs [] = refl
+parted (f ∷ fs) gs (p ∷ ps) = rw (parted fs gs ps) (joined-both (field_as f p) _ _)
+
+first-parted : (fs gs : List Field) (ps : List (List ℕ)) → values_of (fs ++ gs) (take (length (fs ++ gs)) ps)
+    ≡ both (values_of fs (take (length fs) ps)) (values_of gs (take (length gs) (drop (length fs) ps)))
+first-parted fs gs ps =
+    let less : length fs ≤ length fs + length gs = omega arith in
+    rw (parted fs gs (take (length (fs ++ gs)) ps), length-append fs gs, drop-take, take-take)
+
+pub more : {fs gs : List Field} {vs : List ℕ} {o : Option (List ℕ)} {ps qs rs : List (List ℕ)}
+    → Reads fs (Some vs) ps qs → Reads gs o qs rs → Reads (fs ++ gs) (both (Some vs) o) ps rs
+more {fs} {gs} {vs} {o} {ps} {qs} {rs} a b =
+    record {
+      values = rw (first-parted fs gs ps, sym a.values, sym a.rest, sym b.values);
+      rest = go o b.rest;
+    }
+  where
+    go : (r : Option (List ℕ)) → IfSome r (λ ws. rs ≡ drop (length gs) qs)
+        → IfSome (both (Some vs) r) (λ ws. rs ≡ drop (length (fs ++ gs)) ps)
+    go None h = tt
+    go (Some ws) h = rw (length-append fs gs, sym (drop-drop (length gs) (length fs) ps), sym a.rest) h
+
+pub stop : {fs : List Field} (gs : List Field) {ps qs rs : List (List ℕ)} → Reads fs None ps qs → Reads (fs ++ gs) None ps rs
+stop {fs} gs {ps} a = record { values = rw (first-parted fs gs ps, sym a.values); rest = tt }
+
+all-read : (fs : List Field) (o : Option (List ℕ)) (ps qs : List (List ℕ)) → Reads fs o ps qs
+    → values_of fs ps ≡ both o (values_of [] qs)
+all-read fs None ps qs a = rw append-nil at (parted fs [] ps) ∙ rw (sym a.values)
+all-read fs (Some vs) ps qs a = rw append-nil at (parted fs [] ps) ∙ rw (sym a.values, sym a.rest)
+
+pub line-read : (bs : List ℕ) (o : Option (List ℕ)) (qs : List (List ℕ)) → Reads layout o (completed (parts tab bs)) qs
+    → read_line bs ≡ read_values (both o (values_of [] qs))
+line-read bs o qs a = length-never-decides-alone bs ∙ ap read_values (all-read layout o _ qs a)
+
+pub too-many : (bs : List ℕ) → values_of [] (parts tab bs) ≡ None
+unfolding values_of
+too-many bs = ⊎_elim (λ e. rw (parts-one tab bs e)) (λ l. rw (parts-more tab bs l)) (eq-or-lt_of_le (count_before-le tab bs))
+
+pub ruleset line_laws = (line-read, too-many, case_of-values, read_line-long)
+
+-- ---- a line of 13 fields
+front : (ps : List (List ℕ)) → take 13 (completed ps) ≡ take 13 ps
+unfolding completed
+front ps = grind (arith, common_steps, take-append-le)
+
+behind-front : (ps : List (List ℕ)) → 13 ≤ length ps → or_clear (drop 13 ps) ≡ drop 13 (completed ps)
+unfolding completed
+behind-front ps h = grind (arith, common_steps)
+
+completed-reads : (fs : List Field) → length fs ≡ 13 → (o : Option (List ℕ)) (ps qs : List (List ℕ)) → Reads fs o ps qs
+    → Reads fs o (completed ps) (or_clear qs)
+completed-reads fs e None ps qs a = record { values = rw (e, front ps) (rw e at a.values); rest = tt }
+completed-reads fs e (Some vs) ps qs a =
+    let n = (values_of-sizes fs (take (length fs) ps) vs (sym a.values)).0 in
+    record {
+      values = rw (e, front ps) (rw e at a.values);
+      rest = rw (a.rest, e) (behind-front ps (omega (arith, n, length-take (length fs) ps)));
+    }
+
+pub some-left : (o : Option (Bor (List ℕ))) (bs : Bor (List ℕ)) → o ≡ Some bs → or_clear (parts_left o) ≡ parts_left o
+some-left o bs e = rw e (rw (ne_eqb (length (parts tab bs.now)) 0 (λ z. absurd (omega (arith, parts-pos tab bs.now)))))
+
+pub short : {ps qs : List (List ℕ)} → Reads (take 13 layout) None ps qs → Reads layout None (completed ps) qs
+unfolding layout
+short {ps} {qs} a = stop (drop 13 layout) (completed-reads (take 13 layout) refl None ps qs a)
+
+pub long : {vs : List ℕ} {o : Option (List ℕ)} {ps qs rs : List (List ℕ)} → Reads (take 13 layout) (Some vs) ps qs
+    → Reads (drop 13 layout) o (or_clear qs) rs → Reads layout (both (Some vs) o) (completed ps) rs
+unfolding layout
+long {vs} {o} {ps} {qs} a b = more (completed-reads (take 13 layout) refl (Some vs) ps qs a) b

@@ -108,7 +108,7 @@ unfolding field_as
 field_as-length (letters ls) bs v e = omega (arith, (letter-is ls bs v e).0)
 field_as-length (digits k) bs v e = (number-is k bs v e).0
 
-values_of-sizes : (fs : List Field) (ps : List (List ℕ)) (vs : List ℕ) → values_of fs ps ≡ Some vs
+pub values_of-sizes : (fs : List Field) (ps : List (List ℕ)) (vs : List ℕ) → values_of fs ps ≡ Some vs
     → (length ps ≡ length fs) × (spread ps ≤ widths fs)
 values_of-sizes =
     by-fields (λ fs ps vs. (length ps ≡ length fs) × (spread ps ≤ widths fs)) (refl, omega arith)

@@ -2,14 +2,16 @@
 --   read_line-by        what holds of each case and of refusal 15 holds of each line
 --   read_line-refused   a line that is refused is refused with 15
 --   read_line-long      a line of more than 80 bytes is refused
+--   case_of-values      a case is that of its values
 -- Assumes nothing.
-use Rattle.std.proofs.Common.{◌≡◌, ℕ, ◌<◌, Bool, true, false, cond, Option, Some, None, Result, Ok, Err, List, ltb, length, lt-ltb, refl}
+use Rattle.std.proofs.Common.{◌≡◌, ℕ, ◌<◌, Bool, true, false, cond, Option, Some, None, Result, Ok, Err, List, ltb, length, lt-ltb, refl, arith}
+use Rattle.std.proofs.lemmas.Grind.{common_steps}
 use Rattle.text.specs.Bytes.{tab}
 use Rattle.text.specs.Parts.{parts}
 use Rattle.checks.specs.declared.Refusal.{Refusal}
 use Rattle.road.specs.declared.Case.{Case}
 use Rattle.lines.specs.Fields.{layout, completed, values_of}
-use Rattle.lines.specs.Reading.{read_values, longest_line, read_line}
+use Rattle.lines.specs.Reading.{case_of, read_values, longest_line, read_line, values}
 
 pub read_line-by : (P : Result Case Refusal → Type 0) → ((case : Case) → P (Ok case)) → P (Err Refusal.LineMalformed) → (bs : List ℕ)
     → P (read_line bs)
@@ -27,3 +29,7 @@ read_line-refused bs r = read_line-by (λ a. a ≡ Err r → a ≡ Err Refusal.L
 pub read_line-long : (bs : List ℕ) → longest_line < length bs → read_line bs ≡ Err Refusal.LineMalformed
 unfolding read_line
 read_line-long bs h = rw (lt-ltb longest_line (length bs) h)
+
+pub case_of-values : (case : Case) → case_of (values (Ok case)) ≡ case
+unfolding case_of
+case_of-values case = grind (arith, common_steps)

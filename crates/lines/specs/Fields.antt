@@ -1,7 +1,6 @@
 -- The fields of a line (document 01, "Lines", and document 02, T-03).
 --   Field              one of some letters, or a number with at most so many digits
 --   layout             the 15 fields
---   field_at i         the field at place i of the layout
 --   clear_factors      the last two fields of a line that has 13
 --   completed ps       the parts ps of a line, with these where they are 13
 --   digit b            the byte b is a decimal digit
@@ -36,9 +35,6 @@ layout =
     ∷ digits 5 ∷ digits 5 ∷ digits 5 ∷ digits 5 ∷ digits 5
     ∷ letters (bytes_of "LR")
     ∷ digits 5 ∷ digits 5 ∷ []
-
-abbrev pub field_at : ℕ → Field
-field_at i = get_or layout i (digits 5)
 
 -- "Lines of 13 fields mean 1,000 for both"
 abbrev pub clear_factors : List (List ℕ)

@@ -1,6 +1,6 @@
 -- Lines: what a line says.
 --   Fields    the fields of a line
---   Places    where a field lies, and what the code hands on while it reads
+--   Places    where a field lies, and what has been read of a line
 --   Reading   a line as a case or its refusal
 --   Laws      laws of lines
 pub mod Fields

@@ -1,106 +1,85 @@
 // A line read into a case or its refusal.
 //   LONGEST_LINE   the most bytes of a line
 //   read_line      for any bytes at all, a line without its newline
-ghost use Rattle.std.specs.Prelude.{◌≡◌};
-ghost use Rattle.lines.specs.Reading.{kind_of, way_of, median_of, terrain_of, case_of, read_line};
+ghost use Rattle.std.specs.Prelude.{◌≡◌, Ok, take, drop, option_map};
+ghost use Rattle.lines.specs.Fields.{layout, completed};
+ghost use Rattle.lines.specs.Reading.{read_line, values};
+ghost use Rattle.lines.specs.Places.{left, or_clear, weather_values, road_values, Reads};
 
-use crate::field;
+use crate::field::Fields;
 use checks::Refusal;
 use curve::Weather;
-use curve::kind::Kind;
-use road::{Case, Median, Road, Terrain, Way};
+use road::{Case, Road};
 
 // "Longer than 80 bytes is malformed"
 pub const LONGEST_LINE: usize = 80;
 
-const FREEWAY: u64 = b'F' as u64;
+// "Lines of 13 fields mean 1,000 for both"
+const CLEAR: Weather = Weather {
+    speed_factor: 1_000,
+    capacity_factor: 1_000,
+};
 
-const ESTIMATED: u64 = b'E' as u64;
+impl<'a> Fields<'a> {
+    // Left out, or both factors.
+    #[inline(always)]
+    #[tactic(auto, unfolding(crate::specs::Fields::layout, crate::specs::Fields::values_of))]
+    fn weather(&mut self) -> Option<Weather>
+        ensures { Reads (drop 13 layout) (option_map weather_values result) (or_clear (left self.old)) (left self.new) }
+    {
+        match self.rest {
+            None => Some(CLEAR),
+            Some(_) => Some(Weather {
+                speed_factor: self.number()?,
+                capacity_factor: self.number()?,
+            }),
+        }
+    }
 
-const UNDIVIDED: u64 = b'U' as u64;
+    #[tactic(auto, unfolding(crate::specs::Fields::layout, crate::specs::Fields::values_of))]
+    fn road(&mut self) -> Option<Road>
+        ensures { Reads (take 8 layout) (option_map road_values result) (left self.old) (left self.new) }
+    {
+        Some(Road {
+            kind: self.letter()?,
+            way: self.letter()?,
+            speed: self.number()?,
+            lane_width: self.number()?,
+            right_clearance: self.number()?,
+            left_clearance: self.number()?,
+            median: self.letter()?,
+            access: self.number()?,
+        })
+    }
 
-const DIVIDED: u64 = b'D' as u64;
-
-const LEVEL: u64 = b'L' as u64;
-
-fn kind_of(b: u64) -> Kind
-    ensures { result ≡ kind_of b }
-{
-    match b {
-        FREEWAY => Kind::Freeway,
-        _ => Kind::Multilane,
+    fn case(&mut self) -> Option<Case>
+        ensures { Reads layout (option_map (λ c. values (Ok c)) result) (completed (left self.old)) (left self.new) }
+    {
+        Some(Case {
+            road: self.road()?,
+            lanes: self.number()?,
+            demand: self.number()?,
+            peak_hour_factor: self.number()?,
+            heavy_share: self.number()?,
+            terrain: self.letter()?,
+            weather: self.weather()?,
+        })
     }
 }
 
-fn way_of(b: u64) -> Way
-    ensures { result ≡ way_of b }
-{
-    match b {
-        ESTIMATED => Way::Estimated,
-        _ => Way::Given,
-    }
-}
-
-fn median_of(b: u64) -> Median
-    ensures { result ≡ median_of b }
-{
-    match b {
-        UNDIVIDED => Median::Undivided,
-        DIVIDED => Median::Divided,
-        _ => Median::TwoWayLeftTurnLane,
-    }
-}
-
-fn terrain_of(b: u64) -> Terrain
-    ensures { result ≡ terrain_of b }
-{
-    match b {
-        LEVEL => Terrain::Level,
-        _ => Terrain::Rolling,
-    }
-}
-
-#[tactic(auto, unfolding(crate::specs::Reading::case_of))]
-fn road_of(values: [u64; 15]) -> Road
-    ensures { result ≡ (case_of values).road }
-{
-    Road {
-        kind: kind_of(values[0]),
-        way: way_of(values[1]),
-        speed: values[2],
-        lane_width: values[3],
-        right_clearance: values[4],
-        left_clearance: values[5],
-        median: median_of(values[6]),
-        access: values[7],
-    }
-}
-
-#[tactic(auto, unfolding(crate::specs::Reading::case_of))]
-fn case_of(values: [u64; 15]) -> Case
-    ensures { result ≡ case_of values }
-{
-    Case {
-        road: road_of(values),
-        lanes: values[8],
-        demand: values[9],
-        peak_hour_factor: values[10],
-        heavy_share: values[11],
-        terrain: terrain_of(values[12]),
-        weather: Weather {
-            speed_factor: values[13],
-            capacity_factor: values[14],
-        },
-    }
-}
-
-#[tactic(auto, unfolding(crate::specs::Reading::read_line, crate::specs::Reading::read_values))]
+// Not inlined, so that the engine that a caller goes on to has the registers.
+#[inline(never)]
+#[tactic(auto, using(crate::proofs::FieldsLaws::line_laws), unfolding(crate::specs::Reading::read_values, crate::specs::Fields::values_of))]
 pub fn read_line(line: &[u8]) -> Result<Case, Refusal>
     ensures { result ≡ read_line line.now }
 {
     if LONGEST_LINE < line.len() {
         return Err(Refusal::LineMalformed);
     }
-    let values = field::field_values(line).ok_or(Refusal::LineMalformed)?;
-    Ok(case_of(values))
+    let mut fields = Fields { rest: Some(line) };
+    match (fields.case(), fields.rest) {
+        (Some(case), None) => Ok(case),
+        // malformed, or a field too many
+        _ => Err(Refusal::LineMalformed),
+    }
 }

@@ -4,7 +4,8 @@
 // can't be written or its input can't be read, and without one where nobody reads its output: half a line is never answered.
 #![tactic(auto)]
 
-ghost use Rattle.std.specs.Prelude.{◌≡◌, true, false, ◌↔◌, ◌+◌, ◌≤◌, ◌<◌, length, take, IfOk};
+ghost use Rattle.std.specs.Prelude.{◌≡◌, true, false, ◌↔◌, ℕ, ◌+◌, ◌≤◌, ◌<◌, List, length, take, IfOk, OnErr};
+ghost use Rattle.text.specs.Buffer.{Wrote};
 ghost use Rattle.text.specs.Bytes.{newline};
 ghost use Rattle.text.specs.Parts.{count_before};
 ghost use Rattle.lines.specs.Reading.{longest_line};
@@ -15,20 +16,65 @@ ghost use Rattle.replies.specs.Output.{line_texts};
 
 use replies::block;
 use std::io::{ErrorKind, Read, Write};
+use std::marker::Model;
+
+// How many bytes of answers are written at once.
+const ANSWERS: usize = 131072;
 
 // What stops it early.
-#[derive(Clone, Copy, Debug, PartialEq, Eq)]
+#[derive(Clone, Copy)]
 enum Stop {
     InputUnread,
     OutputUnwritten,
     NobodyReads,
 }
 
-// After a step: how many bytes are held, and whether there may be more.
-#[derive(Clone, Copy, Debug, PartialEq, Eq)]
-struct Step {
-    held: usize,
-    more: bool,
+// The bytes of the input that are held: the first of a buffer.
+#[derive(Drop)]
+struct Held {
+    buffer: [u8; 65536],
+    count: usize,
+}
+
+impl Model for Held {
+    ghost Value = { List ℕ };
+
+    ghost view = { λ held. take held.count held.buffer };
+
+    ghost invariant = { λ held. held.count ≤ 65536 };
+}
+
+impl Held {
+    // Reads a piece behind the bytes held, and tells whether there may be more. There has to be room: nothing read is the end of the input,
+    // and nothing else is.
+    fn read_more(&mut self, rt: HostRuntime) -> Result<bool, Stop>
+        requires { length self.old < 65536 }
+        ensures kept { take (length self.old) self.new ≡ self.old }
+        ensures ended { IfOk result (λ more. (more ≡ false) ↔ (self.new ≡ self.old)) }
+        ensures unread { OnErr result (self.new ≡ self.old) }
+    {
+        let mut input = rt.stdin();
+        match input.read(&mut self.buffer[self.count..]) {
+            Ok(n) => {
+                self.count += n;
+                Ok(0 < n)
+            }
+            Err(_) => Err(Stop::InputUnread),
+        }
+    }
+
+    // Answers the whole lines that are held; what is carried over is held then.
+    fn answer(&mut self, out: &mut [u8]) -> usize
+        ensures carried { self.new ≡ carried line_texts (length out.old) self.old }
+        ensures text { Wrote (texts line_texts (answered line_texts (length out.old) self.old))
+            out.old out.new result }
+        ensures upper_bound { result ≤ length out.old }
+        ensures room { longest_answer ≤ length out.old → result ≡ 0 → length self.new ≤ longest_line + 1 }
+    {
+        let turn = block::answer_turn(&mut self.buffer[..self.count], out);
+        self.count = turn.carried;
+        turn.written
+    }
 }
 
 // Tells on standard error what stopped it, as far as that can be written; nothing where nobody reads its output.
@@ -51,57 +97,29 @@ fn write_out(rt: HostRuntime, answers: &[u8]) -> Result<(), Stop> {
     }
 }
 
-// Reads a piece behind the bytes held. There has to be room: nothing read is the end of the input, and nothing else is.
-fn read_more(rt: HostRuntime, buffer: &mut [u8], held: usize) -> Result<Step, Stop>
-    requires { held < length buffer.old }
-    ensures in_bounds { IfOk result (λ step. (held ≤ step.held) × (step.held ≤ length buffer.old)) }
-    ensures kept { take held buffer.new ≡ take held buffer.old }
-    ensures ended { IfOk result (λ step. (step.more ≡ false) ↔ (step.held ≡ held)) }
+// Answers the whole lines that are held, or reads more where there is none; tells whether there may be more. What is carried over is held,
+// also where it fails, and where lines are answered nothing else is.
+fn advance(rt: HostRuntime, held: &mut Held, out: &mut [u8; ANSWERS]) -> Result<bool, Stop>
+    ensures kept { take (length (carried line_texts (length out.old) held.old)) held.new ≡ carried line_texts (length out.old) held.old }
+    ensures answered { 0 < length (texts line_texts (answered line_texts (length out.old) held.old))
+        → held.new ≡ carried line_texts (length out.old) held.old }
+    ensures goes_on { IfOk result (λ more. 0 < length (texts line_texts (answered line_texts (length out.old) held.old)) → more ≡ true) }
+    ensures ended { IfOk result (λ more. more ≡ false → count_before newline held.new ≡ length held.new) }
 {
-    let mut input = rt.stdin();
-    match input.read(&mut buffer[held..]) {
-        Ok(n) => Ok(Step {
-            held: held + n,
-            more: 0 < n,
-        }),
-        Err(_) => Err(Stop::InputUnread),
+    let written = held.answer(out);
+    if written == 0 {
+        return held.read_more(rt);
     }
+    write_out(rt, &out[..written])?;
+    Ok(true)
 }
 
-// Answers the whole lines that are held, or reads more where there is none. Where lines are answered, what is held is what is carried over.
-fn advance(rt: HostRuntime, buffer: &mut [u8], held: usize, out: &mut [u8]) -> Result<Step, Stop>
-    requires { (held ≤ length buffer.old) × ((longest_line + 2 ≤ length buffer.old) × (longest_answer ≤ length out.old)) }
-    ensures held_in_bounds { IfOk result (λ step. step.held ≤ length buffer.old) }
-    ensures answered { IfOk result (λ step. 0 < length (texts line_texts (answered line_texts (length out.old)
-        (take held buffer.old)))
-        → (step.held ≡ length (carried line_texts (length out.old) (take held buffer.old))) × (step.more ≡ true)) }
-    ensures kept { IfOk result (λ step. take (length (carried line_texts (length out.old) (take held buffer.old)))
-        (take step.held buffer.new)
-        ≡ carried line_texts (length out.old) (take held buffer.old)) }
-    ensures ended { IfOk result (λ step. step.more ≡ false → count_before newline (take step.held buffer.new) ≡ step.held) }
-{
-    let turn = block::answer_turn(buffer, held, out);
-    if turn.written == 0 {
-        let step = read_more(rt, buffer, turn.carried)?;
-        return Ok(step);
-    }
-    write_out(rt, &out[..turn.written])?;
-    Ok(Step {
-        held: turn.carried,
-        more: true,
-    })
-}
-
-fn run(rt: HostRuntime, buffer: &mut [u8], out: &mut [u8]) -> Result<(), Stop>
-    requires { (longest_line + 2 ≤ length buffer.old) × (longest_answer ≤ length out.old) }
-{
-    let mut held = 0;
+fn run(rt: HostRuntime, held: &mut Held, out: &mut [u8; ANSWERS]) -> Result<(), Stop> {
     // every loop is proved to end: this one by a count that no input reaches
     for _ in 0..u64::MAX {
-        let step = advance(rt, buffer, held, out)?;
-        held = step.held;
-        if !step.more {
-            let written = block::answer_last(&buffer[..held], out);
+        let more = advance(rt, held, out)?;
+        if !more {
+            let written = block::answer_last(&held.buffer[..held.count], out);
             return write_out(rt, &out[..written]);
         }
     }
@@ -109,9 +127,12 @@ fn run(rt: HostRuntime, buffer: &mut [u8], out: &mut [u8]) -> Result<(), Stop>
 }
 
 fn main(rt: HostRuntime) {
-    let mut buffer = [0u8; 65536];
-    let mut out = [0u8; 131072];
-    if let Err(stop) = run(rt, &mut buffer, &mut out) {
+    let mut held = Held {
+        buffer: [0; 65536],
+        count: 0,
+    };
+    let mut out = [0u8; ANSWERS];
+    if let Err(stop) = run(rt, &mut held, &mut out) {
         tell(rt, stop);
     }
 }

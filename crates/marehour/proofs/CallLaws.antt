@@ -1,6 +1,5 @@
 -- The calls of a host in C (specs/Calls): what a number is in 32 bits, and the reply by what was found.
---   minus-fits, minus-is     minus a refusal's number
---   positive-is, positive-fits   a count or a speed
+--   positive-is              a count, which is 80 at most
 --   Replied                  what is handed back of a call, and its lent memory afterwards, are those of a reply
 --   wrote, refused           a reply that was written; a refusal
 --   call-refused, call-read  a call over a line that was read: what refuses the lent memory or the line; the reply to its case
@@ -9,11 +8,11 @@
 --   figures-written, figures-refused   an answer in figures, of which there is one at least; a refusal
 --   FiguresFit               an answer in figures: so many, or a refusal
 --   count-length, count-written   the two bytes of a lane count
+--   tries-is, tries_laws     the count of the tried demands; it with its bound, for tactics
 -- Assumes nothing.
-use Rattle.std.proofs.Common.{◌≡◌, ℕ, zero, suc, ◌+◌, ◌≤◌, ◌<◌, Result, Ok, Err, List, [], ◌∷◌, length, set, ℤ, pos, neg_ℤ, ◌-ℤ◌}
-use Rattle.std.proofs.Common.{refl, sym, ap, ◌∙◌, arith, lt_of_le_of_lt, lt-ltb, le-ltb, lit<, w32, to_z, SFits}
+use Rattle.std.proofs.Common.{◌≡◌, ℕ, ◌+◌, ◌≤◌, ◌<◌, Result, Ok, Err, List, [], ◌∷◌, length, set, ℤ, pos, neg_ℤ}
+use Rattle.std.proofs.Common.{refl, sym, ap, ◌∙◌, arith, lt_of_le_of_lt, lt-ltb, le-ltb, lit<, w32, to_z}
 use native.Mathlib.Decide.{dec_le}
-use lib.IntN.{+ℤ_idl}
 use mir.ValLaws.{to_z_pos}
 use Rattle.checks.specs.declared.Refusal.{Refusal}
 use Rattle.checks.specs.Refusals.{Condition, first_refusal}
@@ -23,30 +22,16 @@ use Rattle.checks.proofs.NumberLaws.{number-above}
 use Rattle.text.specs.Bytes.{newline}
 use Rattle.text.specs.Buffer.{written, Wrote}
 use Rattle.text.proofs.DigitLaws.{decimal-small}
-use Rattle.text.proofs.BufferLaws.{first-byte, then-byte}
+use Rattle.text.proofs.BufferLaws.{nothing, then-byte}
 use Rattle.road.specs.declared.Case.{Case}
+use Rattle.answer.specs.Tries.{counted_answer}
+use Rattle.answer.proofs.SearchOrder.{tries-le}
 use Rattle.marehour.specs.Calls.{Reply, writes, refusal, count_text, figures_reply, line_reply, line_case, line_call, buffer_refusals}
 use Rattle.marehour.specs.Calls.{handed_back, content}
 
 -- ---- numbers in 32 bits
-small : (n : ℕ) → n ≤ 90000 → n < 2147483648
-small n h = lt_of_le_of_lt h (lit< tt)
-
-negative-fits : (n : ℕ) → n ≤ 99 → SFits w32 (neg_ℤ (pos n))
-negative-fits zero h = record { sfits = lit< tt }
-negative-fits (suc n) h = record { sfits = small n (omega arith) }
-
-pub minus-is : (n : ℕ) → n ≤ 99 → pos 0 -ℤ to_z w32 n ≡ neg_ℤ (pos n)
-minus-is n h = ap (λ z. pos 0 -ℤ z) (to_z_pos w32 n (small n (omega arith))) ∙ +ℤ_idl (neg_ℤ (pos n))
-
-pub minus-fits : (n : ℕ) → n ≤ 99 → SFits w32 (pos 0 -ℤ to_z w32 n)
-minus-fits n h = rw (minus-is n h) (negative-fits n h)
-
-pub positive-is : (n : ℕ) → n ≤ 90000 → to_z w32 n ≡ pos n
-positive-is n h = to_z_pos w32 n (small n h)
-
-pub positive-fits : (n : ℕ) → n ≤ 90000 → SFits w32 (pos n)
-positive-fits n h = record { sfits = small n h }
+pub positive-is : (n : ℕ) → n ≤ 80 → to_z w32 n ≡ pos n
+positive-is n h = to_z_pos w32 n (lt_of_le_of_lt h (lit< tt))
 
 -- ---- what is handed back and the lent memory, however what is written is counted
 module _ (count : List ℕ → ℕ) where
@@ -54,7 +39,7 @@ module _ (count : List ℕ → ℕ) where
   Replied z new r old = (z ≡ handed_back count r) × (new ≡ content r old)
 
   -- what was written, and its count
-  pub wrote : (ns old new : List ℕ) (n : ℕ) (r : Reply) → n ≡ count ns → new ≡ written ns 0 old → r ≡ writes ns → Replied (pos n) new r old
+  pub wrote : (ns old new : List ℕ) (n : ℕ) (r : Reply) → n ≡ count ns → new ≡ written ns old → r ≡ writes ns → Replied (pos n) new r old
   wrote ns old new n r k e is = (ap pos k ∙ sym (ap (handed_back count) is), e ∙ sym (ap (λ x. content x old) is))
 
   pub refused : (n : ℕ) (r : Reply) (old : List ℕ) → r ≡ refusal n → Replied (neg_ℤ (pos n)) old r old
@@ -122,7 +107,13 @@ unfolding count_text
 count-length count h = rw (decimal-small count (omega arith))
 
 pub count-written : (count : ℕ) (old : List ℕ) → count ≤ 9 → 64 ≤ length old
-    → Wrote (count_text (count ∷ [])) 0 old (set (set old 0 (48 + count)) 1 newline) 2
+    → Wrote (count_text (count ∷ [])) old (set (set old 0 (48 + count)) 1 newline) 2
 unfolding count_text
 count-written count old h room =
-    rw (decimal-small count (omega arith)) (then-byte newline (first-byte old 0 (48 + count) (omega arith)) (omega arith))
+    rw (decimal-small count (omega arith)) (then-byte (then-byte nothing (48 + count) (omega arith)) newline (omega arith))
+
+-- ---- the tried demands
+pub tries-is : (case : Case) → to_z w32 (counted_answer case).tries ≡ pos (counted_answer case).tries
+tries-is case = positive-is (counted_answer case).tries (omega (arith, tries-le case))
+
+pub ruleset tries_laws = (tries-le, tries-is)

@@ -3,7 +3,7 @@
 --   position-is-the-lines-answer, daily-hands-back, forecast-hands-back
 -- Assumes nothing.
 use Rattle.std.proofs.Common.{◌≡◌, ℕ, ℤ, ◌*◌, ◌≤◌, ◌<◌, Result, Ok, lit≤, List, length, pos, neg_ℤ, refl, sym, ap, subst, ◌∙◌, ⊎_elim, arith}
-use Rattle.std.proofs.Common.{eq-zero-or-pos, zero-add}
+use Rattle.std.proofs.Common.{eq-zero-or-pos}
 use Rattle.checks.specs.Refusals.{Condition, first_refusal}
 use Rattle.checks.proofs.RefusalLaws.{unless_refused-none, unless_refused-some, unless_refused-by, first_refusal-le, first_refusal-ge}
 use Rattle.checks.specs.declared.Refusal.{Refusal}
@@ -219,7 +219,7 @@ module _ (count last : ℕ) (h : 1 ≤ count) (number : Case → ℕ) (values : 
       λ z.
           let long = (fit case).some z in
           let wrote = read room ∙ ap (line_reply reply) e ∙ figures-written (number case) (values case) (omega arith) in
-          (ap call_result wrote ∙ ap pos long, ap (λ r. content r old) wrote ∙ rw (zero-add (length (values case)), long)),
+          (ap call_result wrote ∙ ap pos long, ap (λ r. content r old) wrote ∙ rw long),
     ),
   )
     where

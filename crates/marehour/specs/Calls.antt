@@ -131,8 +131,8 @@ abbrev pub forecast_call : List ℕ → Forecast → ℕ → Reply
 forecast_call line forecast room = line_call (forecast_reply forecast) (read_line line) (buffer_refusals forecasts.figure_count room)
 
 -- a count, or minus a refusal's number
-abbrev pub hands_back : Result ℕ Refusal → ℤ
-hands_back (Ok n) = pos n
+abbrev pub hands_back : Result ℤ Refusal → ℤ
+hands_back (Ok count) = count
 hands_back (Err r) = neg_ℤ (pos (number r))
 
 abbrev pub handed_back : (List ℕ → ℕ) → Reply → ℤ
@@ -151,7 +151,7 @@ day_result = handed_back answer_count
 
 -- "Bytes past the count keep their content; a refusal changes no byte"; "Answers past the demands keep their content"
 abbrev pub content : Reply → List ℕ → List ℕ
-content (writes ns) old = written ns 0 old
+content (writes ns) old = written ns old
 content (refusal number) old = old
 
 abbrev pub result_of : ℕ → List ℕ → ℤ

@@ -4,7 +4,7 @@
 //   handed_back        what a call hands back: a count, or minus a refusal's number
 //   marehour_answer    the answer to a line
 //   marehour_lanes     the lanes question for a line and a letter number
-ghost use Rattle.std.specs.Prelude.{◌≡◌, ◌≤◌, length, OnOk, IfOk};
+ghost use Rattle.std.specs.Prelude.{◌≡◌, length};
 ghost use Rattle.checks.specs.Refusals.{first_refusal};
 ghost use Rattle.checks.specs.Numbers.{refusal_number};
 ghost use Rattle.lines.specs.Reading.{read_line};
@@ -40,30 +40,27 @@ pub(crate) fn case_of(line: &[u8], lent: Result<(), Refusal>) -> Result<Case, Re
     Ok(case)
 }
 
-pub(crate) fn handed_back(found: Result<u64, Refusal>) -> i32
-    requires { IfOk found (λ count. count ≤ 90000) }
+pub(crate) fn handed_back(found: Result<i32, Refusal>) -> i32
     ensures { result ≡ hands_back found }
 {
     match found {
-        Ok(count) => count as i32,
+        Ok(count) => count,
         Err(refusal) => -(refusal.number() as i32),
     }
 }
 
-fn answer_in(line: &[u8], answer: &mut [u8]) -> Result<u64, Refusal>
-    ensures fits { IfOk result (λ count. count ≤ 90000) }
+fn answer_in(line: &[u8], answer: &mut [u8]) -> Result<i32, Refusal>
     ensures result { hands_back result ≡ call_result (answer_call line.now (length answer.old)) }
     ensures buffer { answer.new
         ≡ content (answer_call line.now (length answer.old)) answer.old }
 {
     let case = case_of(line, check_room(answer.len(), ANSWER_SIZE))?;
     let grade = evaluate::evaluate(case)?;
-    let written = write::write_grade(&grade, answer, 0);
-    Ok(written as u64)
+    let written = write::write_grade(&grade, answer);
+    Ok(written as i32)
 }
 
-fn lanes_in(line: &[u8], letter: u64, answer: &mut [u8]) -> Result<u64, Refusal>
-    ensures fits { IfOk result (λ count. count ≤ 90000) }
+fn lanes_in(line: &[u8], letter: u64, answer: &mut [u8]) -> Result<i32, Refusal>
     ensures result { hands_back result ≡ call_result (lanes_call line.now letter (length answer.old)) }
     ensures buffer { answer.new
         ≡ content (lanes_call line.now letter (length answer.old)) answer.old }

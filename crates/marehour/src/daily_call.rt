@@ -1,6 +1,6 @@
 // Daily volumes for a host in C: a lent line without its newline, a daily traffic with its shares, and sixteen lent numbers.
 //   marehour_daily   the answer to the line's case with the hourly demand of the daily traffic, and its daily service volumes
-ghost use Rattle.std.specs.Prelude.{◌≡◌, ◌≤◌, length, IfOk};
+ghost use Rattle.std.specs.Prelude.{◌≡◌, length};
 ghost use Rattle.daily.specs.Daily.{shares_of};
 ghost use Rattle.marehour.specs.Calls.{daily_call, call_result, content, hands_back};
 
@@ -13,15 +13,14 @@ fn daily_in(
     shares: Shares,
     daily_traffic: u64,
     figures: &mut [u64],
-) -> Result<u64, Refusal>
-    ensures fits { IfOk result (λ count. count ≤ 90000) }
+) -> Result<i32, Refusal>
     ensures result { hands_back result ≡ call_result (daily_call line.now shares daily_traffic (length figures.old)) }
     ensures figures { figures.new ≡ content (daily_call line.now shares daily_traffic (length figures.old)) figures.old }
 {
     let case = case_of(line, check_room(figures.len(), FIGURES))?;
     let grade = daily::evaluate_daily(case, shares, daily_traffic)?;
     let written = grade.put_figures(figures);
-    Ok(written as u64)
+    Ok(written as i32)
 }
 
 pub fn marehour_daily(

@@ -1,20 +1,19 @@
 // A whole day for a host in C: a lent line without its newline, lent demands, and lent answers of twelve numbers each.
 //   marehour_day   the answers to the line's case with each demand
-ghost use Rattle.std.specs.Prelude.{◌≡◌, ◌≤◌, length, IfOk};
+ghost use Rattle.std.specs.Prelude.{◌≡◌, length};
 ghost use Rattle.marehour.specs.Calls.{day_call, day_result, content, hands_back};
 
 use crate::calls::{case_of, handed_back};
 use checks::Refusal;
 
-fn day_in(line: &[u8], demands: &[u64], answers: &mut [u64]) -> Result<u64, Refusal>
-    ensures fits { IfOk result (λ count. count ≤ 90000) }
+fn day_in(line: &[u8], demands: &[u64], answers: &mut [u64]) -> Result<i32, Refusal>
     ensures result { hands_back result ≡ day_result (day_call line.now demands.now (length answers.old)) }
     ensures answers { answers.new
         ≡ content (day_call line.now demands.now (length answers.old)) answers.old }
 {
     let case = case_of(line, day::check_lent(demands.len(), answers.len()))?;
     day::put_day(case, demands, answers);
-    Ok(demands.len() as u64)
+    Ok(demands.len() as i32)
 }
 
 pub fn marehour_day(line: &[u8], demands: &[u64], answers: &mut [u64]) -> i32

@@ -1,6 +1,6 @@
 // A forecast for a host in C: a lent line without its newline, the ends of demand, heavy share and peak-hour factor, eight lent numbers.
 //   marehour_forecast   the best and the worst letter of the line's case within the ends, each with its combination
-ghost use Rattle.std.specs.Prelude.{◌≡◌, ◌≤◌, length, IfOk};
+ghost use Rattle.std.specs.Prelude.{◌≡◌, length};
 ghost use Rattle.forecast.specs.Forecasts.{forecast_of};
 ghost use Rattle.marehour.specs.Calls.{forecast_call, call_result, content, hands_back};
 
@@ -8,15 +8,14 @@ use crate::calls::{case_of, check_room, handed_back};
 use checks::Refusal;
 use forecast::{FIGURES, Forecast, Range};
 
-fn forecast_in(line: &[u8], forecast: Forecast, figures: &mut [u64]) -> Result<u64, Refusal>
-    ensures fits { IfOk result (λ count. count ≤ 90000) }
+fn forecast_in(line: &[u8], forecast: Forecast, figures: &mut [u64]) -> Result<i32, Refusal>
     ensures result { hands_back result ≡ call_result (forecast_call line.now forecast (length figures.old)) }
     ensures figures { figures.new ≡ content (forecast_call line.now forecast (length figures.old)) figures.old }
 {
     let case = case_of(line, check_room(figures.len(), FIGURES))?;
     let outcomes = forecast::evaluate_forecast(case, forecast)?;
     let written = outcomes.put_figures(figures);
-    Ok(written as u64)
+    Ok(written as i32)
 }
 
 pub fn marehour_forecast(

@@ -4,30 +4,32 @@
 ghost use Rattle.std.specs.Prelude.{◌≡◌};
 ghost use Rattle.survey.specs.Survey.{survey_answer};
 ghost use Rattle.survey.specs.declared.SurveyedSpeed.TheVariants.{MilesPerHour, KilometresPerHour};
-ghost use Rattle.marehour.specs.Calls.{survey_result};
+ghost use Rattle.marehour.specs.Calls.{hands_back, survey_result};
 
 use crate::calls::handed_back;
+use checks::Refusal;
 use survey::{Survey, SurveyedSpeed};
 
-fn survey_speed(speed: SurveyedSpeed, cars: u32, flow: u32) -> i32
-    ensures { result ≡ survey_result (survey_answer (record { speed = speed; cars = cars; flow = flow })) }
+fn survey_speed(speed: SurveyedSpeed, cars: u32, flow: u32) -> Result<i32, Refusal>
+    ensures { hands_back result ≡ survey_result (survey_answer (record { speed = speed; cars = cars; flow = flow })) }
 {
     let survey = Survey {
         speed,
         cars: u64::from(cars),
         flow: u64::from(flow),
     };
-    handed_back(survey::surveyed_speed(survey))
+    let thousandths = survey::surveyed_speed(survey)?;
+    Ok(thousandths as i32)
 }
 
 pub fn marehour_survey_mph(speed: f32, cars: u32, flow: u32) -> i32
     ensures { result ≡ survey_result (survey_answer (record { speed = MilesPerHour speed; cars = cars; flow = flow })) }
 {
-    survey_speed(SurveyedSpeed::MilesPerHour(speed), cars, flow)
+    handed_back(survey_speed(SurveyedSpeed::MilesPerHour(speed), cars, flow))
 }
 
 pub fn marehour_survey_kmh(speed: f32, cars: u32, flow: u32) -> i32
     ensures { result ≡ survey_result (survey_answer (record { speed = KilometresPerHour speed; cars = cars; flow = flow })) }
 {
-    survey_speed(SurveyedSpeed::KilometresPerHour(speed), cars, flow)
+    handed_back(survey_speed(SurveyedSpeed::KilometresPerHour(speed), cars, flow))
 }

@@ -1,29 +1,33 @@
 -- The curve of a case, or its refusal (specs/Checked).
 --   case_curve-well_formed, case_curve-sized   the curve of an accepted case
+--   refusals_with-err    a case that one of 1 to 6, of what was found in the place of 7 to 9, and of 19 refuses
+--   checked_with-eq      a case that none of them refuses: 10 alone is checked
+--   checked-found        the number of 7 to 9 stands for them
 --   checked_curve-eq     a case that 1 to 9 and 19 do not refuse: 10 alone is checked
 --   checked-accepted     a case that is checked and found with a curve is accepted, and the curve is its own
 --   checked-curve        which is well formed and within the sizes
---   checked-err          a case that one of 1 to 9 and 19 refuses
 --   by-accepted, by-refused   an answer to a case, of any type, by what the check found
 --   checked_curve-accepted, checked_curve-refused   the same where 10 alone is checked
---   check_laws, found_laws, answer_laws   for tactics: of a check, of a case that is found with a curve, of an answer
+--   check_laws, checked_found, found_laws, answer_laws   for tactics: of a check, of the number of 7 to 9, of a case that is found with a
+--                        curve, of an answer
 -- Assumes nothing.
-use Rattle.std.proofs.Common.{◌≡◌, refl, sym, ap, ◌∙◌, ◌<◌, Result, Ok, Err}
+use Rattle.std.proofs.Common.{◌≡◌, refl, sym, ap, ◌∙◌, ℕ, ◌<◌, Result, Ok, Err}
 use Rattle.checks.specs.declared.Refusal.{Refusal}
 use Rattle.checks.specs.Numbers.{number, ok_unless}
-use Rattle.checks.specs.Refusals.{first_refusal}
-use Rattle.checks.proofs.NumberLaws.{ok_unless-ok, ok_unless-err, first_refusal-err, ok_unless-found, ok_unless-refused, ok_unless-above}
+use Rattle.checks.specs.Refusals.{first_refusal, found}
+use Rattle.checks.proofs.NumberLaws.{number-above, refusal_of-number, ok_unless-ok, first_refusal-err, ok_unless-found, ok_unless-refused}
+use Rattle.checks.proofs.NumberLaws.{ok_unless-above}
 use Rattle.curve.specs.declared.Curve.{Curve}
 use Rattle.curve.specs.Curves.{WellFormed, Sized}
 use Rattle.curve.proofs.WeatherLaws.{curve_under-fits}
 use Rattle.road.specs.declared.Case.{Case}
 use Rattle.road.specs.FreeFlowSpeed.{free_flow_speed_of}
-use Rattle.road.specs.Refusals.{field_refusals, FieldsFit}
-use Rattle.road.proofs.RefusalLaws.{fields-road, fields-weather}
+use Rattle.road.specs.Refusals.{load_refusals, field_refusals_with, FieldsFit}
+use Rattle.road.proofs.RefusalLaws.{with-road, with-weather, fields-weather}
 use Rattle.road.proofs.FreeFlowSpeedLaws.{free_flow_speed_of-le}
-use Rattle.method.specs.Refusals.{speed_refusals, refusals, refusal, Accepted}
-use Rattle.method.specs.Checked.{curve_of, case_curve, checked_curve, checked}
-use Rattle.method.proofs.RefusalLaws.{refusals-fields, accepted-fields, accepted-adjusted}
+use Rattle.method.specs.Refusals.{speed_refusals, refusals_with, refusal, Accepted}
+use Rattle.method.specs.Checked.{curve_of, case_curve, checked_curve, checked_with, checked}
+use Rattle.method.proofs.RefusalLaws.{refusals-with, refusals_with-fields, refusals-fields, accepted-fields, accepted-adjusted}
 
 fits : (case : Case) → Accepted case → WellFormed (case_curve case) × Sized (case_curve case)
 unfolding curve_of
@@ -48,13 +52,21 @@ pub checked-curve : (case : Case) (curve : Curve) → checked case ≡ Ok curve 
 checked-curve case curve e =
     let found = checked-accepted case curve e in rw found.1 (case_curve-well_formed case found.0, case_curve-sized case found.0)
 
-pub checked-err : (case : Case) (r : Refusal) → number r ≡ first_refusal (field_refusals case) → checked case ≡ Err r
-unfolding refusals
-checked-err case r e =
-    sym (ok_unless-err r (refusal case) (case_curve case)
-    (first_refusal-err (field_refusals case) (speed_refusals case.road case.weather case.lanes) r e))
+module _ (n : ℕ) (case : Case) where
+  pub refusals_with-err : (r : Refusal) → number r ≡ first_refusal (field_refusals_with (found n) case)
+      → number r ≡ first_refusal (refusals_with (found n) case)
+  refusals_with-err r e = first_refusal-err (field_refusals_with (found n) case) (speed_refusals case.road case.weather case.lanes) r e
 
-pub ruleset check_laws = (fields-road, checked_curve-eq, checked-err)
+  pub checked_with-eq : first_refusal (field_refusals_with (found n) case) ≡ 0
+      → checked_curve case.road case.weather case.lanes ≡ checked_with (found n) case
+  checked_with-eq z = ap (λ m. ok_unless m (case_curve case)) (sym (refusals_with-fields n case z))
+
+pub checked-found : (case : Case) → checked_with (found (first_refusal (load_refusals case))) case ≡ checked case
+checked-found case = ap (λ m. ok_unless m (case_curve case)) (refusals-with case)
+
+pub ruleset check_laws = (with-road, with-weather, refusals_with-err, checked_with-eq, number-above, refusal_of-number)
+
+pub ruleset checked_found = (checked-found)
 
 -- an answer to a case, of any type, by what the check found
 module _ {A : Type 0} (case : Case) (answer : A) where

@@ -5,6 +5,7 @@
 --   refusals-with           the number of 7 to 9 stands for them
 --   with-accepted           a case that 1 to 6, what is asked in the place of 7 to 9, 19 and 10 do not refuse: none of the four does
 --   with-of                 where the first two do not refuse, 19 and 10 decide
+--   refusals_with-fields    a case that 1 to 6, what was found in the place of 7 to 9, and 19 do not refuse: 10 decides
 --   refusals-fields         a case that 1 to 9 and 19 do not refuse: 10 decides
 --   accepted-fields         what is accepted: neither 1 to 9 nor 19 refuse it
 --   accepted-demand         nor is its demand above the greatest
@@ -28,10 +29,10 @@ use Rattle.curve.proofs.WeatherLaws.{curve_under-worked}
 use Rattle.road.specs.declared.Case.{Case}
 use Rattle.road.specs.Cases.{with_demand}
 use Rattle.road.specs.FreeFlowSpeed.{free_flow_speed_of}
-use Rattle.road.specs.Refusals.{greatest_demand, road_refusals, section_refusals, load_refusals, weather_refusals, field_refusals}
-use Rattle.road.specs.Refusals.{SectionFits, FieldsFit}
+use Rattle.road.specs.Refusals.{greatest_demand, road_refusals, section_refusals, load_refusals, weather_refusals}
+use Rattle.road.specs.Refusals.{field_refusals_with, field_refusals, SectionFits, FieldsFit}
 use Rattle.road.proofs.FreeFlowSpeedLaws.{free_flow_speed_of-le}
-use Rattle.road.proofs.RefusalLaws.{section-numbered, load-numbered, fields-numbered, load-ends}
+use Rattle.road.proofs.RefusalLaws.{section-numbered, load-numbered, fields-numbered, with-parts, load-ends}
 use Rattle.method.specs.Refusals.{speed_refusals, refusals_with, refusals, refusal, Accepted}
 
 abbrev own_speed : Case → List Condition
@@ -73,6 +74,14 @@ with-of loads case t section none =
 pub refusals-with : (case : Case) → first_refusal (refusals_with (found (first_refusal (load_refusals case))) case) ≡ refusal case
 unfolding field_refusals refusals
 refusals-with case = refusals_with-found (load_refusals case) case (load-numbered case)
+
+pub refusals_with-fields : (n : ℕ) (case : Case) → first_refusal (field_refusals_with (found n) case) ≡ 0
+    → first_refusal (refusals_with (found n) case) ≡ first_refusal (own_speed case)
+refusals_with-fields n case z =
+    let (section, none, weather) = with-parts n case z in
+    ap first_refusal (refusals_with-joined (found n) case)
+    ∙ first_refusal-none (section_refusals case) (found n ++ (weather_refusals case ++ own_speed case)) (section-numbered case) section
+    ∙ rw none (first_refusal-none (weather_refusals case) (own_speed case) tt weather)
 
 pub refusals-fields : (case : Case) → FieldsFit case → refusal case ≡ first_refusal (own_speed case)
 unfolding refusals

@@ -1,5 +1,6 @@
 // From a case to what it gets, or to its refusal.
-//   AcceptedCase    a case that none of 1 to 9, 19 and 10 refuses, with what its demands have in common worked out once;
+//   CaseTerms       what demands have in common, worked out once: a curve, and a load that fits
+//   AcceptedCase    a case that none of 1 to 9, 19 and 10 refuses, with what its demands have in common;
 //                   AcceptedCase::new: from the case and its curve
 //   Measures        the curve of an accepted case, its flow rate, and what that gets on the curve
 //   measures_at     the measures of an accepted case with a demand in the place of its own
@@ -10,7 +11,7 @@ ghost use Rattle.road.specs.Cases.{with_demand};
 ghost use Rattle.road.specs.Refusals.{greatest_demand};
 ghost use Rattle.method.specs.Refusals.{Accepted};
 ghost use Rattle.method.specs.Checked.{case_curve, checked};
-ghost use Rattle.method.specs.Flow.{load_of};
+ghost use Rattle.method.specs.Flow.{load_of, LoadFits};
 ghost use Rattle.method.specs.Assess.{measures, assessment};
 
 use crate::checked;
@@ -21,17 +22,23 @@ use curve::service::Performance;
 use curve::speed::CurveTerms;
 use road::Case;
 
-#[derive(Clone, Copy, Debug, PartialEq, Eq)]
-pub struct AcceptedCase {
-    pub case: Case,
-    pub load: Load,
+#[derive(Clone, Copy)]
+pub struct CaseTerms {
     pub curve_terms: CurveTerms,
-    pub ghost accepted: { Accepted case },
-    pub ghost own_load: { load ≡ load_of case case.lanes },
-    pub ghost own_curve: { curve_terms.curve ≡ case_curve case },
+    pub load: Load,
+    pub ghost load_fits: { LoadFits load },
 }
 
-#[derive(Clone, Copy, Debug, PartialEq, Eq)]
+#[derive(Clone, Copy)]
+pub struct AcceptedCase {
+    pub case: Case,
+    pub terms: CaseTerms,
+    pub ghost accepted: { Accepted case },
+    pub ghost own_curve: { terms.curve_terms.curve ≡ case_curve case },
+    pub ghost own_load: { terms.load ≡ load_of case case.lanes },
+}
+
+#[derive(Clone, Copy)]
 pub struct Measures {
     pub curve: Curve,
     pub flow_rate: u64,
@@ -47,8 +54,10 @@ impl AcceptedCase {
     {
         AcceptedCase {
             case,
-            load: Load::of(&case, case.lanes),
-            curve_terms: CurveTerms::new(curve),
+            terms: CaseTerms {
+                curve_terms: CurveTerms::new(curve),
+                load: Load::of(&case, case.lanes),
+            },
         }
     }
 
@@ -57,11 +66,11 @@ impl AcceptedCase {
         requires { demand ≤ greatest_demand }
         ensures { result ≡ measures (with_demand self.now.case demand) }
     {
-        let flow_rate = self.load.flow_rate(demand);
+        let flow_rate = self.terms.load.flow_rate(demand);
         Measures {
-            curve: self.curve_terms.curve,
+            curve: self.terms.curve_terms.curve,
             flow_rate,
-            performance: self.curve_terms.performance_at(flow_rate),
+            performance: self.terms.curve_terms.performance_at(flow_rate),
         }
     }
 

@@ -8,7 +8,7 @@ ghost use Rattle.method.specs.Flow.{truck_equivalent, load_of, flow_rate_of, Loa
 
 use road::{Case, Terrain};
 
-#[derive(Clone, Copy, Debug, PartialEq, Eq)]
+#[derive(Clone, Copy)]
 pub struct Load {
     // what a vehicle counts for, thousandths of a passenger car
     pub heavy_factor: u64,

@@ -2,7 +2,7 @@
 //   Fraction   an exact fraction
 #![tactic(auto)]
 
-#[derive(Clone, Copy, Debug, PartialEq, Eq)]
+#[derive(Clone, Copy)]
 pub struct Fraction {
     pub numerator: u64,
     pub denominator: u64,

@@ -3,6 +3,7 @@
 --   refusal_text-le, answer_text-le, answer_text-pos   an answer has at most 64 bytes, and is not empty
 --   line_text-le, line_text-pos   so has what is printed for a line, and it is not empty
 --   line_text-long        lines of more than 80 bytes all get the same
+--   by_line, by_last      what answer_line and answer_last ask for
 -- Assumes nothing.
 use Rattle.std.proofs.Common.{◌≡◌, ℕ, ◌≤◌, ◌<◌, Result, Ok, Err, List, [], ◌∷◌, length, ap, arith}
 use mathlib.Core.List.{flat_map}
@@ -20,6 +21,7 @@ use Rattle.answer.specs.Answers.{graded, answer_to, values}
 use Rattle.answer.specs.Laws.{figure_ends}
 use Rattle.answer.proofs.Laws.{figures-within-ends}
 use Rattle.answer.proofs.AnswerLaws.{answer_to-accepted}
+use Rattle.stream.proofs.BlockLaws.{last-one}
 use Rattle.lines.specs.Reading.{longest_line, read_line}
 use Rattle.lines.proofs.ReadingLaws.{read_line-by, read_line-refused, read_line-long}
 use Rattle.replies.specs.Texts.{letter_byte, refusal_text, text_of, answer_text, longest_answer, answer_of, line_text}
@@ -69,3 +71,7 @@ answer_text-pos a = text-pos _ _
 pub line_text-pos : (bs : List ℕ) → 0 < length (line_text bs)
 unfolding line_text
 line_text-pos bs = text-pos _ _
+
+pub ruleset by_line = (line_text-refused, line_text-case, refusal_text-le, answer_text-le)
+
+pub ruleset by_last = (last-one, line_text-le)

@@ -1,9 +1,9 @@
-// An answer written as text into a lent buffer. Each function writes at a place and answers the place after what it wrote.
+// An answer written as text into a lent buffer. Each function writes from the buffer's start on and answers how many bytes it wrote.
 //   LONGEST_ANSWER   room for any answer
 //   write_grade      the eleven figures of an answer
 //   write_answer     an answer, or X and its refusal's number
 //   answer_line      the answer to a line
-ghost use Rattle.std.specs.Prelude.{◌≡◌, ◌+◌, ◌≤◌, length};
+ghost use Rattle.std.specs.Prelude.{◌≡◌, ◌≤◌, length};
 ghost use Rattle.text.specs.Buffer.{Wrote};
 ghost use Rattle.curve.specs.Service.{letter_number};
 ghost use Rattle.checks.specs.Numbers.{number};
@@ -30,36 +30,40 @@ fn letter_byte(letter: Letter) -> u8
     }
 }
 
-pub fn write_grade(grade: &Grade, out: &mut [u8], at: usize) -> usize
-    requires { at + length (answer_text (Ok grade.now)) ≤ length out.old }
-    ensures { Wrote (answer_text (Ok grade.now)) at out.old out.new result }
+#[tactic(auto, unfolding(crate::specs::Texts::text_of))]
+pub fn write_grade(grade: &Grade, out: &mut [u8]) -> usize
+    requires { length (answer_text (Ok grade.now)) ≤ length out.old }
+    ensures { Wrote (answer_text (Ok grade.now)) out.old out.new result }
 {
-    text::decimal::put_row(letter_byte(grade.letter), &grade.values()[1..], out, at)
+    text::decimal::put_row(letter_byte(grade.letter), &grade.values()[1..], out)
 }
 
-fn write_refusal(refusal: Refusal, out: &mut [u8], at: usize) -> usize
-    requires { at + length (refusal_text (number refusal)) ≤ length out.old }
-    ensures { Wrote (refusal_text (number refusal)) at out.old out.new result }
+#[tactic(auto, using(text::proofs::RowLaws::pieces), unfolding(crate::specs::Texts::refusal_text))]
+fn write_refusal(refusal: Refusal, out: &mut [u8]) -> usize
+    requires { length (refusal_text (number refusal)) ≤ length out.old }
+    ensures { Wrote (refusal_text (number refusal)) out.old out.new result }
 {
-    text::decimal::put_row(b'X', &[refusal.number()], out, at)
+    text::decimal::put_row(b'X', &[refusal.number()], out)
 }
 
-pub fn write_answer(answer: Result<Grade, Refusal>, out: &mut [u8], at: usize) -> usize
-    requires { at + length (answer_text answer) ≤ length out.old }
-    ensures { Wrote (answer_text answer) at out.old out.new result }
+#[tactic(auto, unfolding(crate::specs::Texts::text_of))]
+pub fn write_answer(answer: Result<Grade, Refusal>, out: &mut [u8]) -> usize
+    requires { length (answer_text answer) ≤ length out.old }
+    ensures { Wrote (answer_text answer) out.old out.new result }
 {
     match answer {
-        Ok(grade) => write_grade(&grade, out, at),
-        Err(refusal) => write_refusal(refusal, out, at),
+        Ok(grade) => write_grade(&grade, out),
+        Err(refusal) => write_refusal(refusal, out),
     }
 }
 
-pub fn answer_line(line: &[u8], out: &mut [u8], at: usize) -> usize
-    requires { at + longest_answer ≤ length out.old }
-    ensures { Wrote (line_text line.now) at out.old out.new result }
+#[tactic(auto, using(crate::proofs::TextsLaws::by_line))]
+pub fn answer_line(line: &[u8], out: &mut [u8]) -> usize
+    requires { longest_answer ≤ length out.old }
+    ensures { Wrote (line_text line.now) out.old out.new result }
 {
     let Ok(case) = read::read_line(line) else {
-        return write_refusal(Refusal::LineMalformed, out, at);
+        return write_refusal(Refusal::LineMalformed, out);
     };
-    write_answer(evaluate::evaluate(case), out, at)
+    write_answer(evaluate::evaluate(case), out)
 }

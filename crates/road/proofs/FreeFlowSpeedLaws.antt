@@ -20,6 +20,7 @@ use Rattle.road.proofs.AdjustmentLaws.{lane_width_adjustment-le, right_clearance
 use Rattle.road.proofs.AdjustmentLaws.{total_clearance_adjustment-le, total_clearance_adjustment-antitone, median_adjustment-le}
 use Rattle.road.proofs.AdjustmentLaws.{access_adjustment-le, adjustment_laws}
 use Rattle.road.proofs.RampLaws.{ramp_term-le}
+use Rattle.road.proofs.RefusalLaws.{road_ends}
 
 pub freeway_terms-le : (w r n k : ℕ) → lane_width_adjustment w + right_clearance_adjustment r n + ramp_term k ≤ 30000
 freeway_terms-le w r n k = omega (arith, lane_width_adjustment-le w, right_clearance_adjustment-le r n, ramp_term-le k)
@@ -41,7 +42,7 @@ multilane_terms-le road n =
     )
 
 -- for tactics
-pub ruleset estimate_terms = (adjustment_laws, ramp_term-le)
+pub ruleset estimate_terms = (adjustment_laws, ramp_term-le, road_ends)
 
 -- what is left after two more terms, when less was taken off before
 less-off : (b x y p q : ℕ) → y ≤ x → b - x - p - q ≤ b - y - p - q

@@ -1,19 +1,25 @@
 -- Refusals 1 to 9 and 19 (specs/Refusals).
 --   road-numbered, section-numbered, load-numbered, fields-numbered   every number is above 0
---   section_in_turn, fields_in_turn   for tactics: of code that asks one part after another
---   section-road, fields-road   a case that none of 1 to 6 refuses, or none of them: 1 to 5 do not refuse its road
+--   field_refusals-found   the number of 7 to 9 stands for them
+--   found-err            what was found, where it refuses, refuses before what is behind it
+--   section_in_turn, fields_in_turn, fields_found   for tactics: of code that asks one part after another, and of that number
+--   with-parts           a case that 1 to 6, what was found in the place of 7 to 9, and 19 do not refuse: none of the three does
+--   section-road, with-road, fields-road   a case that none of 1 to 6 refuses, or none of them: 1 to 5 do not refuse its road
 --   road-speed-low, freeway-ramps-high, multilane-access-high   the ends that 1 and 5 leave to a road
 --   road_ends            for tactics: the three
 --   loads-exactly        a load that 7 to 9 let pass, by its ends
 --   LoadEnds, load-ends  the ends that 6 to 9 leave to a case
---   weather-exactly, weather-fits, fields-weather   the factors that 19 lets pass
+--   weather-exactly, weather-fits, with-weather, fields-weather   the factors that 19 lets pass
 --   fields-with_lanes    a case that none of them refuses is so with every lane count of the kind
 -- Assumes nothing.
-use Rattle.std.proofs.Common.{arith, ◌≡◌, ◌∙◌, false, ◌++◌, ◌↔◌, ℕ, ◌≤◌, T}
+use Rattle.std.proofs.Common.{arith, ◌≡◌, refl, ◌∙◌, false, List, ◌++◌, ◌↔◌, ℕ, ◌≤◌, T, lt-ltb}
 use Rattle.std.proofs.lemmas.Bool.Decides.{nat_tests}
-use Rattle.checks.specs.Refusals.{first_refusal, outside}
-use Rattle.checks.proofs.RefusalLaws.{numbered, first_refusal-none, first_refusal-join, none-met, none-of, within, inside}
-use Rattle.checks.proofs.NumberLaws.{in_turn}
+use Rattle.checks.specs.declared.Refusal.{Refusal}
+use Rattle.checks.specs.Refusals.{Condition, first_refusal, found, outside}
+use Rattle.checks.specs.Numbers.{number}
+use Rattle.checks.proofs.RefusalLaws.{numbered, first_refusal-none, first_refusal-join, first_refusal-found, none-met, none-of, within}
+use Rattle.checks.proofs.RefusalLaws.{inside}
+use Rattle.checks.proofs.NumberLaws.{number-above, in_turn}
 use Rattle.curve.specs.declared.kind.Kind.{Kind}
 use Rattle.curve.specs.declared.Weather.{Weather}
 use Rattle.curve.specs.Kinds.{fewest_lanes, most_lanes}
@@ -22,7 +28,7 @@ use Rattle.road.specs.declared.Road.{Road}
 use Rattle.road.specs.declared.Case.{Case}
 use Rattle.road.specs.Cases.{with_lanes}
 use Rattle.road.specs.Refusals.{greatest_demand, weather_unfit, road_refusals, lane_refusals, section_refusals, load_refusals}
-use Rattle.road.specs.Refusals.{weather_refusals, field_refusals, RoadFits, SectionFits, FieldsFit}
+use Rattle.road.specs.Refusals.{weather_refusals, field_refusals_with, field_refusals, RoadFits, SectionFits, FieldsFit}
 
 -- ---- the parts of the list
 pub road-numbered : (road : Road) → T (numbered (road_refusals road))
@@ -43,16 +49,33 @@ fields-numbered case = tt
 
 pub ruleset section_in_turn = (in_turn, road-numbered, nat_tests)
 
-pub ruleset fields_in_turn = (in_turn, section-numbered, load-numbered)
+-- ---- a number in the place of 7 to 9
+pub field_refusals-found : (case : Case)
+    → first_refusal (field_refusals_with (found (first_refusal (load_refusals case))) case) ≡ first_refusal (field_refusals case)
+unfolding field_refusals
+field_refusals-found case = first_refusal-found (section_refusals case) (load_refusals case) (weather_refusals case) (load-numbered case)
+
+pub found-err : (r : Refusal) (rest : List Condition) → number r ≡ first_refusal (found (number r) ++ rest)
+found-err r rest = rw (lt-ltb 0 (number r) (number-above r)) refl
+
+pub ruleset fields_in_turn = (in_turn, section-numbered, found-err)
+
+pub ruleset fields_found = (field_refusals-found)
+
+found-none : (n : ℕ) (rest : List Condition) → first_refusal (found n ++ rest) ≡ 0 → (n ≡ 0) × (first_refusal rest ≡ 0)
+found-none n rest z = (grind (arith, nat_tests), grind (arith, nat_tests))
+
+pub with-parts : (n : ℕ) (case : Case) → first_refusal (field_refusals_with (found n) case) ≡ 0
+    → SectionFits case × (n ≡ 0) × (first_refusal (weather_refusals case) ≡ 0)
+with-parts n case z =
+    let p = first_refusal-join (section_refusals case) (found n ++ weather_refusals case) (section-numbered case) z in
+    let q = found-none n (weather_refusals case) p.1 in
+    (p.0, q.0, q.1)
 
 -- a case that none of them refuses: neither 1 to 6 nor 7 to 9 nor 19 do; and the converse
 fields-parts : (case : Case) → FieldsFit case
     → SectionFits case × (first_refusal (load_refusals case) ≡ 0) × (first_refusal (weather_refusals case) ≡ 0)
-unfolding field_refusals
-fields-parts case z =
-    let p = first_refusal-join (section_refusals case) (load_refusals case ++ weather_refusals case) (section-numbered case) z in
-    let q = first_refusal-join (load_refusals case) (weather_refusals case) (load-numbered case) p.1 in
-    (p.0, q.0, q.1)
+fields-parts case z = with-parts (first_refusal (load_refusals case)) case (field_refusals-found case ∙ z)
 
 fields-of : (case : Case) → SectionFits case → first_refusal (load_refusals case) ≡ 0 → first_refusal (weather_refusals case) ≡ 0
     → FieldsFit case
@@ -70,6 +93,9 @@ section-parts case s =
 
 pub section-road : (case : Case) → SectionFits case → RoadFits case.road
 section-road case s = (section-parts case s).0
+
+pub with-road : (n : ℕ) (case : Case) → first_refusal (field_refusals_with (found n) case) ≡ 0 → RoadFits case.road
+with-road n case z = section-road case (with-parts n case z).0
 
 pub fields-road : (case : Case) → FieldsFit case → RoadFits case.road
 fields-road case z = section-road case (fields-parts case z).0
@@ -136,6 +162,9 @@ weather-exactly kind weather = (
 
 pub weather-fits : (case : Case) → first_refusal (weather_refusals case) ≡ 0 → FactorsFit case.road.kind case.weather
 weather-fits case w = (weather-exactly case.road.kind case.weather).0 (none-met (weather_refusals case) tt w).0
+
+pub with-weather : (n : ℕ) (case : Case) → first_refusal (field_refusals_with (found n) case) ≡ 0 → FactorsFit case.road.kind case.weather
+with-weather n case z = weather-fits case (with-parts n case z).2
 
 pub fields-weather : (case : Case) → FieldsFit case → FactorsFit case.road.kind case.weather
 fields-weather case z = weather-fits case (fields-parts case z).2

@@ -1,6 +1,7 @@
 // Free-flow speed, in thousandths of mi/h, before the weather's factor.
+//   FitRoad           a road that none of 1 to 5 refuses
 //   free_flow_speed   F, given or estimated, at most the kind's upper end
-ghost use Rattle.std.specs.Prelude.{◌≡◌, ◌≤◌};
+ghost use Rattle.std.specs.Prelude.{◌≡◌};
 ghost use Rattle.curve.specs.declared.kind.Kind.TheVariants as Kind;
 ghost use Rattle.road.specs.FreeFlowSpeed.{estimated_by, uncapped_speed, free_flow_speed_of};
 ghost use Rattle.road.specs.Refusals.{RoadFits};
@@ -9,39 +10,45 @@ use crate::ramp::ramp_term;
 use crate::{Road, Way};
 use curve::kind::Kind;
 
-impl Road {
+// A road that none of 1 to 5 refuses.
+#[derive(Clone, Copy)]
+pub struct FitRoad {
+    pub road: Road,
+    pub ghost fits: { RoadFits road },
+}
+
+impl FitRoad {
     #[tactic(auto, using(crate::proofs::FreeFlowSpeedLaws::estimate_terms), unfolding(crate::specs::FreeFlowSpeed::estimated_by))]
     fn freeway_estimate(&self, lanes: u64) -> u64
-        requires speed_low { 30000 ≤ self.now.speed }
-        requires ramps_high { self.now.access ≤ 48 }
-        ensures { result ≡ estimated_by Kind.Freeway self.now lanes }
+        requires { self.now.road.kind ≡ Kind.Freeway }
+        ensures { result ≡ estimated_by Kind.Freeway self.now.road lanes }
     {
-        self.speed
-            - self.lane_width_adjustment()
-            - self.right_clearance_adjustment(lanes)
-            - ramp_term(self.access)
+        let road = &self.road;
+        road.speed
+            - road.lane_width_adjustment()
+            - road.right_clearance_adjustment(lanes)
+            - ramp_term(road.access)
     }
 
     #[tactic(auto, using(crate::proofs::FreeFlowSpeedLaws::estimate_terms), unfolding(crate::specs::FreeFlowSpeed::estimated_by))]
     fn multilane_estimate(&self, lanes: u64) -> u64
-        requires speed_low { 30000 ≤ self.now.speed }
-        requires access_high { self.now.access ≤ 200 }
-        ensures { result ≡ estimated_by Kind.Multilane self.now lanes }
+        requires { self.now.road.kind ≡ Kind.Multilane }
+        ensures { result ≡ estimated_by Kind.Multilane self.now.road lanes }
     {
-        self.speed
-            - self.lane_width_adjustment()
-            - self.total_clearance_adjustment(lanes)
-            - self.median_adjustment()
-            - self.access_adjustment()
+        let road = &self.road;
+        road.speed
+            - road.lane_width_adjustment()
+            - road.total_clearance_adjustment(lanes)
+            - road.median_adjustment()
+            - road.access_adjustment()
     }
 
-    #[tactic(auto, using(crate::proofs::RefusalLaws::road_ends), unfolding(crate::specs::FreeFlowSpeed::uncapped_by))]
+    #[tactic(auto, unfolding(crate::specs::FreeFlowSpeed::uncapped_by))]
     fn uncapped_speed(&self, lanes: u64) -> u64
-        requires { RoadFits self.now }
-        ensures { result ≡ uncapped_speed self.now lanes }
+        ensures { result ≡ uncapped_speed self.now.road lanes }
     {
-        match (self.way, self.kind) {
-            (Way::Given, _) => self.speed,
+        match (self.road.way, self.road.kind) {
+            (Way::Given, _) => self.road.speed,
             (Way::Estimated, Kind::Freeway) => self.freeway_estimate(lanes),
             (Way::Estimated, Kind::Multilane) => self.multilane_estimate(lanes),
         }
@@ -49,9 +56,9 @@ impl Road {
 
     #[tactic(auto, unfolding(crate::specs::FreeFlowSpeed::free_flow_speed_of))]
     pub fn free_flow_speed(&self, lanes: u64) -> u64
-        requires { RoadFits self.now }
-        ensures { result ≡ free_flow_speed_of self.now lanes }
+        ensures { result ≡ free_flow_speed_of self.now.road lanes }
     {
-        self.uncapped_speed(lanes).min(self.kind.highest_speed())
+        self.uncapped_speed(lanes)
+            .min(self.road.kind.figures().highest_speed)
     }
 }

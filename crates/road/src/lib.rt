@@ -20,14 +20,14 @@ use curve::Weather;
 use curve::kind::Kind;
 
 // How free-flow speed is had: E from a base speed, G as it is given.
-#[derive(Clone, Copy, Debug, PartialEq, Eq)]
+#[derive(Clone, Copy, PartialEq, Eq)]
 pub enum Way {
     Estimated,
     Given,
 }
 
 // U, D and T.
-#[derive(Clone, Copy, Debug, PartialEq, Eq)]
+#[derive(Clone, Copy, PartialEq, Eq)]
 pub enum Median {
     Undivided,
     Divided,
@@ -35,7 +35,7 @@ pub enum Median {
 }
 
 // L and R.
-#[derive(Clone, Copy, Debug, PartialEq, Eq)]
+#[derive(Clone, Copy, PartialEq, Eq)]
 pub enum Terrain {
     Level,
     Rolling,
@@ -43,7 +43,7 @@ pub enum Terrain {
 
 // What is the same on the same road. Lengths are tenths of a foot. Any number may stand in a number's field, here and in a case; refusals
 // say which are fit.
-#[derive(Clone, Copy, Debug, PartialEq, Eq)]
+#[derive(Clone, Copy, PartialEq, Eq)]
 pub struct Road {
     pub kind: Kind,
     pub way: Way,
@@ -57,7 +57,7 @@ pub struct Road {
     pub access: u64,
 }
 
-#[derive(Clone, Copy, Debug, PartialEq, Eq)]
+#[derive(Clone, Copy, PartialEq, Eq)]
 pub struct Case {
     pub road: Road,
     pub lanes: u64,

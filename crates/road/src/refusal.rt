@@ -3,12 +3,13 @@
 //   check_section     none of 1 to 6 refuses a case, or the first that does
 //   check_load        the same of 7 to 9
 //   check_weather     the same of 19
+//   check_fields_with   the same of 1 to 6, of what was found in the place of 7 to 9, and of 19
 //   check_fields      the same of 1 to 9 and 19
 ghost use Rattle.std.specs.Prelude.{◌≡◌};
-ghost use Rattle.checks.specs.Refusals.{first_refusal};
+ghost use Rattle.checks.specs.Refusals.{first_refusal, found};
 ghost use Rattle.checks.specs.Numbers.{refusal_number};
 ghost use Rattle.road.specs.Refusals.{median_unfit, most_access, weather_unfit, road_refusals, section_refusals, load_refusals};
-ghost use Rattle.road.specs.Refusals.{weather_refusals, field_refusals};
+ghost use Rattle.road.specs.Refusals.{weather_refusals, field_refusals_with, field_refusals};
 
 use crate::{Case, Median, Road};
 use checks::Refusal;
@@ -37,7 +38,7 @@ fn most_access(kind: Kind) -> u64
 fn weather_unfit(kind: Kind, weather: Weather) -> bool
     ensures { result ≡ weather_unfit kind weather }
 {
-    let fit = kind.lowest_factor()..=1_000;
+    let fit = kind.figures().lowest_factor..=1_000;
     !fit.contains(&weather.speed_factor) || !fit.contains(&weather.capacity_factor)
 }
 
@@ -72,8 +73,8 @@ impl Case {
         ensures { refusal_number result ≡ first_refusal (section_refusals self.now) }
     {
         self.road.check()?;
-        let kind = self.road.kind;
-        if !(kind.fewest_lanes()..=kind.most_lanes()).contains(&self.lanes) {
+        let figures = self.road.kind.figures();
+        if !(figures.fewest_lanes..=figures.most_lanes).contains(&self.lanes) {
             return Err(Refusal::LanesNotOfTheKind);
         }
         Ok(())
@@ -104,12 +105,19 @@ impl Case {
         Ok(())
     }
 
-    #[tactic(auto, using(crate::proofs::RefusalLaws::fields_in_turn), unfolding(crate::specs::Refusals::field_refusals))]
+    #[tactic(auto, using(crate::proofs::RefusalLaws::fields_in_turn))]
+    pub fn check_fields_with(&self, loads: Result<(), Refusal>) -> Result<(), Refusal>
+        ensures { refusal_number result ≡ first_refusal (field_refusals_with (found (refusal_number loads)) self.now) }
+    {
+        self.check_section()?;
+        loads?;
+        self.check_weather()
+    }
+
+    #[tactic(auto, using(crate::proofs::RefusalLaws::fields_found))]
     pub fn check_fields(&self) -> Result<(), Refusal>
         ensures { refusal_number result ≡ first_refusal (field_refusals self.now) }
     {
-        self.check_section()?;
-        self.check_load()?;
-        self.check_weather()
+        self.check_fields_with(self.check_load())
     }
 }

@@ -1,18 +1,17 @@
 -- Bytes carried over to the start of a buffer (specs/Turns).
 --   length_cut_off       how many bytes are kept
---   cut-le, cut-within   no more than there are
---   cut-moved            they are the first of them
---   carried-is           what a turn carries over of the first n bytes
+--   cut-le               no more than there are
+--   cut-is               they are the first of them
 --   carried-short        where no whole line is left, one more than the longest line at most is carried over
 -- Assumes nothing.
-use Rattle.std.proofs.Common.{◌≡◌, ℕ, suc, ◌+◌, ◌-◌, ◌≤◌, min, cond, eqb, ltb, List, [], ◌∷◌, length, take, drop, refl, sym, ◌∙◌, length-take, take-take, take_all, le-ltb, arith}
+use Rattle.std.proofs.Common.{◌≡◌, ℕ, suc, ◌≤◌, min, cond, eqb, ltb, List, [], ◌∷◌, length, take, refl, length-take, take_all, le-ltb, arith}
 use Rattle.std.specs.List.{list_any}
 use Rattle.std.proofs.lemmas.Bool.Decides.{nat_tests}
-use Rattle.std.proofs.lemmas.List.{drop-take, take_min}
+use Rattle.std.proofs.lemmas.List.{take_min}
 use Rattle.text.specs.Bytes.{newline}
 use Rattle.text.specs.Parts.{count_before}
 use Rattle.stream.specs.Stream.{LineTexts}
-use Rattle.stream.specs.Turns.{answered, size, cut_off, carried}
+use Rattle.stream.specs.Turns.{size, cut_off, carried}
 use Rattle.stream.proofs.StreamLaws.{none-left}
 
 -- ---- how many bytes are kept
@@ -31,30 +30,12 @@ module _ (kept : ℕ) where
   cut-le r = grind (arith, nat_tests, length_cut_off r)
 
   -- they are the first of them
-  cut-is : (r : List ℕ) → take (length (cut_off kept r)) r ≡ cut_off kept r
+  pub cut-is : (r : List ℕ) → take (length (cut_off kept r)) r ≡ cut_off kept r
   unfolding cut_off
   cut-is r = grind (arith, nat_tests, length-take {A = ℕ}, take_all {A = ℕ}, take_min {X = ℕ})
 
-  -- of the first n bytes of a buffer those from a place on
-  module _ (n from : ℕ) (old : List ℕ) where
-    pub cut-within : length (cut_off kept (take (n - from) (drop from old))) ≤ n - from
-    cut-within = omega (arith, cut-le (take (n - from) (drop from old)), length-take (n - from) (drop from old))
-
-    pub cut-moved : take (length (cut_off kept (take (n - from) (drop from old)))) (drop from old)
-        ≡ cut_off kept (take (n - from) (drop from old))
-    cut-moved =
-        sym (take-take (length (cut_off kept (take (n - from) (drop from old)))) (n - from) (drop from old) cut-within)
-        ∙ cut-is (take (n - from) (drop from old))
-
 -- ---- what a turn carries over
 module _ (t : LineTexts) where
-  pub carried-is : (room n from : ℕ) (old : List ℕ) → from ≤ n → from ≡ size (answered t room (take n old))
-      → carried t room (take n old) ≡ cut_off (suc t.longest_line) (take (n - from) (drop from old))
-  unfolding carried
-  carried-is room n from old h e =
-      let k : from + (n - from) ≡ n = omega arith in
-      rw (← e, ← drop-take from (n - from) old, k)
-
   pub carried-short : (room : ℕ) (held : List ℕ) → count_before newline held ≡ length held
       → length (carried t room held) ≤ suc t.longest_line
   unfolding size cut_off carried

@@ -39,13 +39,13 @@ const KILOMETRE_AN_HOUR: Fraction = Fraction {
 // Of an f32's bits 1 is the sign, 8 are the exponent and 23 the digits below the leading one. This is the leading one's weight.
 const LEADING: u64 = 1 << 23;
 
-#[derive(Clone, Copy, Debug, PartialEq)]
+#[derive(Clone, Copy, PartialEq)]
 pub enum SurveyedSpeed {
     MilesPerHour(f32),
     KilometresPerHour(f32),
 }
 
-#[derive(Clone, Copy, Debug, PartialEq)]
+#[derive(Clone, Copy, PartialEq)]
 pub struct Survey {
     pub speed: SurveyedSpeed,
     pub cars: u64,

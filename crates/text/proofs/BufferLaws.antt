@@ -1,66 +1,41 @@
 -- Text, or numbers as they are, in a lent buffer, piece by piece (specs/Buffer). A byte of a law may be any number.
---   length-written, none-written   a buffer keeps its length; no text leaves it as it was
---   twice-written    one piece after another
---   set-written, set-before   a byte at a place; a byte before text that was written behind its place
---   nothing, first-byte, then, then-byte    pieces written one after the other
+--   rest_of m xs, put_rest m xs ys   what a buffer that holds xs lends from place m on; the buffer when that holds ys
+--   nothing, then, then-byte         no piece; after one a piece in the rest of the buffer, or a byte
 -- Assumes nothing.
-use Rattle.std.proofs.Common.{◌≡◌, ℕ, suc, ◌+◌, ◌≤◌, ◌<◌, List, [], ◌∷◌, ◌++◌, length, set, take, get_or, refl, sym, ap, ◌∙◌, add-one, add-zero, append_assoc, length-append, length-take-le, arith}
-use Rattle.std.proofs.lemmas.Grind.{common_steps}
-use Rattle.std.proofs.lemmas.List.{set_split, set_at, take_more}
-use Rattle.std.proofs.Math.Seq.{paste}
-use Rattle.std.proofs.lemmas.List.Edits.{paste_all, paste-paste}
+use Rattle.std.proofs.Common.{◌≡◌, ℕ, suc, ◌+◌, ◌-◌, ◌<◌, List, [], ◌∷◌, ◌++◌, length, set, take, drop, refl, sym, ap, ◌∙◌, append_assoc, append-nil, length-append, length-drop, drop-cons, drop-drop, arith}
+use Rattle.std.proofs.lemmas.List.{take_at, take_rest, drop_at, set_at, drop_all, length_push}
+use borrow.Rule.Slice.PartMut.{mid_of, put_mid}
 use Rattle.text.specs.Buffer.{written, Wrote}
 
-pub length-written : (t : List ℕ) (at : ℕ) (old : List ℕ) → at + length t ≤ length old → length (written t at old) ≡ length old
+abbrev pub rest_of : ℕ → List ℕ → List ℕ
+rest_of m xs = mid_of m (length xs - m) xs
+
+abbrev pub put_rest : ℕ → List ℕ → List ℕ → List ℕ
+put_rest m xs ys = put_mid m (length xs - m) xs ys
+
+pub nothing : {old : List ℕ} → Wrote [] old old 0
 unfolding written
-length-written t at old h = grind (arith, common_steps)
+nothing = record { content = refl; count = refl }
 
-pub none-written : (at : ℕ) (old : List ℕ) → written [] at old ≡ old
-unfolding written
-none-written at old = grind (arith, common_steps)
+module _ {s old mid : List ℕ} {m : ℕ} (w : Wrote s old mid m) where
+  pub then : {t rest : List ℕ} {n : ℕ} → Wrote t (rest_of m mid) rest n
+      → Wrote (s ++ t) old (put_rest m mid rest) (m + n)
+  unfolding written
+  then {t} {rest} {n} v =
+      let front : take m mid ≡ s = ap (take m) w.content ∙ take_at s _ m (sym w.count) in
+      let behind : drop m mid ≡ drop (length s) old = ap (drop m) w.content ∙ drop_at s _ m (sym w.count) in
+      let past : drop (length mid - m) (drop m mid) ≡ [] = drop_all (length mid - m) (drop m mid) (omega (arith, length-drop m mid)) in
+      record {
+        content = rw (front, past, v.content, take_rest mid m, behind, drop-drop, append-nil, length-append, append_assoc);
+        count = omega (arith, w.count, v.count, length-append s t);
+      }
 
--- the same in std's words
-pasted : (t : List ℕ) (at : ℕ) (old : List ℕ) → paste old at t (length t) ≡ written t at old
-unfolding written
-pasted t at old = paste_all old at t (length t) refl
-
--- one piece after another
-pub twice-written : (s t : List ℕ) (at : ℕ) (old : List ℕ) → at + length s + length t ≤ length old
-    → written t (at + length s) (written s at old) ≡ written (s ++ t) at old
-twice-written s t at old h =
-    rw (← pasted s at old, ← pasted t (at + length s) (paste old at s (length s)), ← pasted (s ++ t) at old, length-append s t)
-    (paste-paste old at s t (length s) (length t) refl refl (omega arith))
-
--- a byte
-pub set-written : (old : List ℕ) (at b : ℕ) → at < length old → set old at b ≡ written (b ∷ []) at old
-unfolding written
-set-written old at b h = rw add-one (set_split old at b h)
-
--- a byte before text that was written behind its place
-pub set-before : (b : ℕ) (s : List ℕ) (at : ℕ) (old : List ℕ) → at + 1 + length s ≤ length old
-    → set (written s (at + 1) old) at b ≡ written (b ∷ s) at old
-unfolding written
-set-before b s at old h =
-    let within : at < length old = omega arith in
-    let e : at + suc (length s) ≡ at + 1 + length s = omega arith in
-    rw (e, take_more old at 0, append_assoc) (set_at (take at old) (get_or old at 0) _ b at (length-take-le at old (omega arith)))
-
-pub nothing : {at : ℕ} {old : List ℕ} → Wrote [] at old old at
-nothing {at} {old} = record { content = sym (none-written at old); ends = sym (add-zero at) }
-
-pub first-byte : (old : List ℕ) (at b : ℕ) → at < length old → Wrote (b ∷ []) at old (set old at b) (at + 1)
-first-byte old at b h = record { content = set-written old at b h; ends = refl }
-
--- a piece after what was written
-pub then : {s t old mid new : List ℕ} {at m e : ℕ} → Wrote s at old mid m → Wrote t m mid new e
-    → at + length s + length t ≤ length old → Wrote (s ++ t) at old new e
-then {s} {t} {old} {mid} {new} {at} {m} {e} w v h = record {
-  content = v.content ∙ ap (λ (x : ℕ). written t x mid) w.ends ∙ ap (written t (at + length s)) w.content
-      ∙ twice-written s t at old h;
-  ends = v.ends ∙ omega (arith, w.ends, length-append s t);
-}
-
-pub then-byte : {s old mid : List ℕ} {at m : ℕ} (b : ℕ) → Wrote s at old mid m → at + length s + 1 ≤ length old
-    → Wrote (s ++ (b ∷ [])) at old (set mid m b) (m + 1)
-then-byte {s} {old} {mid} {at} {m} b w h =
-    then w (first-byte mid m b (omega (arith, w.ends, ap length w.content, length-written s at old (omega arith)))) h
+  pub then-byte : (b : ℕ) → length s < length old → Wrote (s ++ (b ∷ [])) old (set mid m b) (m + 1)
+  unfolding written
+  then-byte b h =
+      let long : length (s ++ (b ∷ [])) ≡ suc (length s) = omega (arith, length_push s b) in
+      record {
+        content = ap (λ (x : List ℕ). set x m b) (w.content ∙ ap (λ (x : List ℕ). s ++ x) (drop-cons old (length s) 0 h))
+            ∙ set_at s _ _ b m (sym w.count) ∙ sym (rw (append_assoc, long));
+        count = omega (arith, w.count, length_push s b);
+      }

@@ -1,6 +1,6 @@
 -- The parts of a list, by where its first part ends (specs/Parts).
 --   count_before-le           at most all bytes stand before the first t
---   found                     they are as many as the first t's place, where there is one
+--   found-Some, found-None    where `position` finds a t, so many bytes stand before it; where it finds none, all
 --   count_before-cases        no t, or one
 --   parts-one, parts-more     a list with no t is one part; with one it is the part before it and the parts after it
 --   parts-pos                 there is one part at least
@@ -8,7 +8,7 @@
 --   parts-append              two lists with a t between them have the parts of both
 --   spread, parts-spread      the lengths of parts, each with one byte more, added up: one more than the list has bytes
 -- Assumes nothing.
-use Rattle.std.proofs.Common.{◌≡◌, ℕ, suc, ◌+◌, ◌≤◌, ◌<◌, ◌⊎◌, not, eqb, List, [], ◌∷◌, ◌++◌, length, take, drop, one-add, refl, position, unwrap_or, get_or, drop-cons, add-one, add-zero, length-drop, arith, eq-eqb, ne_eqb, eq-or-lt_of_le}
+use Rattle.std.proofs.Common.{◌≡◌, ℕ, suc, ◌+◌, ◌≤◌, ◌<◌, ◌⊎◌, eqb, List, [], ◌∷◌, ◌++◌, length, take, drop, one-add, refl, position, cond, ltb, None, Some, get_or, drop-cons, add-one, add-zero, length-drop, arith, eq-eqb, ne_eqb, eq-or-lt_of_le}
 use Rattle.std.specs.List.{position_or_len}
 use Rattle.std.proofs.lemmas.Bool.Decides.{nat_tests}
 use Rattle.std.proofs.lemmas.List.Sums.{prefix_len-le-length}
@@ -26,11 +26,15 @@ count_before-le t bs = rw count_before-is (prefix_len-le-length _ bs)
 pub count_before-cases : (t : ℕ) (bs : List ℕ) → (count_before t bs ≡ length bs) ⊎ (count_before t bs < length bs)
 count_before-cases t bs = eq-or-lt_of_le (count_before-le t bs)
 
-pub found : (t : ℕ) (bs : List ℕ) → unwrap_or (position (λ b. eqb b t) bs) (length bs) ≡ count_before t bs
-found t bs =
-    let place = count_before-is t bs in
-    let within = prefix_len-le-length (λ b. not (eqb b t)) bs in
-    grind (arith, nat_tests)
+found : (t : ℕ) (bs : List ℕ)
+    → position (λ b. eqb b t) bs ≡ cond (ltb (count_before t bs) (length bs)) (Some (count_before t bs)) None
+found t bs = rw count_before-is refl
+
+pub found-Some : (t : ℕ) (bs : List ℕ) (i : ℕ) → position (λ b. eqb b t) bs ≡ Some i → (i ≡ count_before t bs) × (i < length bs)
+found-Some t bs i h = grind (arith, nat_tests, found t bs)
+
+pub found-None : (t : ℕ) (bs : List ℕ) → position (λ b. eqb b t) bs ≡ None → count_before t bs ≡ length bs
+found-None t bs h = grind (arith, nat_tests, found t bs, count_before-le t bs)
 
 -- a list with no t is one part
 pub parts-one : (t : ℕ) (bs : List ℕ) → count_before t bs ≡ length bs → parts t bs ≡ bs ∷ []

@@ -1,46 +1,52 @@
 -- Numbers and rows written into a buffer (specs/Decimal), over proofs/DigitLaws and proofs/BufferLaws.
---   Filling, nothing-filled, one-filled, all-filled   digits written from the last to the first
---   next-number, row-written       a turn of put_figures; a whole row
---   figures_text-next, figures_text-room, next-room, row_text-length, row_text-one   the room that figures and rows take; room: what code asks of it
+--   Filling, nothing-filled, one-filled, all-filled   digits written from the last to the first; filling: what put_number asks for
+--   next-number, row-written       a turn of put_figures; a whole row; pieces: what put_figures and put_row ask for
+--   figures_text-next, figures_text-room, next-room, row_text-length, row_text-one   the room that figures and rows take
 --   figures_text-mono   smaller numbers take no more room
 -- Assumes nothing.
-use Rattle.std.proofs.Common.{◌≡◌, ℕ, ◌+◌, ◌/◌, ◌%◌, ◌^◌, ◌≤◌, ◌<◌, List, [], ◌∷◌, ◌++◌, length, get_or, take, drop, set, sym, refl, ap, ◌∙◌, append_assoc, append-nil, arith, length-append, take-append-drop, length-set}
+use Rattle.std.proofs.Common.{◌≡◌, ℕ, ◌+◌, ◌-◌, ◌/◌, ◌%◌, ◌^◌, suc, ◌≤◌, ◌<◌, List, [], ◌∷◌, ◌++◌, length, get_or, take, drop, set, sym, refl, ap, ◌∙◌, append_assoc, append-nil, arith, length-append, take-append-drop, drop-drop, length-take-le, length-set}
 use mathlib.Core.List.{flat_map}
-use Rattle.std.proofs.lemmas.List.{length_push}
+use Rattle.std.proofs.lemmas.List.{length_push, take_more, set_at}
 use Rattle.numbers.specs.Bounds.{AllAtMost}
 use Rattle.numbers.proofs.RowsLaws.{rows-append, rows-next}
 use Rattle.text.specs.Bytes.{tab}
 use Rattle.text.specs.Decimal.{decimal, figures_text, row_text}
 use Rattle.text.specs.Buffer.{written, Wrote}
-use Rattle.text.proofs.DigitLaws.{decimal-small, decimal-more, decimal-room, decimal-mono}
-use Rattle.text.proofs.BufferLaws.{none-written, set-before, first-byte, then, then-byte}
+use Rattle.text.proofs.DigitLaws.{decimal_pos, decimal-small, decimal-more, decimal-room, decimal-mono}
+use Rattle.text.proofs.BufferLaws.{rest_of, put_rest, nothing, then, then-byte}
 
 -- ---- a number, from its last digit on
 -- the digits of n behind those of rest are written
-pub record Filling (n at : ℕ) (old new : List ℕ) (rest place : ℕ) : Type 0 where
+pub record Filling (n : ℕ) (old new : List ℕ) (rest place : ℕ) : Type 0 where
   pub later : List ℕ
   pub all : decimal n ≡ decimal rest ++ later
-  pub ends : place ≡ at + length (decimal rest)
-  pub within : place ≤ at + length (decimal n)
-  pub content : new ≡ written later place old
+  pub ends : place ≡ length (decimal rest)
+  pub within : place ≤ length (decimal n)
+  pub content : new ≡ take place old ++ written later (drop place old)
 
-pub nothing-filled : (n at : ℕ) (old : List ℕ) → Filling n at old old n (at + length (decimal n))
-nothing-filled n at old = record {
+pub nothing-filled : (n : ℕ) (old : List ℕ) → Filling n old old n (length (decimal n))
+unfolding written
+nothing-filled n old = record {
   later = [];
   all = sym (append-nil (decimal n));
   ends = refl;
   within = omega arith;
-  content = sym (none-written _ old);
+  content = sym (take-append-drop (length (decimal n)) old);
 }
 
-module _ {n at rest place : ℕ} {old new : List ℕ} (f : Filling n at old new rest place) (room : at + length (decimal n) ≤ length old) where
+module _ {n rest place : ℕ} {old new : List ℕ} (f : Filling n old new rest place) (room : length (decimal n) ≤ length old) where
   -- a digit before those that are written
-  before : (q digit : ℕ) → place ≡ q + 1 → set new q digit ≡ written (digit ∷ f.later) q old
+  before : (q digit : ℕ) → place ≡ q + 1 → set new q digit ≡ take q old ++ written (digit ∷ f.later) (drop q old)
+  unfolding written
   before q digit e =
-      ap (λ x. set x q digit) (f.content ∙ ap (λ x. written f.later x old) e)
-      ∙ set-before digit f.later q old (omega (arith, f.ends, ap length f.all, length-append (decimal rest) f.later))
+      let inside : q < length old = omega (arith, f.within) in
+      let seam : q + 1 + length f.later ≡ q + suc (length f.later) = omega arith in
+      let behind : drop (length f.later) (drop (q + 1) old) ≡ drop (suc (length f.later)) (drop q old) =
+      drop-drop (length f.later) (q + 1) old ∙ ap (λ x. drop x old) seam ∙ sym (drop-drop (suc (length f.later)) q old) in
+      ap (λ x. set x q digit) (f.content ∙ ap (λ x. take x old ++ (f.later ++ drop (length f.later) (drop x old))) e)
+      ∙ rw (take_more old q 0, append_assoc, behind) (set_at (take q old) (get_or old q 0) _ digit q (length-take-le q old (omega arith)))
 
-  pub one-filled : (q : ℕ) → place ≡ q + 1 → 9 < rest → rest < 2 ^ 64 → Filling n at old (set new q (48 + rest % 10)) (rest / 10) q
+  pub one-filled : (q : ℕ) → place ≡ q + 1 → 9 < rest → rest < 2 ^ 64 → Filling n old (set new q (48 + rest % 10)) (rest / 10) q
   one-filled q e h fits =
       let digits : decimal rest ≡ decimal (rest / 10) ++ ((48 + rest % 10) ∷ []) = decimal-more rest h fits in
       record {
@@ -51,14 +57,16 @@ module _ {n at rest place : ℕ} {old new : List ℕ} (f : Filling n at old new 
         content = before q (48 + rest % 10) e;
       }
 
-  pub all-filled : rest < 10 → Wrote (decimal n) at old (set new at (48 + rest)) (at + length (decimal n))
+  pub all-filled : rest < 10 → Wrote (decimal n) old (set new 0 (48 + rest)) (length (decimal n))
   all-filled h =
       let digit : decimal rest ≡ (48 + rest) ∷ [] = decimal-small rest h in
       let all : (48 + rest) ∷ f.later ≡ decimal n = sym (f.all ∙ ap (λ x. x ++ f.later) digit) in
       record {
-        content = before at (48 + rest) (omega (arith, f.ends, ap length digit)) ∙ ap (λ x. written x at old) all;
-        ends = refl;
+        content = before 0 (48 + rest) (omega (arith, f.ends, ap length digit)) ∙ ap (λ x. written x old) all;
+        count = refl;
       }
+
+pub ruleset filling = (decimal_pos, nothing-filled, one-filled)
 
 -- ---- numbers after tabs
 pub figures_text-next : (ns : List ℕ) (i : ℕ) → i < length ns
@@ -90,24 +98,24 @@ next-room ns i h = omega (
   length-append (figures_text (take i ns)) (9 ∷ decimal (get_or ns i 0)),
 )
 
--- the room that put_figures and put_row ask for
-pub ruleset room = (next-room, row_text-length, length-set)
-
 -- a turn: a tab, and the number
-pub next-number : {old out new : List ℕ} {at p e : ℕ} (ns : List ℕ) (i : ℕ) → i < length ns → at + length (figures_text ns) ≤ length old
-    → Wrote (figures_text (take i ns)) at old out p → Wrote (decimal (get_or ns i 0)) (p + 1) (set out p 9) new e
-    → Wrote (figures_text (take (i + 1) ns)) at old new e
-next-number {old} {out} {new} {at} {p} {e} ns i h room w v =
+pub next-number : {old out new : List ℕ} {p n : ℕ} (ns : List ℕ) (i : ℕ) → i < length ns → length (figures_text ns) ≤ length old
+    → Wrote (figures_text (take i ns)) old out p
+    → Wrote (decimal (get_or ns i 0)) (rest_of (p + 1) (set out p 9)) new n
+    → Wrote (figures_text (take (i + 1) ns)) old (put_rest (p + 1) (set out p 9) new) (p + 1 + n)
+next-number ns i h room w v =
     let fits = next-room ns i h in
-    let tabbed = length_push (figures_text (take i ns)) 9 in
-    rw (figures_text-next ns i h) (rw append_assoc at (then (then-byte 9 w (omega arith)) v (omega arith)))
+    rw (figures_text-next ns i h) (rw append_assoc at (then (then-byte w 9 (omega arith)) v))
 
-pub row-written : {old out : List ℕ} {at p : ℕ} (b : ℕ) (ns : List ℕ) → at + length (row_text b ns) ≤ length old
-    → Wrote (figures_text ns) (at + 1) (set old at b) out p → Wrote (row_text b ns) at old (set out p 10) (p + 1)
+pub row-written : {old out : List ℕ} {n : ℕ} (b : ℕ) (ns : List ℕ) → length (row_text b ns) ≤ length old
+    → Wrote (figures_text ns) (rest_of 1 (set old 0 b)) out n
+    → Wrote (row_text b ns) old (set (put_rest 1 (set old 0 b) out) (1 + n) 10) (1 + n + 1)
 unfolding row_text
-row-written {old} {out} {at} {p} b ns room w =
+row-written b ns room w =
     let ended = length_push (figures_text ns) 10 in
-    then-byte 10 (then (first-byte old at b (omega arith)) w (omega arith)) (omega arith)
+    then-byte (then (then-byte nothing b (omega arith)) w) 10 (omega arith)
+
+pub ruleset pieces = (row-written, next-room, row_text-length, length-set)
 
 pub row_text-one : (b n : ℕ) → length (row_text b (n ∷ [])) ≤ 23
 unfolding row_text figures_text flat_map

@@ -1,8 +1,8 @@
-// Numbers written in decimal into a lent buffer. Each function writes at a place and answers the place after what it wrote.
+// Numbers written in decimal into a lent buffer. Each function writes from the buffer's start on and answers how many bytes it wrote.
 //   put_number    a number
 //   put_figures   each number of a slice after a tab
 //   put_row       a byte, each number after a tab, and a newline
-ghost use Rattle.std.specs.Prelude.{◌≡◌, ◌+◌, ◌≤◌, length};
+ghost use Rattle.std.specs.Prelude.{◌≡◌, ◌≤◌, length};
 ghost use Rattle.text.specs.Decimal.{decimal, figures_text, row_text};
 ghost use Rattle.text.specs.Buffer.{Wrote};
 
@@ -15,43 +15,44 @@ fn digit_count(n: u64) -> usize
 }
 
 // From the last digit to the first, which is what the divisions leave. `los` takes 2 % longer with a `for` over the places.
-#[tactic(auto, using(crate::proofs::DigitLaws::decimal_pos))]
-pub fn put_number(out: &mut [u8], at: usize, n: u64) -> usize
-    requires { at + length (decimal n) ≤ length out.old }
-    ensures { Wrote (decimal n) at out.old out.new result }
+#[tactic(auto, using(crate::proofs::RowLaws::filling))]
+pub fn put_number(n: u64, out: &mut [u8]) -> usize
+    requires { length (decimal n) ≤ length out.old }
+    ensures { Wrote (decimal n) out.old out.new result }
 {
-    let end = at + digit_count(n);
+    let count = digit_count(n);
     let mut rest = n;
-    let mut place = end;
+    let mut place = count;
     while rest > 9 {
         place -= 1;
         out[place] = b'0' + (rest % 10) as u8;
         rest /= 10;
     }
-    out[at] = b'0' + rest as u8;
-    end
+    out[0] = b'0' + rest as u8;
+    count
 }
 
-#[tactic(auto, using(crate::proofs::RowLaws::room))]
-pub fn put_figures(figures: &[u64], out: &mut [u8], at: usize) -> usize
-    requires { at + length (figures_text figures.now) ≤ length out.old }
-    ensures { Wrote (figures_text figures.now) at out.old out.new result }
+#[tactic(auto, using(crate::proofs::RowLaws::pieces))]
+pub fn put_figures(figures: &[u64], out: &mut [u8]) -> usize
+    requires { length (figures_text figures.now) ≤ length out.old }
+    ensures { Wrote (figures_text figures.now) out.old out.new result }
 {
-    let mut end = at;
+    let mut count = 0;
     for figure in figures {
-        out[end] = b'\t';
-        end = put_number(out, end + 1, *figure);
+        out[count] = b'\t';
+        count += 1;
+        count += put_number(*figure, &mut out[count..]);
     }
-    end
+    count
 }
 
-#[tactic(auto, using(crate::proofs::RowLaws::room))]
-pub fn put_row(first: u8, figures: &[u64], out: &mut [u8], at: usize) -> usize
-    requires { at + length (row_text first figures.now) ≤ length out.old }
-    ensures { Wrote (row_text first figures.now) at out.old out.new result }
+#[tactic(auto, using(crate::proofs::RowLaws::pieces))]
+pub fn put_row(first: u8, figures: &[u64], out: &mut [u8]) -> usize
+    requires { length (row_text first figures.now) ≤ length out.old }
+    ensures { Wrote (row_text first figures.now) out.old out.new result }
 {
-    out[at] = first;
-    let end = put_figures(figures, out, at + 1);
-    out[end] = b'\n';
-    end + 1
+    out[0] = first;
+    let count = 1 + put_figures(figures, &mut out[1..]);
+    out[count] = b'\n';
+    count + 1
 }

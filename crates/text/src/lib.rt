@@ -1,9 +1,7 @@
-// Text: bytes parted at a byte, and numbers written into a lent buffer, in decimal or as they are.
-//   parts     where a part of a slice of bytes ends
+// Text: numbers written into a lent buffer, in decimal or as they are. What the parts of bytes at a byte are stands in specs/ alone.
 //   decimal   numbers as text
 //   buffer    numbers as they are
 #![tactic(auto)]
 
 pub mod buffer;
 pub mod decimal;
-pub mod parts;

@@ -1,17 +1,17 @@
 -- `day::put_day` meets its contract: each turn writes the answer with one demand behind those before it.
 -- Assumes nothing.
-use Rattle.std.proofs.Common.{◌≡◌, refl, sym, ap, ◌∙◌, subst, Result, Ok, Err, get_or, arith}
+use Rattle.std.proofs.Common.{◌≡◌, ap, ◌∙◌, subst, Result, Ok, Err, get_or, arith}
 use lib.Seq.{take_all}
 use mathlib.Core.List.{flat_map}
 use Rattle.checks.specs.declared.Refusal.{Refusal}
-use Rattle.text.proofs.BufferLaws.{none-written}
+use Rattle.text.proofs.BufferLaws.{nothing}
 use Rattle.road.specs.declared.Case.{Case}
 use Rattle.road.specs.Cases.{with_demand}
 use Rattle.answer.specs.Answers.{answer_to}
 use Rattle.day.specs.declared.shared.Shared.{Shared}
 use Rattle.day.specs.Days.{day_figures}
 use Rattle.day.specs.Shared.{SharedBy}
-use Rattle.day.proofs.DayLaws.{next-room, next-answer}
+use Rattle.day.proofs.DayLaws.{answer_figures-length, lent-room, next-answer}
 use Rattle.day.proofs.SharedLaws.{refused-with}
 use Rattle.day.proofs.put_day.Goals.{in-Ok, in-Err}
 use Rattle.day.proofs.put_day.Goals as goal
@@ -34,17 +34,15 @@ loop-demand-preserved c =
           let own = told case _ (Err _) c.of-shared.ensures w.in-Err.is in
           w.answer-is ∙ refused-with (with_demand case demand) _ _ own w.refusal_with.ensures
     ] in
-    next-answer case c.args.demands.now l.demand-index c.loop-demand-test.true c.requires l.invariant (rw same at c.put_answer-at.ensures)
+    let wrote = c.put_answer-written.ensures in (
+      next-answer case c.args.demands.now l.demand-index c.loop-demand-test.true l.invariant.0 (rw same at wrote),
+      omega (arith, wrote.count, answer_figures-length c.match-shared.answer),
+    )
 
 pub loop-demand-init : goal.loop-demand-init
 unfolding day_figures flat_map
-loop-demand-init c = record { content = sym (none-written 0 _); ends = refl }
-
-pub put_answer-at-requires : goal.put_answer-at-requires
-put_answer-at-requires c =
-    let l = c.loop-demand in
-    omega (arith, l.auto.answers, next-room c.args.case c.args.demands.now l.demand-index c.loop-demand-test.true c.requires l.invariant)
+loop-demand-init c = (nothing, omega (arith, lent-room _ _ c.requires))
 
 pub returns : goal.returns
 returns c =
-    rw (take_all _ _ c.loop-demand-test.false) at c.loop-demand.invariant.content
+    rw (take_all _ _ c.loop-demand-test.false) at c.loop-demand.invariant.0.content

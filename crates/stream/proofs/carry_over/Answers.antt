@@ -1,12 +1,13 @@
--- `stream::carry_over` meets its contract: what is kept is moved to the start, and nothing else of the buffer is changed.
+-- `stream::carry_over` meets its contract: what is kept is moved to the start, and nothing else is changed.
 -- Assumes nothing.
-use Rattle.std.proofs.Common.{◌≡◌, ◌+◌, ◌-◌, zero-add, arith}
-use Rattle.stream.proofs.CarryLaws.{cut-moved}
+use Rattle.std.proofs.Common.{◌≡◌, ◌+◌, ◌-◌, drop, zero-add, arith}
+use Rattle.std.proofs.lemmas.List.{take_rest}
+use Rattle.stream.proofs.CarryLaws.{cut-is}
 use Rattle.stream.proofs.carry_over.Goals as goal
 
-pub returns-clause-buffer : goal.returns-clause-buffer
-returns-clause-buffer c =
+pub returns-clause-held : goal.returns-clause-held
+returns-clause-held c =
     let a = c.args in
     let n = c.carried_length-n.result in
     let moved : a.from + n - a.from ≡ n = omega arith in
-    cc (zero-add n, cut-moved a.kept a.held a.from a.buffer.now)
+    cc (zero-add n, take_rest a.held.now a.from, cut-is a.kept (drop a.from a.held.now))

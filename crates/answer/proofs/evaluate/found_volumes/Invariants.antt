@@ -5,4 +5,4 @@ use Rattle.answer.proofs.TriesLaws.{Done}
 use Rattle.answer.proofs.evaluate.found_volumes.Given as goal
 
 abbrev pub invariant-loop-place : goal.invariant-loop-place
-invariant-loop-place l = Done l.accepted.case l.volumes l.end l.tries l.place
+invariant-loop-place l = Done l.terms.curve_terms.curve l.terms.load l.volumes l.end l.tries l.place

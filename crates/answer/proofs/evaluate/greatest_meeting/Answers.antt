@@ -9,7 +9,9 @@ use Rattle.answer.proofs.evaluate.greatest_meeting.Goals as goal
 
 pub loop-high-init : goal.loop-high-init
 loop-high-init c =
-    let own = c.args.accepted.now in halved-start _ c.args.end (demand_meets-zero own.case c.args.limit own.accepted)
+    let terms = c.args.terms.now in
+    let own = terms.curve_terms in
+    halved-start _ c.args.end (demand_meets-zero own.curve terms.load c.args.limit own.well_formed terms.load_fits.divisor-pos)
 
 pub loop-high-preserved-then-demand_meets : goal.loop-high-preserved-then-demand_meets
 unfolding middle
@@ -25,6 +27,8 @@ loop-high-preserved c =
 
 pub returns : goal.returns
 returns c =
-    let own = c.args.accepted.now in
-    let found = halved-done _ _ _ _ _ c.loop-high.invariant (demand_meets-down own.case c.args.limit own.accepted) (omega arith) in
+    let terms = c.args.terms.now in
+    let own = terms.curve_terms in
+    let down = demand_meets-down own.curve terms.load c.args.limit own.well_formed terms.load_fits.divisor-pos in
+    let found = halved-done _ _ _ _ _ c.loop-high.invariant down (omega arith) in
     simp (found.0, found.1)

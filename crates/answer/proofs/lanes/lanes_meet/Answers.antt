@@ -30,10 +30,11 @@ returns-in-Err c =
     let case = with_lanes c.args.case.now c.args.lanes in
     sym (meets-refused case c.args.letter (checked_curve-refused case _ c.requires.fields (sym c.checked_curve.ensures ∙ c.in-Err.is)))
 
+pub invariant_of-checked_curve : goal.invariant_of-checked_curve
+invariant_of-checked_curve c = record { fits = fields-road (with_lanes c.args.case.now c.args.lanes) c.requires.fields }
+
 pub checked_curve-requires : goal.checked_curve-requires
-checked_curve-requires c =
-    let case = with_lanes c.args.case.now c.args.lanes in
-    record { road_fits = fields-road case c.requires.fields; factors_fit = fields-weather case c.requires.fields }
+checked_curve-requires c = fields-weather (with_lanes c.args.case.now c.args.lanes) c.requires.fields
 
 pub flow_rate-flow_rate-requires : goal.flow_rate-flow_rate-requires
 flow_rate-flow_rate-requires c =

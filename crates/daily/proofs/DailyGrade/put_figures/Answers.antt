@@ -1,10 +1,7 @@
 -- `daily::DailyGrade::put_figures` meets its contract: the eleven figures of the grade, and the daily volumes behind them.
 -- Assumes nothing.
-use Rattle.std.proofs.Common.{arith}
 use Rattle.text.proofs.BufferLaws.{then}
 use Rattle.daily.proofs.DailyGrade.put_figures.Goals as goal
 
 pub returns : goal.returns
-returns c =
-    then (rw c.values.ensures at c.put_numbers-at.ensures) c.put_numbers.ensures
-    (omega (arith, c.requires))
+returns c = then (rw c.values.ensures at c.put_numbers-count.ensures) c.put_numbers.ensures

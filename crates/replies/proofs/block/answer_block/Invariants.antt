@@ -1,7 +1,6 @@
 -- The loop of `replies::block::answer_block`: the lines answered so far, and what is left to do, are the lines that the block's turn
 -- answers.
 -- Assumes nothing.
-use mathlib.Core.Path.{◌≡◌}
 use Prim.Native.Nat.{◌-◌}
 use lib.ListN.{length}
 use Rattle.stream.proofs.BlockLaws.{Answering}
@@ -9,8 +8,7 @@ use Rattle.replies.specs.Output.{line_texts}
 use Rattle.replies.proofs.block.answer_block.Given as goal
 
 abbrev pub invariant-loop-written : goal.invariant-loop-written
-invariant-loop-written l = (length l.out ≡ length l.initial.out)
-    × Answering line_texts l.block l.initial.out l.out l.read l.written
+invariant-loop-written l = Answering line_texts l.block l.initial.out l.out l.read l.written
 
 abbrev pub decreases-loop-written : goal.decreases-loop-written
 decreases-loop-written l = length l.block - l.read

@@ -12,4 +12,4 @@ unfolding flat_map figures_text
 loop-figure-init c = nothing
 
 pub loop-figure-preserved : goal.loop-figure-preserved
-loop-figure-preserved c = next-number _ _ (omega arith) c.requires c.loop-figure.invariant c.put_number-end.ensures
+loop-figure-preserved c = next-number _ _ (omega arith) c.requires c.loop-figure.invariant c.put_number-count.ensures

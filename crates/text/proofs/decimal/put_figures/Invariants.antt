@@ -6,4 +6,4 @@ use Rattle.text.specs.Buffer.{Wrote}
 use Rattle.text.proofs.decimal.put_figures.Given as goal
 
 abbrev pub invariant-loop-figure : goal.invariant-loop-figure
-invariant-loop-figure l = Wrote (figures_text (take l.figure-index l.figures)) l.at l.initial.out l.out l.end
+invariant-loop-figure l = Wrote (figures_text (take l.figure-index l.figures)) l.initial.out l.out l.count

@@ -4,7 +4,7 @@ use Rattle.text.proofs.RowLaws.{Filling}
 use Rattle.text.proofs.decimal.put_number.Given as goal
 
 abbrev pub invariant-loop-rest : goal.invariant-loop-rest
-invariant-loop-rest l = Filling l.n l.at l.initial.out l.out l.rest l.place
+invariant-loop-rest l = Filling l.n l.initial.out l.out l.rest l.place
 
 abbrev pub decreases-loop-rest : goal.decreases-loop-rest
 decreases-loop-rest l = l.rest

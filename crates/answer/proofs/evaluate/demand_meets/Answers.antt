@@ -1,9 +1,0 @@
--- `answer::evaluate::demand_meets` meets its contract: the load is the case's own.
--- Assumes nothing.
-use Rattle.method.proofs.RefusalLaws.{accepted-fields}
-use Rattle.method.proofs.FlowLaws.{case_load-fits}
-use Rattle.answer.proofs.evaluate.demand_meets.Goals as goal
-
-pub flow_rate-flow_rate-requires-clause-load_fits : goal.flow_rate-flow_rate-requires-clause-load_fits
-flow_rate-flow_rate-requires-clause-load_fits c =
-    let own = c.args.accepted.now in rw own.own_load (case_load-fits own.case (accepted-fields own.case own.accepted))
