@@ -7,13 +7,13 @@
 SHELL = /bin/bash
 .SHELLFLAGS = -o pipefail -c
 BUILD = build
-RUSTC = rustc --edition 2021 -O
+# A rule that names no make hands no jobserver on, and rustc would ask for it.
+RUSTC = env -u MAKEFLAGS -u MFLAGS rustc --edition 2021 -O
 CFLAGS = -std=c11 -Wall -Wextra -Werror -O2
 SOURCES = $(shell find crates -name out -prune -o \( -name "*.rt" -o -name "*.antt" \) -print) crates.txt
 LIBRARY = target/staticlib/libmarehour.a
 PROGRAM = target/bin/los
-# What the tests run; make test builds it side by side.
-TESTED = $(addprefix $(BUILD)/,tables references calls widening widening-test yearly yearly-test stream compare published) $(PROGRAM)
+TESTS = tables references calls widening yearly stream compare compare-los published
 
 # Plain C is compiled by gcc, and by clang too where it is installed.
 BENCH = $(BUILD)/bench
@@ -21,7 +21,7 @@ PLAIN = $(patsubst %,$(BENCH)/plain-%,gcc $(if $(shell command -v clang),clang))
 PLAINFLAGS = -std=c11 -Wall -Wextra -Werror -O3 -I$(BENCH)
 TABLES = $(BENCH)/powers.inc $(BENCH)/ramps.inc
 
-.PHONY: run test prove tests full tables vectors bench clean
+.PHONY: run test prove tests $(TESTS:%=test-%) full tables vectors bench clean
 
 run: $(PROGRAM)
 	@$(PROGRAM) < examples/sections.tsv
@@ -29,8 +29,7 @@ run: $(PROGRAM)
 # The last line is the verdict of rt ci, shown only where every test has passed.
 test:
 	@$(MAKE) --no-print-directory prove
-	@$(MAKE) --no-print-directory -j$(shell nproc) $(TESTED)
-	@$(MAKE) --no-print-directory tests
+	@$(MAKE) --no-print-directory -j$(shell nproc) --output-sync tests
 	@tail -n 1 $(BUILD)/ci.log
 
 # What rt ci prints is shown as it comes, all but the last line, which is shown here where rt ci fails. rt ci passes where an edit can't be
@@ -40,16 +39,32 @@ prove:
 	rt ci 2>&1 | tee $(BUILD)/ci.log | sed -u '$$d' || { tail -n 1 $(BUILD)/ci.log; exit 1; }
 	@! grep -E '^rt: ok.*, [0-9]+ bad' $(BUILD)/ci.log || { echo "an edit is bad"; exit 1; }
 
-tests: $(TESTED)
-	$(BUILD)/tables check
-	$(BUILD)/references
-	$(BUILD)/calls
-	$(BUILD)/widening-test $(BUILD)/widening
-	$(BUILD)/yearly-test $(BUILD)/yearly
-	$(BUILD)/stream $(PROGRAM)
-	$(BUILD)/compare quick
-	$(BUILD)/compare los $(PROGRAM)
-	$(BUILD)/published $(PROGRAM)
+# Each test builds what it runs; make test has them side by side.
+tests: $(TESTS:%=test-%)
+
+test-tables: $(BUILD)/tables
+	$< check
+
+test-references: $(BUILD)/references
+	$<
+
+test-calls: $(BUILD)/calls
+	$<
+
+test-widening test-yearly: test-%: $(BUILD)/%-test $(BUILD)/%
+	$^
+
+test-stream: $(BUILD)/stream $(PROGRAM)
+	$^
+
+test-compare: $(BUILD)/compare
+	$< quick
+
+test-compare-los: $(BUILD)/compare $(PROGRAM)
+	$< los $(PROGRAM)
+
+test-published: $(BUILD)/published $(PROGRAM)
+	$^
 
 full: $(BUILD)/compare
 	$(BUILD)/compare full-curves

@@ -13,7 +13,7 @@
 --   daily_volume-eq    a daily service volume is the greatest daily traffic within the service volume in the engine's answer
 --   volumes-eq         the five of them
 --   graded-fits        the service volumes of a grade that the engine answers
---   answer-stopped, answer-graded, answer-refused   what is answered by what 20 and 21, and then the engine, say
+--   answer-stopped, answer-graded   what is answered where 20 or 21 refuses, and where the engine has a grade
 --   by_engine          what a grade of the engine's asks and gives, for tactics
 -- Assumes nothing.
 use Rattle.std.proofs.Common.{◌≡◌, refl, sym, ap, ◌∙◌, ◌↔◌, ℕ, zero, suc, ◌≤◌, ◌<◌, [], ◌++◌, T, leb, Result, Ok, Err, arith, rules, le_trans, lit≤}
@@ -212,9 +212,5 @@ module _ (case : Case) (shares : Shares) (daily : ℕ) where
         let volumes : volumes_within shares grade.volumes ≡ daily_volumes case shares = rw (own) (volumes-eq case shares daily a) in
         sym (fitting case shares daily fits ∙ ap (λ a. with_volumes a (daily_volumes case shares)) (sym e)
         ∙ ap (λ vs. Ok (record { grade = grade; volumes = vs })) (sym volumes))
-
-    pub answer-refused : (r : Refusal) → Err r ≡ answer_to (hourly case shares daily) → Err r ≡ daily_answer case shares daily
-    answer-refused r e =
-        sym (fitting case shares daily fits ∙ ap (λ a. with_volumes a (daily_volumes case shares)) (sym e))
 
 pub ruleset by_engine = (fits-ends, graded-fits, answer-graded)

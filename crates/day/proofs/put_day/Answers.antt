@@ -1,7 +1,6 @@
 -- `day::put_day` meets its contract: each turn writes the answer with one demand behind those before it.
 -- Assumes nothing.
 use Rattle.std.proofs.Common.{◌≡◌, ap, ◌∙◌, subst, Result, Ok, Err, get_or, arith}
-use lib.Seq.{take_all}
 use mathlib.Core.List.{flat_map}
 use Rattle.checks.specs.declared.Refusal.{Refusal}
 use Rattle.text.proofs.BufferLaws.{nothing}
@@ -42,7 +41,3 @@ loop-demand-preserved c =
 pub loop-demand-init : goal.loop-demand-init
 unfolding day_figures flat_map
 loop-demand-init c = (nothing, omega (arith, lent-room _ _ c.requires))
-
-pub returns : goal.returns
-returns c =
-    rw (take_all _ _ c.loop-demand-test.false) at c.loop-demand.invariant.0.content
