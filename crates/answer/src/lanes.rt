@@ -13,12 +13,13 @@ use method::flow::Load;
 use road::Case;
 use road::free_flow::FitRoad;
 
-// Whether the case with a lane count of the kind meets a letter.
-fn lanes_meet(case: &Case, letter: u64, lanes: u64) -> bool
-    requires { Asking (with_lanes case.now lanes) letter }
+// Whether the case with a lane count of the kind meets a letter; its road is handed on as one that fits.
+fn lanes_meet(case: &Case, fit: &FitRoad, letter: u64, lanes: u64) -> bool
+    requires asking { Asking (with_lanes case.now lanes) letter }
+    requires own_road { fit.now.road ≡ case.now.road }
     ensures { result ≡ lanes_meet case.now letter lanes }
 {
-    match checked::checked_curve(&FitRoad { road: case.road }, case.weather, lanes) {
+    match checked::checked_curve(fit, case.weather, lanes) {
         Ok(curve) => {
             let flow_rate = Load::of(case, lanes).flow_rate(case.demand);
             CurveTerms::new(curve).meets_limit(flow_rate, service::density_limit(letter))
@@ -35,9 +36,10 @@ pub fn lanes_needed(case: Case, letter: u64) -> Result<u64, Refusal>
         return Err(Refusal::LetterUnknown);
     }
     case.check_fields()?;
+    let fit = FitRoad { road: case.road };
     let figures = case.road.kind.figures();
     for lanes in figures.fewest_lanes..=figures.most_lanes {
-        if lanes_meet(&case, letter, lanes) {
+        if lanes_meet(&case, &fit, letter, lanes) {
             return Ok(lanes);
         }
     }

@@ -1,11 +1,11 @@
 -- `answer::lanes::lanes_needed` meets its contract: 16 first, then 1 to 9 and 19, then the count or 14.
 -- Assumes nothing.
-use Rattle.std.proofs.Common.{ap, Ok, T, ◌+◌, ◌<◌, sym, ◌∙◌, ℕ, ◌≤◌, rules, arith, below_more}
+use Rattle.std.proofs.Common.{ap, refl, Ok, T, ◌+◌, ◌<◌, sym, ◌∙◌, ℕ, ◌≤◌, rules, arith, below_more}
 use Rattle.std.proofs.lemmas.Result.{err_from_is_err_and}
 use Rattle.numbers.proofs.BoolLaws.{T-true, T-false}
 use Rattle.curve.specs.Kinds.{most_lanes}
 use Rattle.road.specs.Cases.{with_lanes}
-use Rattle.road.proofs.RefusalLaws.{fields-with_lanes}
+use Rattle.road.proofs.RefusalLaws.{fields-road, fields-with_lanes}
 use Rattle.answer.specs.Lanes.{lanes_meet}
 use Rattle.answer.proofs.LanesLaws.{meets-of-kind, lanes_found-eq, lanes_found-none, lanes_answer-letter, lanes_answer-fields}
 use Rattle.answer.proofs.LanesLaws.{lanes_answer-none, lanes_answer-found}
@@ -26,14 +26,20 @@ loop-lanes-init c =
     let low = c.figures-figures.ensures.fewest_lanes in
     (omega (arith, low), λ k h t. absurd (omega (arith, low, meets-of-kind (with_lanes a.case k) a.letter t)))
 
+pub invariant_of-fit : goal.invariant_of-fit
+invariant_of-fit c = record { fits = fields-road c.args.case (sym c.in_ok-check_fields.ensures) }
+
 pub lanes_meet-requires : goal.lanes_meet-requires
 lanes_meet-requires c =
     let l = c.loop-lanes in
     record {
-      fields = fields-with_lanes c.args.case l.lanes (sym c.in_ok-check_fields.ensures) l.invariant.0
-          (omega (arith, c.loop-lanes-test.true, c.figures-figures.ensures.most_lanes));
-      letter-low = search rules;
-      letter-high = search rules;
+      asking = record {
+        fields = fields-with_lanes c.args.case l.lanes (sym c.in_ok-check_fields.ensures) l.invariant.0
+            (omega (arith, c.loop-lanes-test.true, c.figures-figures.ensures.most_lanes));
+        letter-low = search rules;
+        letter-high = search rules;
+      };
+      own_road = refl;
     }
 
 pub returns-then-lanes_meet : goal.returns-then-lanes_meet
