@@ -42,7 +42,8 @@
 
    A line of 13 fields means 1,000 for both factors, clear weather; 14 fields are malformed. A
    number has one to five digits and no leading zero, save 0 itself. What clearances take off a base
-   speed is linear, tenth by tenth, between the feet that the manual's tables have.
+   speed is linear, tenth by tenth, between the feet that the manual's tables have; what ramps take
+   off is rounded to the nearest thousandth of mi/h.
 
    Memory. A call reads line[0] to line[line_length - 1] and demands[0] to
    demands[demand_count - 1], and nothing else, and keeps no pointer. It writes into answer[0] to

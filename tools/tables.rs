@@ -1,6 +1,6 @@
-// Makes the two constant tables of the engine from the whole-power rules of document 01:
+// Makes the two constant tables of the engine from the whole-power rules of document 01 and of T-08 of document 02:
 //   T(i), i from 0 to 1,000: the least whole t with i^131 x 10^207 <= t^100
-//   the ramp term, k from 0 to 48: the greatest whole t with t^25 x 6^21 <= 3,220^25 x k^21
+//   the ramp term, k from 0 to 48: the whole t with (2t - 1)^25 x 6^21 <= 6,440^25 x k^21 < (2t + 1)^25 x 6^21, and 0 for k = 0
 //
 //   tables write    writes the two files
 //   tables check    says whether the two files are what it would write; status 1 if one is not
@@ -65,10 +65,10 @@ fn power(i: u32) -> u32 {
     least(1_000_001, |t| reached.at_most(&Big::one().times_power(t, 100)))
 }
 
+// The least t that fits the second half of the rule: the one before it, if there is one, does not, so that t fits the first half too.
 fn ramp_term(k: u32) -> u32 {
-    let bound = Big::one().times_power(3_220, 25).times_power(k, 21);
-    let above = |t| !Big::one().times_power(t, 25).times_power(6, 21).at_most(&bound);
-    least(20_001, above) - 1
+    let middle = Big::one().times_power(6_440, 25).times_power(k, 21);
+    least(20_001, |t| !Big::one().times_power(2 * t + 1, 25).times_power(6, 21).at_most(&middle))
 }
 
 struct Table {

@@ -1,4 +1,4 @@
-// What documents 01 and 02 (T-02, T-03) say by figures, and figures worked out by hand from their rules, checked against both
+// What documents 01 and 02 (T-02, T-03, T-08) say by figures, and figures worked out by hand from their rules, checked against both
 // implementations. Lines are written with blanks for tabs; a - stands for a figure that is not checked there by itself.
 
 use super::engine;
@@ -11,12 +11,17 @@ const LINE: &str = "F E 75400 110 20 0 D 24 2 2000 920 50 R";
 
 // Lines and the first fields of their answers.
 const ANSWERS: &[(&str, &str)] = &[
-    // The line above.
-    (LINE, "C 60783 230783 1196 60783 197 1117 1829 2642 3360 3858"),
-    // Ramp terms 3,220, 10,317 and 0, seen through F.
+    // The line above, as T-08 has it.
+    (LINE, "C 60782 230782 1196 60782 197 1117 1829 2642 3360 3858"),
+    // Ramp terms 3,220, 10,318 and 0, seen through F.
     ("F E 70000 120 60 60 D 6 2 0 1000 0 L", "A 66780"),
-    ("F E 70000 120 60 60 D 24 2 0 1000 0 L", "A 59683"),
+    ("F E 70000 120 60 60 D 24 2 0 1000 0 L", "A 59682"),
     ("F E 70000 120 60 60 D 0 2 0 1000 0 L", "A 70000"),
+    // 10,318 off at the ends of F: to 54,999, 55,000, 74,999 and 75,000.
+    ("F E 65317 120 60 60 D 24 2 1000 1000 0 L", "X 10"),
+    ("F E 65318 120 60 60 D 24 2 1000 1000 0 L", "A 55000"),
+    ("F E 85317 120 60 60 D 24 2 1000 1000 0 L", "A 74999"),
+    ("F E 85318 120 60 60 D 24 2 1000 1000 0 L", "A 75000"),
     // v = 825 gives density 110, A; 826 gives 111, B.
     ("F G 75000 120 60 60 D 0 2 1650 1000 0 L", "A 75000 - 825 - 110"),
     ("F G 75000 120 60 60 D 0 2 1652 1000 0 L", "B 75000 - 826 - 111"),
@@ -33,7 +38,7 @@ const ANSWERS: &[(&str, &str)] = &[
     // Right clearance 59, F kind, 2 lanes: 60 off.
     ("F E 70000 120 59 60 D 0 2 0 1000 0 L", "A 69940"),
     // V = 0: density 0, A.
-    ("F E 75400 110 20 0 D 24 2 0 920 50 R", "A 60783 - 0 60783 0"),
+    ("F E 75400 110 20 0 D 24 2 0 920 50 R", "A 60782 - 0 60782 0"),
     ("M G 45000 100 0 0 U 200 3 0 250 1000 R", "A 45000 - 0 45000 0"),
     // A value above the upper end is taken as that end; below the lower end, refusal 10.
     ("F G 75001 120 60 60 D 0 2 0 1000 0 L", "A 75000"),
@@ -86,9 +91,9 @@ const ANSWERS: &[(&str, &str)] = &[
     ("F G 60001 120 60 60 D 0 2 3128 1000 0 L 955 946", "- 57300 215025 1564 57268"),
     ("F G 60001 120 60 60 D 0 2 3108 1000 0 L 955 946", "- 57300 215025 1554 57284"),
     // An estimated speed in snow: document 02's words, where source 000 works c from the F before the factor (1,800).
-    ("F E 75400 110 20 0 D 24 2 2000 920 50 R 860 780", "C 52273 173372 1196 52222 230"),
+    ("F E 75400 110 20 0 D 24 2 2000 920 50 R 860 780", "C 52272 173372 1196 52222 230"),
     // Clear weather written out.
-    ("F E 75400 110 20 0 D 24 2 2000 920 50 R 1000 1000", "C 60783 230783 1196 60783 197 1117 1829 2642 3360 3858"),
+    ("F E 75400 110 20 0 D 24 2 2000 920 50 R 1000 1000", "C 60782 230782 1196 60782 197 1117 1829 2642 3360 3858"),
     ("M G 60000 120 60 60 D 0 2 3600 1000 0 L 1000 1000", "D 60000 - 1800 55518 325"),
     // 19: a factor out of range, or below 1,000 on kind M; after 9 and before 10.
     ("F G 75000 120 60 60 D 0 2 3000 1000 0 L 500 1000", "X 10"),
@@ -119,6 +124,9 @@ const LANES: &[(u32, &str, &str)] = &[
     (5, "F E 55009 120 59 0 D 0 2 0 1000 0 L", "X 14"),
     (5, "F G 54999 120 60 60 D 0 2 0 1000 0 L", "X 14"),
     (5, "M G 44999 120 60 60 D 0 2 0 1000 0 L", "X 14"),
+    // 24 ramps take off 10,318 with every count.
+    (5, "F E 65317 120 60 60 D 24 2 0 1000 0 L", "X 14"),
+    (5, "F E 65318 120 60 60 D 24 2 0 1000 0 L", "2"),
     // The least and the greatest count of each kind: 825 a lane is A at F = 75,000 on kind F, 2,200 is E at 60,000 on kind M.
     (1, "F G 75000 120 60 60 D 0 2 1650 1000 0 L", "2"),
     (1, "F G 75000 120 60 60 D 0 2 6600 1000 0 L", "8"),
@@ -141,7 +149,7 @@ const LANES: &[(u32, &str, &str)] = &[
 // Example 2: 3 lanes for D, F of about 67.3 mi/h. Example 3: D, and E with 5,600 vehicles.
 const EXAMPLE_2: &str = "F E 75400 120 60 60 D 18 3 4000 850 150 L";
 const EXAMPLES: &[(&str, &str)] = &[
-    (LINE, "C 60783 230783 1196 60783 197 1117 1829 2642 3360 3858"),
+    (LINE, "C 60782 230782 1196 60782 197 1117 1829 2642 3360 3858"),
     (EXAMPLE_2, "D"),
     ("F G 70000 120 60 60 D 0 3 5000 950 100 L", "D"),
     ("F G 70000 120 60 60 D 0 3 5600 950 100 L", "E"),
@@ -187,6 +195,13 @@ const TOTAL_CLEARANCE: [(u64, u64, u64, u64); 30] = [
     (1, 0, 5_310, 3_845),
     (0, 1, 5_310, 3_845),
     (0, 0, 5_400, 3_900),
+];
+
+// What 0 to 48 ramps in six miles take off, each worked out from the rule of T-08.
+const RAMPS: [u64; 49] = [
+    0, 715, 1_280, 1_799, 2_291, 2_763, 3_220, 3_665, 4_100, 4_527, 4_945, 5_358, 5_764, 6_165, 6_561, 6_952, 7_340, 7_723, 8_103, 8_479,
+    8_853, 9_223, 9_591, 9_955, 10_318, 10_678, 11_035, 11_391, 11_744, 12_095, 12_445, 12_792, 13_138, 13_482, 13_825, 14_165, 14_505,
+    14_842, 15_178, 15_513, 15_847, 16_179, 16_510, 16_839, 17_168, 17_495, 17_821, 18_146, 18_469,
 ];
 
 // Access points, and what they take off.
@@ -395,14 +410,14 @@ impl Paper<'_> {
             self.free_flow_speed(&format!("M E 70000 120 {right} {left} U 0 2 0 1000 0 L"), 70_000 - off - 1_600);
             self.free_flow_speed(&format!("M E 70000 120 {right} {left} T 0 2 0 1000 0 L"), 70_000 - off);
         }
+        for (ramps, off) in RAMPS.iter().enumerate() {
+            self.free_flow_speed(&format!("F E 75000 120 60 60 D {ramps} 2 0 1000 0 L"), 75_000 - off);
+        }
         for (points, off) in ACCESS {
             self.free_flow_speed(&format!("M E 70000 120 60 60 D {points} 2 0 1000 0 L"), 70_000 - off);
         }
         self.every_clearance();
-        // Every count of ramps and of access points, for which the document gives the rule alone.
-        for ramps in 0..=48 {
-            self.answer(&format!("F E 75000 120 60 60 D {ramps} 2 0 1000 0 L"), "A");
-        }
+        // Every count of access points, for which the document gives the rule alone.
         for points in 0..=200 {
             self.answer(&format!("M E 70000 120 60 60 D {points} 2 0 1000 0 L"), "A");
         }

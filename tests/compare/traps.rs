@@ -1,6 +1,6 @@
-// The traps that document 01 names, three of clearances and five of weather (document 02, T-02 and T-03). Each is written out as a
-// formula, with an input at which it answers something else: both implementations must give the right answer there, and the trap its wrong
-// one.
+// The traps that document 01 names, three of clearances, five of weather and two of the ramp term (document 02, T-02, T-03 and T-08). Each
+// is written out as a formula, with an input at which it answers something else: both implementations must give the right answer there, and
+// the trap its wrong one.
 
 use super::engine;
 use super::tally::Tally;
@@ -24,8 +24,8 @@ const TRAPS: &[Trap] = &[
         name: "dividing by the share instead of multiplying",
         letter: 0,
         line: "F E 75400 110 20 0 D 24 2 2000 920 50 R",
-        right: "C 60783 230783 1196 60783 197",
-        wrong: "B 60783 230783 989 60783 163",
+        right: "C 60782 230782 1196 60782 197",
+        wrong: "B 60782 230782 989 60782 163",
         formula: divided_by_share,
     },
     Trap {
@@ -104,8 +104,8 @@ const TRAPS: &[Trap] = &[
         name: "c from the F before the factor",
         letter: 0,
         line: "F E 75400 110 20 0 D 24 2 2000 920 50 R 860 780",
-        right: "C 52273 173372 1196 52222 230",
-        wrong: "C 52273 180010 1196 52237 229",
+        right: "C 52272 173372 1196 52222 230",
+        wrong: "C 52272 180009 1196 52236 229",
         formula: capacity_before_factor,
     },
     Trap {
@@ -123,6 +123,22 @@ const TRAPS: &[Trap] = &[
         right: "X 19",
         wrong: "X 10",
         formula: weather_after_speed,
+    },
+    Trap {
+        name: "the ramp term rounded down",
+        letter: 0,
+        line: "F E 75400 110 20 0 D 24 2 2000 920 50 R",
+        right: "C 60782 230782 1196 60782 197",
+        wrong: "C 60783 230783 1196 60783 197",
+        formula: ramp_term_rounded_down,
+    },
+    Trap {
+        name: "the ramp term rounded up",
+        letter: 0,
+        line: "F E 70000 120 60 60 D 10 2 2000 1000 0 L",
+        right: "B 65055 235055 1000 65055 154",
+        wrong: "B 65054 235054 1000 65054 154",
+        formula: ramp_term_rounded_up,
     },
 ];
 
@@ -233,6 +249,24 @@ fn factor_before_upper_end(method: &Method, case: &Case) -> String {
 fn weather_after_speed(method: &Method, case: &Case) -> String {
     let number = method.curve(case).err().or(planner_refusal(case)).expect("the case is refused");
     format!("X {number}")
+}
+
+// The ramp term before it is rounded, as floats have it: for counts where it is not near a whole number. 10,317.78 for 24, 4,945.48 for 10.
+fn unrounded_ramp_term(case: &Case) -> f64 {
+    3_220.0 * (case.access as f64 / 6.0).powf(0.84)
+}
+
+// The answer with a wrong ramp term, where F without it is not above the upper end.
+fn with_ramp_term(method: &Method, case: &Case, wrong: f64) -> String {
+    with_speed(method, case, free_flow_speed(method, &Case { access: 0, ..*case }) - wrong as u64)
+}
+
+fn ramp_term_rounded_down(method: &Method, case: &Case) -> String {
+    with_ramp_term(method, case, unrounded_ramp_term(case).floor())
+}
+
+fn ramp_term_rounded_up(method: &Method, case: &Case) -> String {
+    with_ramp_term(method, case, unrounded_ramp_term(case).ceil())
 }
 
 // Blanks for tabs, and no more fields than there are wanted.

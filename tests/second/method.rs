@@ -330,11 +330,17 @@ pub fn least(most: u32, holds: impl Fn(u32) -> bool) -> u32 {
     low
 }
 
-// The greatest whole t with t^25 × 6^21 ≤ 3,220^25 × k^21: one less than the least t above it.
+// "the whole t with (2t − 1)^25 × 6^21 ≤ 6,440^25 × k^21 < (2t + 1)^25 × 6^21, and 0 for k = 0". The least t with the second inequality
+// is found, and must have the first. It is not 0, since 6,440^25 × k^21 is above 6^21 from k = 1 on.
 fn ramp_term(ramps: u32) -> u64 {
-    let bound = Big::one().times_power(3_220, 25).times_power(ramps, 21);
-    let above = least(1_000_000, |t| Big::one().times_power(t, 25).times_power(6, 21) > bound);
-    u64::from(above - 1)
+    if ramps == 0 {
+        return 0;
+    }
+    let side = |odd: u32| Big::one().times_power(odd, 25).times_power(6, 21);
+    let middle = Big::one().times_power(6_440, 25).times_power(ramps, 21);
+    let t = least(1_000_000, |t| middle < side(2 * t + 1));
+    assert!(side(2 * t - 1) <= middle, "one t has both inequalities");
+    u64::from(t)
 }
 
 // T(i): the least whole t with i^131 × 10^207 ≤ t^100.

@@ -51,9 +51,9 @@ use Rattle.answer.specs.Boundary.{added_figures, boundary_figures}
 use Rattle.answer.proofs.VolumeLaws.{case_meets, case_meets-down, service_volume-eq}
 
 -- F by the lanes, of the printed case and of the one that 10 refuses
-pub example-speeds : (free_flow_speed_of example.road 2 ≡ 60783) × (free_flow_speed_of example.road 3 ≡ 61583)
-    × (free_flow_speed_of example.road 4 ≡ 62383) × (free_flow_speed_of example.road 5 ≡ 62783) × (free_flow_speed_of example.road 6 ≡ 62783)
-    × (free_flow_speed_of example.road 7 ≡ 62783) × (free_flow_speed_of example.road 8 ≡ 62783)
+pub example-speeds : (free_flow_speed_of example.road 2 ≡ 60782) × (free_flow_speed_of example.road 3 ≡ 61582)
+    × (free_flow_speed_of example.road 4 ≡ 62382) × (free_flow_speed_of example.road 5 ≡ 62782) × (free_flow_speed_of example.road 6 ≡ 62782)
+    × (free_flow_speed_of example.road 7 ≡ 62782) × (free_flow_speed_of example.road 8 ≡ 62782)
 unfolding div_up entry_before entry_after weighted_sum interpolated lane_width_adjustment per_missing_foot right_clearance_row
     right_clearance_adjustment estimated_by uncapped_by free_flow_speed_of
 example-speeds = (simp ramp-24, simp ramp-24, simp ramp-24, simp ramp-24, simp ramp-24, simp ramp-24, simp ramp-24)
@@ -81,10 +81,10 @@ abbrev HasCurve : Road → Weather → (n f c b : ℕ) → Type 0
 HasCurve road weather n f c b =
     (curve_of road weather n ≡ freeway f c b) × (speed_refusals road weather n ≡ refuses 10 false ∷ refuses 10 false ∷ [])
 
-example-curves : HasCurve example.road clear 2 60783 230783 156868 × HasCurve example.road clear 3 61583 231583 153668
-    × HasCurve example.road clear 4 62383 232383 150468 × HasCurve example.road clear 5 62783 232783 148868
-    × HasCurve example.road clear 6 62783 232783 148868 × HasCurve example.road clear 7 62783 232783 148868
-    × HasCurve example.road clear 8 62783 232783 148868
+example-curves : HasCurve example.road clear 2 60782 230782 156872 × HasCurve example.road clear 3 61582 231582 153672
+    × HasCurve example.road clear 4 62382 232382 150472 × HasCurve example.road clear 5 62782 232782 148872
+    × HasCurve example.road clear 6 62782 232782 148872 × HasCurve example.road clear 7 62782 232782 148872
+    × HasCurve example.road clear 8 62782 232782 148872
 unfolding capacity breakpoint adjusted_speed adjusted_capacity adjusted_breakpoint curve_under speed_refusals curve_of
 example-curves =
     let speed = example-speeds in (
@@ -98,7 +98,7 @@ example-curves =
     )
 
 snow-curves : HasCurve (given_in_snow 2 3000).road (factors 950 900) 2 71250 216000 93150
-    × HasCurve example.road (factors 860 780) 2 52273 173372 116148 × HasCurve example.road (factors 860 780) 3 52961 173909 114474
+    × HasCurve example.road (factors 860 780) 2 52272 173372 116150 × HasCurve example.road (factors 860 780) 3 52960 173908 114476
 unfolding uncapped_by free_flow_speed_of capacity breakpoint adjusted_speed adjusted_capacity adjusted_breakpoint curve_under speed_refusals curve_of
 snow-curves =
     let speed = example-speeds in ((refl, refl), (simp speed.0, simp speed.0), (simp speed.1, simp speed.1))
@@ -137,7 +137,7 @@ module _ (case : Case) (curve : Curve) (a : Accepted case) (own : case_curve cas
 
 pub volumes : VolumesOf example 1117 1829 2642 3360 3858
 unfolding div_up ends_at heavy_factor_of flow_rate_of fall_share_by speed density meets_limit density_limit keeps ends
-volumes = five example (freeway 60783 230783 156868) example-accepted example-curves.0.0 1117 1829 2642 3360 3858 tt tt tt tt tt
+volumes = five example (freeway 60782 230782 156872) example-accepted example-curves.0.0 1117 1829 2642 3360 3858 tt tt tt tt tt
 
 given-volumes : VolumesOf (given_in_snow 2 3000) 1566 2506 3294 3884 4320
 unfolding div_up ends_at heavy_factor_of flow_rate_of fall_share_by speed density meets_limit density_limit keeps ends
@@ -145,10 +145,10 @@ given-volumes =
     five (given_in_snow 2 3000) (freeway 71250 216000 93150) snow-accepted.0 snow-curves.0.0 1566 2506 3294 3884 4320 tt tt tt tt
     tt
 
-pub snow-volumes : VolumesOf (example_in_snow 2000) 961 1572 2221 2636 2898
+pub snow-volumes : VolumesOf (example_in_snow 2000) 960 1572 2221 2636 2898
 unfolding div_up ends_at heavy_factor_of flow_rate_of fall_share_by speed density meets_limit density_limit keeps ends
 snow-volumes =
-    five (example_in_snow 2000) (freeway 52273 173372 116148) snow-accepted.1 snow-curves.1.0 961 1572 2221 2636 2898 tt tt tt tt
+    five (example_in_snow 2000) (freeway 52272 173372 116150) snow-accepted.1 snow-curves.1.0 960 1572 2221 2636 2898 tt tt tt tt
     tt
 
 -- the case with 8 lanes of specs/SearchOrder
@@ -167,10 +167,10 @@ eight-lanes-volumes =
 
 -- ---- the figures
 -- the printed line's eleven, a case that 10 refuses, and those of the two in snow
-answers-shown : (answered example ≡ 0 ∷ 3 ∷ 60783 ∷ 230783 ∷ 1196 ∷ 60783 ∷ 197 ∷ 1117 ∷ 1829 ∷ 2642 ∷ 3360 ∷ 3858 ∷ [])
+answers-shown : (answered example ≡ 0 ∷ 3 ∷ 60782 ∷ 230782 ∷ 1196 ∷ 60782 ∷ 197 ∷ 1117 ∷ 1829 ∷ 2642 ∷ 3360 ∷ 3858 ∷ [])
     × (answered estimated ≡ 10 ∷ [])
     × (answered (given_in_snow 2 3000) ≡ 0 ∷ 3 ∷ 71250 ∷ 216000 ∷ 1500 ∷ 66271 ∷ 227 ∷ 1566 ∷ 2506 ∷ 3294 ∷ 3884 ∷ 4320 ∷ [])
-    × (answered (example_in_snow 2000) ≡ 0 ∷ 3 ∷ 52273 ∷ 173372 ∷ 1196 ∷ 52222 ∷ 230 ∷ 961 ∷ 1572 ∷ 2221 ∷ 2636 ∷ 2898 ∷ [])
+    × (answered (example_in_snow 2000) ≡ 0 ∷ 3 ∷ 52272 ∷ 173372 ∷ 1196 ∷ 52222 ∷ 230 ∷ 960 ∷ 1572 ∷ 2221 ∷ 2636 ∷ 2898 ∷ [])
 unfolding in_order refusal_of div_up uncapped_by free_flow_speed_of weather_unfit road_refusals load_refusals field_refusals adjusted_speed
     speed_refusals refusals capacity breakpoint adjusted_capacity adjusted_breakpoint curve_under curve_of heavy_factor_of flow_rate_of fall_share_by speed shown_speed density shown_density
     density_limit density_letter letter_at performance measures graded
@@ -183,7 +183,7 @@ answers-shown =
       simp (example-speeds.0, snow.0, snow.1, snow.2, snow.3, snow.4),
     )
 
-pub example-answer : answered example ≡ 0 ∷ 3 ∷ 60783 ∷ 230783 ∷ 1196 ∷ 60783 ∷ 197 ∷ 1117 ∷ 1829 ∷ 2642 ∷ 3360 ∷ 3858 ∷ []
+pub example-answer : answered example ≡ 0 ∷ 3 ∷ 60782 ∷ 230782 ∷ 1196 ∷ 60782 ∷ 197 ∷ 1117 ∷ 1829 ∷ 2642 ∷ 3360 ∷ 3858 ∷ []
 example-answer = answers-shown.0
 
 pub estimated-answer : answered estimated ≡ 10 ∷ []
@@ -194,10 +194,10 @@ pub snow-answer : answered (given_in_snow 2 3000)
 snow-answer = answers-shown.2
 
 pub example-in-snow : answered (example_in_snow 2000)
-    ≡ 0 ∷ 3 ∷ 52273 ∷ 173372 ∷ 1196 ∷ 52222 ∷ 230 ∷ 961 ∷ 1572 ∷ 2221 ∷ 2636 ∷ 2898 ∷ []
+    ≡ 0 ∷ 3 ∷ 52272 ∷ 173372 ∷ 1196 ∷ 52222 ∷ 230 ∷ 960 ∷ 1572 ∷ 2221 ∷ 2636 ∷ 2898 ∷ []
 example-in-snow = answers-shown.3
 
-pub example-figures : answers.values (answer_to example) ≡ 3 ∷ 60783 ∷ 230783 ∷ 1196 ∷ 60783 ∷ 197 ∷ 1117 ∷ 1829 ∷ 2642 ∷ 3360 ∷ 3858 ∷ []
+pub example-figures : answers.values (answer_to example) ≡ 3 ∷ 60782 ∷ 230782 ∷ 1196 ∷ 60782 ∷ 197 ∷ 1117 ∷ 1829 ∷ 2642 ∷ 3360 ∷ 3858 ∷ []
 example-figures = ap (drop 1) example-answer
 
 -- the lanes of the printed case, with more demand, with a letter number past E; in snow; the order 16, 1, 19

@@ -1,4 +1,5 @@
--- The boundary sections of document 01, and of T-03 of document 02, that this layer adds to those of method/specs/Boundary.
+-- The boundary sections of document 01, with the ramp term of T-08, and of T-03 of document 02, that this layer adds to those of
+-- method/specs/Boundary.
 --   example_with demand   the printed line's case with another demand
 --   example_in_snow demand   the same with speed factor 860 and capacity factor 780
 --   estimated            F E 60000 120 0 0 D 6 2 2000 1000 0 L: refused with 10, and 4 lanes are the least for every letter
@@ -52,7 +53,7 @@ counted case n = refusal_number (lanes_answer case n) ∷ lanes.values (lanes_an
 -- snow, at a given and at an estimated speed; the lanes of the latter; the order 16, 1, 19 in the lanes question.
 unfoldable pub added_figures : List Figure
 added_figures =
-    figure (answered example) (0 ∷ 3 ∷ 60783 ∷ 230783 ∷ 1196 ∷ 60783 ∷ 197 ∷ 1117 ∷ 1829 ∷ 2642 ∷ 3360 ∷ 3858 ∷ [])
+    figure (answered example) (0 ∷ 3 ∷ 60782 ∷ 230782 ∷ 1196 ∷ 60782 ∷ 197 ∷ 1117 ∷ 1829 ∷ 2642 ∷ 3360 ∷ 3858 ∷ [])
     ∷ figure (counted example 3) (0 ∷ 2 ∷ [])
     ∷ figure (counted (example_with 2643) 3) (0 ∷ 3 ∷ [])
     ∷ figure (counted (example_with 99999) 3) (14 ∷ [])
@@ -60,7 +61,7 @@ added_figures =
     ∷ figure (answered estimated) (10 ∷ [])
     ∷ figure (counted estimated 1) (0 ∷ 4 ∷ [])
     ∷ figure (answered (given_in_snow 2 3000)) (0 ∷ 3 ∷ 71250 ∷ 216000 ∷ 1500 ∷ 66271 ∷ 227 ∷ 1566 ∷ 2506 ∷ 3294 ∷ 3884 ∷ 4320 ∷ [])
-    ∷ figure (answered (example_in_snow 2000)) (0 ∷ 3 ∷ 52273 ∷ 173372 ∷ 1196 ∷ 52222 ∷ 230 ∷ 961 ∷ 1572 ∷ 2221 ∷ 2636 ∷ 2898 ∷ [])
+    ∷ figure (answered (example_in_snow 2000)) (0 ∷ 3 ∷ 52272 ∷ 173372 ∷ 1196 ∷ 52222 ∷ 230 ∷ 960 ∷ 1572 ∷ 2221 ∷ 2636 ∷ 2898 ∷ [])
     ∷ figure (counted (example_in_snow 2222) 3) (0 ∷ 3 ∷ [])
     ∷ figure (counted refused_by19 1 ++ (counted refused_by19 6 ++ (counted refused_by_all 1 ++ counted refused_by_all 0)))
     (19 ∷ 16 ∷ 1 ∷ 16 ∷ [])

@@ -55,7 +55,7 @@ abbrev pub volumes_in : Result DailyGrade Refusal → List ℕ
 volumes_in a = map (daily_volume_in a) (1 ∷ 2 ∷ 3 ∷ 4 ∷ 5 ∷ [])
 
 abbrev pub hour_figures : List ℕ
-hour_figures = 3 ∷ 60783 ∷ 230783 ∷ 1196 ∷ 60783 ∷ 197 ∷ 1117 ∷ 1829 ∷ 2642 ∷ 3360 ∷ 3858 ∷ []
+hour_figures = 3 ∷ 60782 ∷ 230782 ∷ 1196 ∷ 60782 ∷ 197 ∷ 1117 ∷ 1829 ∷ 2642 ∷ 3360 ∷ 3858 ∷ []
 
 abbrev pub printed_figures : List ℕ
 printed_figures = hour_figures ++ (22565 ∷ 36949 ∷ 53373 ∷ 67878 ∷ 77939 ∷ [])
@@ -65,7 +65,7 @@ rural_figures = hour_figures ++ (18462 ∷ 30231 ∷ 43669 ∷ 55537 ∷ 63768 �
 
 abbrev pub snow_figures : List ℕ
 snow_figures =
-    3 ∷ 52273 ∷ 173372 ∷ 1196 ∷ 52222 ∷ 230 ∷ 961 ∷ 1572 ∷ 2221 ∷ 2636 ∷ 2898 ∷ 19414 ∷ 31757 ∷ 44868 ∷ 53252 ∷ 58545 ∷ []
+    3 ∷ 52272 ∷ 173372 ∷ 1196 ∷ 52222 ∷ 230 ∷ 960 ∷ 1572 ∷ 2221 ∷ 2636 ∷ 2898 ∷ 19393 ∷ 31757 ∷ 44868 ∷ 53252 ∷ 58545 ∷ []
 
 abbrev pub NoTrafficMeetsA : Type 0
 NoTrafficMeetsA = MeetsByDay example urban 0 1

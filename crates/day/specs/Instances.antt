@@ -22,10 +22,10 @@ use Rattle.checks.specs.Numbers.{refusal_number}
 use Rattle.day.specs.Days.{day_answer, day_content, values}
 
 abbrev pub at2000 : List ℕ
-at2000 = 0 ∷ 3 ∷ 60783 ∷ 230783 ∷ 1196 ∷ 60783 ∷ 197 ∷ 1117 ∷ 1829 ∷ 2642 ∷ 3360 ∷ 3858 ∷ []
+at2000 = 0 ∷ 3 ∷ 60782 ∷ 230782 ∷ 1196 ∷ 60782 ∷ 197 ∷ 1117 ∷ 1829 ∷ 2642 ∷ 3360 ∷ 3858 ∷ []
 
 abbrev pub at2643 : List ℕ
-at2643 = 0 ∷ 4 ∷ 60783 ∷ 230783 ∷ 1581 ∷ 60780 ∷ 261 ∷ 1117 ∷ 1829 ∷ 2642 ∷ 3360 ∷ 3858 ∷ []
+at2643 = 0 ∷ 4 ∷ 60782 ∷ 230782 ∷ 1581 ∷ 60779 ∷ 261 ∷ 1117 ∷ 1829 ∷ 2642 ∷ 3360 ∷ 3858 ∷ []
 
 abbrev pub refused_with : ℕ → List ℕ
 refused_with n = n ∷ 0 ∷ 0 ∷ 0 ∷ 0 ∷ 0 ∷ 0 ∷ 0 ∷ 0 ∷ 0 ∷ 0 ∷ 0 ∷ []

@@ -51,7 +51,7 @@ given-told = (
   told-by level_freeway 825 826 1000 1000 1000 1000 1 2 refl refl refl,
 )
 
--- the printed line's road has F = 60,783
+-- the printed line's road has F = 60,782
 pub instances-shown : Shown forecast_instances
 unfolding div_up weather_unfit road_refusals load_refusals field_refusals adjusted_speed speed_refusals refusals capacity breakpoint
     adjusted_capacity adjusted_breakpoint curve_under curve_of heavy_factor_of flow_rate_of fall_share_by speed shown_speed density shown_density

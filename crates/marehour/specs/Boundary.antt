@@ -1,4 +1,5 @@
--- The boundary sections of document 01, and of T-03 of document 02: one list, those of the layers below with what this layer adds.
+-- The boundary sections of document 01, with the ramp term of T-08, and of T-03 of document 02: one list, those of the layers below with
+-- what this layer adds.
 --   printed_line            the line of document 01
 --   printed_line_with v t   the same with another demand and another terrain
 --   printed_answer          what `los` prints for it
@@ -35,10 +36,10 @@ abbrev read_as : String → List ℕ
 read_as line = refusal_number (read_line (bytes_of line)) ∷ values (read_line (bytes_of line))
 
 abbrev pub printed_answer : String
-printed_answer = "C\t60783\t230783\t1196\t60783\t197\t1117\t1829\t2642\t3360\t3858\n"
+printed_answer = "C\t60782\t230782\t1196\t60782\t197\t1117\t1829\t2642\t3360\t3858\n"
 
 abbrev pub snow_answer : String
-snow_answer = "C\t52273\t173372\t1196\t52222\t230\t961\t1572\t2221\t2636\t2898\n"
+snow_answer = "C\t52272\t173372\t1196\t52222\t230\t960\t1572\t2221\t2636\t2898\n"
 
 abbrev pub longest : String
 longest = "M\tG\t99999\t99999\t99999\t99999\tT\t99999\t99999\t99999\t99999\t99999\tL\t99999\t99999"

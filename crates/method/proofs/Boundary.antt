@@ -4,7 +4,7 @@
 -- Assumes nothing.
 use Rattle.std.proofs.Common.{◌≡◌, refl, arith}
 use Rattle.numbers.specs.Division.{div_up}
-use Rattle.numbers.specs.Search.{starts_at, ends_at}
+use Rattle.numbers.specs.Search.{starts_at}
 use Rattle.checks.specs.Figures.{Shown}
 use Rattle.checks.specs.Numbers.{in_order, refusal_of}
 use Rattle.powers.specs.Power.{reaches_power, power}
@@ -16,27 +16,33 @@ use Rattle.curve.specs.Service.{density, shown_density, density_limit, density_l
 use Rattle.road.specs.Interpolation.{entry_before, entry_after, weighted_sum, interpolated}
 use Rattle.road.specs.Adjustments.{lane_width_adjustment, per_missing_foot, right_clearance_row, right_clearance_adjustment}
 use Rattle.road.specs.Adjustments.{total_clearance, total_clearance_row, total_clearance_adjustment, access_adjustment}
-use Rattle.road.specs.RampTerm.{ramp_at_most, ramp_term}
+use Rattle.road.specs.RampTerm.{is_ramp_term, ramp_term}
 use Rattle.road.specs.FreeFlowSpeed.{estimated_by, uncapped_by, free_flow_speed_of}
 use Rattle.road.specs.Refusals.{weather_unfit, road_refusals, load_refusals, field_refusals}
-use Rattle.road.proofs.RampLaws.{ramp_term-eq}
+use Rattle.road.proofs.RampLaws.{ramp_term-eq, ramp_term-zero}
 use Rattle.method.specs.Refusals.{speed_refusals, refusals}
 use Rattle.method.specs.Checked.{curve_of}
 use Rattle.method.specs.Flow.{heavy_factor_of, flow_rate_of}
 use Rattle.method.specs.Assess.{measures}
-use Rattle.method.specs.Boundary.{limit_figures, order_figures, weather_figures, speed_figures, clearance_figures, boundary_figures}
+use Rattle.method.specs.Boundary.{limit_figures, order_figures, weather_figures, speed_figures, ramp_figures, clearance_figures}
+use Rattle.method.specs.Boundary.{boundary_figures}
 
 pub ramp-6 : ramp_term 6 ≡ 3220
-unfolding ends_at ramp_at_most
+unfolding is_ramp_term
 ramp-6 = ramp_term-eq 6 3220 (omega arith) tt
 
-pub ramp-24 : ramp_term 24 ≡ 10317
-unfolding ends_at ramp_at_most
-ramp-24 = ramp_term-eq 24 10317 (omega arith) tt
+pub ramp-24 : ramp_term 24 ≡ 10318
+unfolding is_ramp_term
+ramp-24 = ramp_term-eq 24 10318 (omega arith) tt
 
-ramp-0 : ramp_term 0 ≡ 0
-unfolding ends_at ramp_at_most
-ramp-0 = ramp_term-eq 0 0 (omega arith) tt
+other-ramps : (ramp_term 1 ≡ 715) × (ramp_term 10 ≡ 4945) × (ramp_term 36 ≡ 14505) × (ramp_term 48 ≡ 18469)
+unfolding is_ramp_term
+other-ramps = (
+  ramp_term-eq 1 715 (omega arith) tt,
+  ramp_term-eq 10 4945 (omega arith) tt,
+  ramp_term-eq 36 14505 (omega arith) tt,
+  ramp_term-eq 48 18469 (omega arith) tt,
+)
 
 pub power-500 : power 500 ≡ 403321
 unfolding starts_at reaches_power
@@ -82,12 +88,18 @@ speeds-shown : Shown speed_figures
 unfolding div_up entry_before entry_after weighted_sum interpolated lane_width_adjustment per_missing_foot right_clearance_row
     right_clearance_adjustment total_clearance total_clearance_row total_clearance_adjustment access_adjustment estimated_by
     uncapped_by free_flow_speed_of speed_figures
-speeds-shown = (refl, (refl, (simp ramp-0, (refl, (refl, (refl, weather-shown))))))
+speeds-shown = (refl, (refl, (simp ramp_term-zero, (refl, (refl, (refl, weather-shown))))))
+
+ramps-shown : Shown ramp_figures
+unfolding div_up entry_before entry_after weighted_sum interpolated lane_width_adjustment per_missing_foot right_clearance_row
+    right_clearance_adjustment estimated_by uncapped_by free_flow_speed_of weather_unfit road_refusals load_refusals field_refusals adjusted_speed
+    speed_refusals refusals ramp_figures
+ramps-shown = let r = other-ramps in (simp (r.0, r.1, r.2, r.3), (simp ramp-24, (simp ramp-24, speeds-shown)))
 
 clearances-shown : Shown clearance_figures
 unfolding div_up entry_before entry_after weighted_sum interpolated per_missing_foot right_clearance_row right_clearance_adjustment total_clearance
     total_clearance_row total_clearance_adjustment clearance_figures
-clearances-shown = (refl, (refl, (refl, (refl, (refl, (refl, (refl, (refl, (refl, (refl, (refl, (refl, speeds-shown))))))))))))
+clearances-shown = (refl, (refl, (refl, (refl, (refl, (refl, (refl, (refl, (refl, (refl, (refl, (refl, ramps-shown))))))))))))
 
 pub boundary-shown : Shown boundary_figures
 unfolding in_order refusal_of div_up entry_before entry_after weighted_sum interpolated lane_width_adjustment per_missing_foot right_clearance_row
@@ -98,7 +110,7 @@ unfolding in_order refusal_of div_up entry_before entry_after weighted_sum inter
 boundary-shown = (
   simp ramp-24,
   (
-    simp (ramp-6, ramp-24, ramp-0),
+    simp (ramp-6, ramp-24, ramp_term-zero),
     (
       refl,
       (

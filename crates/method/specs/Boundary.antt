@@ -1,12 +1,12 @@
--- The boundary sections of document 01, with clearances and weather by document 02, as far as this layer can state them: one list, which
--- the layers above make longer.
+-- The boundary sections of document 01, with clearances, weather and ramps by document 02, as far as this layer can state them: one list,
+-- which the layers above make longer.
 --   given kind f w   a road of given speed f and lane width w
 --   two_lanes_under weather road v   its case with two lanes and demand v, no heavy vehicles, level, under weather
 --   two_lanes road v  the same in clear weather
 --   example           the printed line's case
 --   refused_by_all    a case that breaks 1 to 9, 19 and 10
---   boundary_figures, clearance_figures, speed_figures, weather_figures, order_figures, limit_figures   the list, and its last parts, each
---                    the end of the one before
+--   boundary_figures, clearance_figures, ramp_figures, speed_figures, weather_figures, order_figures, limit_figures   the list, and its last
+--                    parts, each the end of the one before
 -- Assumes nothing.
 use Rattle.std.specs.Prelude.{List, [], ◌∷◌, map, ℕ}
 use Rattle.checks.specs.Figures.{Figure, figure}
@@ -175,6 +175,19 @@ speed_figures =
     ∷ figure (free_flow_speed_of (road Kind.Multilane Way.Given 60000 100 0 0 Median.Undivided 200) 2 ∷ []) (60000 ∷ [])
     ∷ weather_figures
 
+-- Ramps (document 02, T-08): the terms of the fewest and the most, and of 10 and 36, whose exact terms, 4,945.48 and 14,504.51, are nearest
+-- a half; with 24, the bases whose estimate is the lower end of F, one less, the upper end, one less and one more; 10 refuses the second.
+unfoldable pub ramp_figures : List Figure
+ramp_figures =
+    figure (map ramp_term (1 ∷ 10 ∷ 36 ∷ 48 ∷ [])) (715 ∷ 4945 ∷ 14505 ∷ 18469 ∷ [])
+    ∷ figure (map (λ base. free_flow_speed_of (ramps base) 2) (65318 ∷ 65317 ∷ 85318 ∷ 85317 ∷ 85319 ∷ []))
+    (55000 ∷ 54999 ∷ 75000 ∷ 74999 ∷ 75000 ∷ [])
+    ∷ figure (map (λ base. refusal (two_lanes (ramps base) 1000)) (65318 ∷ 65317 ∷ [])) (0 ∷ 10 ∷ [])
+    ∷ speed_figures
+  where
+    ramps : ℕ → Road
+    ramps base = road Kind.Freeway Way.Estimated base 120 60 60 Median.Divided 24
+
 -- Clearances between the table's entries, at its ends and past them (document 02, T-02).
 unfoldable pub clearance_figures : List Figure
 clearance_figures =
@@ -190,16 +203,16 @@ clearance_figures =
     ∷ figure (total_off Median.Undivided 400 0) (0 ∷ 0 ∷ [])
     ∷ figure (total_off Median.Divided 400 0) (1300 ∷ 1300 ∷ [])
     ∷ figure (total_off Median.Divided 0 400) (1300 ∷ 1300 ∷ [])
-    ∷ speed_figures
+    ∷ ramp_figures
 
 -- Of a case that is accepted 0, and then letter, F, c, v, speed and density, of one that is refused its number. A is 1 and F is 6.
--- Starred in document 01: all down to the right clearance of 59, which takes off 60 by document 02. Not starred: no demand; two letters
--- that the shown speed would miss; a case that breaks 1 and 2; the curve of a case and its refusal; more clearances; snow and rain; the
--- order of refusals; the ends that they leave.
+-- Starred in document 01: all down to the right clearance of 59, which takes off 60 by document 02; by document 02 the printed line and 24
+-- ramps have other figures too. Not starred: no demand; two letters that the shown speed would miss; a case that breaks 1 and 2; the curve
+-- of a case and its refusal; more clearances; ramps; snow and rain; the order of refusals; the ends that they leave.
 unfoldable pub boundary_figures : List Figure
 boundary_figures =
-    figure (assessed example) (0 ∷ 3 ∷ 60783 ∷ 230783 ∷ 1196 ∷ 60783 ∷ 197 ∷ [])
-    ∷ figure (ramp_term 6 ∷ ramp_term 24 ∷ ramp_term 0 ∷ []) (3220 ∷ 10317 ∷ 0 ∷ [])
+    figure (assessed example) (0 ∷ 3 ∷ 60782 ∷ 230782 ∷ 1196 ∷ 60782 ∷ 197 ∷ [])
+    ∷ figure (ramp_term 6 ∷ ramp_term 24 ∷ ramp_term 0 ∷ []) (3220 ∷ 10318 ∷ 0 ∷ [])
     ∷ figure (density_and_letter Kind.Freeway 75000 825) (110 ∷ 1 ∷ [])
     ∷ figure (density_and_letter Kind.Freeway 75000 826) (111 ∷ 2 ∷ [])
     ∷ figure (assessed (two_lanes (given Kind.Freeway 55000 120) 4500)) (0 ∷ 5 ∷ 55000 ∷ 225000 ∷ 2250 ∷ 50000 ∷ 450 ∷ [])

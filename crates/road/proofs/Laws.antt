@@ -1,15 +1,15 @@
 -- The laws that specs/Laws states, proved: each by the law of the file beside its definition.
---   straight-between-entries, clearances-are-whole, right-clearance-by-tenths, ramp-term-is-greatest, estimate-never-below-zero,
+--   straight-between-entries, clearances-are-whole, right-clearance-by-tenths, ramp-term-is-nearest, estimate-never-below-zero,
 --   free-flow-speed-never-falls-with-lanes, weather-fits-exactly
 -- Assumes nothing.
 use Rattle.std.proofs.Common.{◌≡◌, ◌≤◌, min, arith}
 use Rattle.road.specs.FreeFlowSpeed.{estimated_by}
-use Rattle.road.specs.Laws.{StraightBetweenEntries, ClearancesAreWhole, RightClearanceByTenths, RampTermIsGreatest, EstimateNeverBelowZero}
+use Rattle.road.specs.Laws.{StraightBetweenEntries, ClearancesAreWhole, RightClearanceByTenths, RampTermIsNearest, EstimateNeverBelowZero}
 use Rattle.road.specs.Laws.{FreeFlowSpeedNeverFallsWithLanes, WeatherFitsExactly}
 use Rattle.road.proofs.InterpolationLaws.{weighted_sum-between}
 use Rattle.road.proofs.AdjustmentLaws.{right_clearance_adjustment-whole, right_clearance_adjustment-tenths}
 use Rattle.road.proofs.AdjustmentLaws.{total_clearance_adjustment-whole}
-use Rattle.road.proofs.RampLaws.{ramp_term-rule}
+use Rattle.road.proofs.RampLaws.{ramp_term-nearest}
 use Rattle.road.proofs.RefusalLaws.{road-speed-low, weather-exactly}
 use Rattle.road.proofs.FreeFlowSpeedLaws.{freeway_terms-le, multilane_terms-le, free_flow_speed_of-mono}
 
@@ -25,8 +25,8 @@ clearances-are-whole = (
 pub right-clearance-by-tenths : RightClearanceByTenths
 right-clearance-by-tenths = right_clearance_adjustment-tenths
 
-pub ramp-term-is-greatest : RampTermIsGreatest
-ramp-term-is-greatest = ramp_term-rule
+pub ramp-term-is-nearest : RampTermIsNearest
+ramp-term-is-nearest = ramp_term-nearest
 
 pub estimate-never-below-zero : EstimateNeverBelowZero
 unfolding estimated_by

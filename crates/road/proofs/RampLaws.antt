@@ -1,69 +1,113 @@
 -- The ramp term (specs/RampTerm): the table's rule, by one test that is computed over all 49 entries.
---   ramp_term-eq    it is t where t is at most the exact term and t + 1 is not
---   ramp_term-le    it is at most 19,000
---   ramp_table-at   the entry at k is the term of k ramps
---   ramp_term-rule  it is at most the exact term, and no greater number is, for k to 48
---   table_entries   for tactics: ramp_table-at
+--   ramp_term-eq       it is t where t fits the rule
+--   ramp_term-le       it is at most 19,000
+--   ramp_table-at      the entry at k is the term of k ramps
+--   ramp_term-zero     with no ramps it is 0
+--   ramp_term-nearest  the same, and with 1 to 48 it is above 0, fits the rule, and no other number does
+--   table_entries      for tactics: ramp_table-at
 -- Assumes nothing.
-use Rattle.std.proofs.Common.{◌≡◌, refl, Bool, ◌&&◌, ◌∷◌, ℕ, ◌*◌, ◌^◌, ◌≤◌, arith, le_trans, mul-le-mul_right, T, leb, leb→le, le→leb}
-use Rattle.std.proofs.Common.{get_or, length}
+use Rattle.std.proofs.Common.{◌≡◌, refl, sym, ◌∙◌, Bool, ◌&&◌, ℕ, zero, suc, ◌+◌, ◌*◌, ◌-◌, ◌^◌, ◌≤◌, arith, T, leb, ltb}
+use Rattle.std.proofs.Common.{leb→le, ltb→lt, eqb→eq, le_trans, le_antisymm, lt_of_lt_of_le, lt_irrefl, mul-le-mul_left, mul-le-mul_right}
+use Rattle.std.proofs.Common.{lit≤, get_or, length}
+use Rattle.std.proofs.Math.Decide.{dec_le}
 use Rattle.std.proofs.Math.Nat.{pow-le-pow_left}
-use Rattle.numbers.specs.Search.{DownwardClosed, ends_at}
 use Rattle.numbers.specs.Table.{every_entry}
-use Rattle.numbers.proofs.SearchLaws.{greatest-le, greatest-last, ends_at-passes, ends_at-most}
+use Rattle.numbers.proofs.SearchLaws.{greatest-le, greatest-eq}
 use Rattle.numbers.proofs.BoolLaws.{and-left, and-right}
 use Rattle.numbers.proofs.TableLaws.{every_entry-at}
-use Rattle.road.specs.RampTerm.{ramp_at_most, ramp_term}
+use Rattle.road.specs.RampTerm.{is_ramp_term, ramp_term}
+use Rattle.road.specs.Laws.{RampRoundsTo, RampTermIsNearest}
 use Rattle.road.proofs.RampTable.{ramp_table}
 
-ramp_at_most-falls : (k : ℕ) → DownwardClosed (ramp_at_most k)
-unfolding ramp_at_most
-ramp_at_most-falls k s t h e =
-    le→leb (s ^ 25 * 6 ^ 21) (3220 ^ 25 * k ^ 21)
-    (le_trans (mul-le-mul_right (6 ^ 21) (pow-le-pow_left h 25)) (leb→le (t ^ 25 * 6 ^ 21) (3220 ^ 25 * k ^ 21) e))
-
-pub ramp_term-eq : (k t : ℕ) → t ≤ 19000 → T (ends_at (ramp_at_most k) t) → ramp_term k ≡ t
-unfolding ramp_term
-ramp_term-eq k t h e = greatest-last (ramp_at_most k) 19000 t (ramp_at_most-falls k) h e
-
-pub ramp_term-le : (k : ℕ) → ramp_term k ≤ 19000
-unfolding ramp_term
-ramp_term-le k = greatest-le (ramp_at_most k) 19000
-
--- the test of an entry t at place k: it is the last that is at most the term of k ramps
+-- the test of an entry t at place k: it is the term of k ramps
 fits : ℕ → ℕ → ℕ → Bool
-fits k before t = leb t 19000 && ends_at (ramp_at_most k) t
+fits k before t = leb t 19000 && is_ramp_term k t
 
 table-fits : T (every_entry fits ramp_table)
-unfolding ramp_table fits ends_at ramp_at_most
+unfolding ramp_table fits is_ramp_term
 table-fits = tt
 
 table-length : length ramp_table ≡ 49
 unfolding ramp_table
 table-length = refl
 
+rounds_to : (k t : ℕ) → 1 ≤ k → T (is_ramp_term k t) → RampRoundsTo k t
+unfolding is_ramp_term
+rounds_to zero t h e = absurd (omega arith)
+rounds_to (suc k) t h e =
+    let exact = 6440 ^ 25 * suc k ^ 21 in
+    let low = (2 * t - 1) ^ 25 * 6 ^ 21 in
+    let high = (2 * t + 1) ^ 25 * 6 ^ 21 in (
+      leb→le low exact (and-left (leb low exact) (ltb exact high) e),
+      ltb→lt exact high (and-right (leb low exact) (ltb exact high) e),
+    )
+
+-- where t fits the rule, 6,440^25 × k^21 does not reach (2t + 1)^25 × 6^21
+beyond : {A : Type 0} (k t : ℕ) → RampRoundsTo k t → (2 * t + 1) ^ 25 * 6 ^ 21 ≤ 6440 ^ 25 * k ^ 21 → A
+beyond k t p h = absurd (lt_irrefl (6440 ^ 25 * k ^ 21) (lt_of_lt_of_le p.1 h))
+
+-- of two numbers that fit the rule the first is not the greater
+rounds_to-le : (k s t : ℕ) → RampRoundsTo k s → RampRoundsTo k t → s ≤ t
+rounds_to-le k s t p q = go (dec_le s t)
+  where
+    go : Dec (s ≤ t) → s ≤ t
+    go (yes l) = l
+    go (no l) =
+        let next : 2 * t + 1 ≤ 2 * s - 1 = omega arith in
+        beyond k t q (le_trans (mul-le-mul_right (6 ^ 21) (pow-le-pow_left next 25)) p.0)
+
+rounds_to-unique : (k s t : ℕ) → RampRoundsTo k s → RampRoundsTo k t → s ≡ t
+rounds_to-unique k s t p q = le_antisymm (rounds_to-le k s t p q) (rounds_to-le k t s q p)
+
+-- the exact term of one ramp is above half a thousandth, and so is that of more
+rounds_to-pos : (k t : ℕ) → 1 ≤ k → RampRoundsTo k t → 1 ≤ t
+rounds_to-pos k zero h p =
+    let one : (2 * 0 + 1) ^ 25 * 6 ^ 21 ≤ 6440 ^ 25 * 1 ^ 21 = lit≤ tt in
+    beyond k 0 p (le_trans one (mul-le-mul_left (6440 ^ 25) (pow-le-pow_left h 21)))
+rounds_to-pos k (suc t) h p = omega arith
+
+is_ramp_term-unique : (k s t : ℕ) → T (is_ramp_term k s) → T (is_ramp_term k t) → s ≡ t
+unfolding is_ramp_term
+is_ramp_term-unique zero s t p q = eqb→eq s 0 p ∙ sym (eqb→eq t 0 q)
+is_ramp_term-unique (suc k) s t p q =
+    let above : 1 ≤ suc k = omega arith in rounds_to-unique (suc k) s t (rounds_to (suc k) s above p) (rounds_to (suc k) t above q)
+
+pub ramp_term-eq : (k t : ℕ) → t ≤ 19000 → T (is_ramp_term k t) → ramp_term k ≡ t
+unfolding ramp_term
+ramp_term-eq k t h e = greatest-eq (is_ramp_term k) 19000 t h e (λ s l u p. omega (arith, is_ramp_term-unique k s t p e))
+
+pub ramp_term-le : (k : ℕ) → ramp_term k ≤ 19000
+unfolding ramp_term
+ramp_term-le k = greatest-le (is_ramp_term k) 19000
+
 module _ (k : ℕ) (h : k ≤ 48) where
   entry : ℕ
   entry = get_or ramp_table k 0
 
-  entry-fits : T (fits k (get_or (0 ∷ ramp_table) k 0) entry)
-  unfolding entry
+  entry-fits : T (leb entry 19000 && is_ramp_term k entry)
+  unfolding entry fits
   entry-fits = every_entry-at fits ramp_table table-fits k (omega (arith, table-length))
 
-  entry-ends : T (ends_at (ramp_at_most k) entry)
-  unfolding fits
-  entry-ends = and-right (leb entry 19000) (ends_at (ramp_at_most k) entry) entry-fits
+  entry-term : T (is_ramp_term k entry)
+  entry-term = and-right (leb entry 19000) (is_ramp_term k entry) entry-fits
 
   pub ramp_table-at : ramp_term k ≡ get_or ramp_table k 0
-  unfolding entry fits
-  ramp_table-at = ramp_term-eq k entry (leb→le entry 19000 (and-left (leb entry 19000) (ends_at (ramp_at_most k) entry) entry-fits)) entry-ends
+  unfolding entry
+  ramp_table-at = ramp_term-eq k entry (leb→le entry 19000 (and-left (leb entry 19000) (is_ramp_term k entry) entry-fits)) entry-term
 
-  pub ramp_term-rule : (ramp_term k ^ 25 * 6 ^ 21 ≤ 3220 ^ 25 * k ^ 21) × ((t : ℕ) → t ^ 25 * 6 ^ 21 ≤ 3220 ^ 25 * k ^ 21 → t ≤ ramp_term k)
-  unfolding ramp_at_most entry
-  ramp_term-rule =
-      rw ramp_table-at (
-        leb→le (entry ^ 25 * 6 ^ 21) (3220 ^ 25 * k ^ 21) (ends_at-passes (ramp_at_most k) entry entry-ends),
-        λ t e. ends_at-most (ramp_at_most k) entry t (ramp_at_most-falls k) entry-ends (le→leb (t ^ 25 * 6 ^ 21) (3220 ^ 25 * k ^ 21) e),
-      )
+  ramp_term-fits : T (is_ramp_term k (ramp_term k))
+  unfolding entry
+  ramp_term-fits = rw ramp_table-at entry-term
+
+pub ramp_term-zero : ramp_term 0 ≡ 0
+unfolding is_ramp_term
+ramp_term-zero = ramp_term-eq 0 0 (omega arith) tt
+
+pub ramp_term-nearest : RampTermIsNearest
+ramp_term-nearest = (
+  ramp_term-zero,
+  λ k l h. let term = rounds_to k (ramp_term k) l (ramp_term-fits k h) in
+      (rounds_to-pos k (ramp_term k) l term, term, λ t e. rounds_to-unique k t (ramp_term k) e term),
+)
 
 pub ruleset table_entries = (ramp_table-at)

@@ -1,6 +1,7 @@
 -- The laws of free-flow speed, and of refusal 19, stated over the definitions that the contracts cite; proofs/Laws proves each.
---   StraightBetweenEntries, ClearancesAreWhole, RightClearanceByTenths, RampTermIsGreatest, EstimateNeverBelowZero,
+--   StraightBetweenEntries, ClearancesAreWhole, RightClearanceByTenths, RampTermIsNearest, EstimateNeverBelowZero,
 --   FreeFlowSpeedNeverFallsWithLanes, WeatherFitsExactly
+--   RampRoundsTo k t   the ramp term's rule for k ramps, from 1 on
 -- Assumes nothing.
 use Rattle.std.specs.Prelude.{◌≡◌, false, ◌↔◌, List, ℕ, suc, ◌+◌, ◌*◌, ◌-◌, ◌^◌, ◌≤◌, ◌<◌, min, get_or}
 use Rattle.curve.specs.declared.kind.Kind.{Kind}
@@ -31,11 +32,17 @@ ClearancesAreWhole =
 abbrev pub RightClearanceByTenths : Type 0
 RightClearanceByTenths = (r n : ℕ) → 10 * right_clearance_adjustment r n ≡ (60 - min 60 r) * per_missing_foot n
 
--- The ramp term is at most the manual's, and no greater number is, with up to 48 ramps.
-abbrev pub RampTermIsGreatest : Type 0
-RampTermIsGreatest =
-    (k : ℕ) → k ≤ 48
-    → (ramp_term k ^ 25 * 6 ^ 21 ≤ 3220 ^ 25 * k ^ 21) × ((t : ℕ) → t ^ 25 * 6 ^ 21 ≤ 3220 ^ 25 * k ^ 21 → t ≤ ramp_term k)
+-- (2t − 1)^25 × 6^21 ≤ 6,440^25 × k^21 < (2t + 1)^25 × 6^21
+abbrev pub RampRoundsTo : ℕ → ℕ → Type 0
+RampRoundsTo k t =
+    ((2 * t - 1) ^ 25 * 6 ^ 21 ≤ 6440 ^ 25 * k ^ 21) × (6440 ^ 25 * k ^ 21 < (2 * t + 1) ^ 25 * 6 ^ 21)
+
+-- With 1 to 48 ramps exactly one number fits the rule, the ramp term, and it is above 0, so that 2t − 1 is not cut at 0. With none it is 0.
+abbrev pub RampTermIsNearest : Type 0
+RampTermIsNearest =
+    (ramp_term 0 ≡ 0)
+    × ((k : ℕ) → 1 ≤ k → k ≤ 48
+    → (1 ≤ ramp_term k) × RampRoundsTo k (ramp_term k) × ((t : ℕ) → RampRoundsTo k t → t ≡ ramp_term k))
 
 -- An estimate and what is taken off are together the base speed, on a road that 1 to 5 do not refuse: no difference is cut at 0.
 abbrev pub EstimateNeverBelowZero : Type 0

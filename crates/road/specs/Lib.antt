@@ -1,4 +1,4 @@
--- Roads and cases of document 01, with clearances and weather by document 02, a file for each part.
+-- Roads and cases of document 01, with clearances, weather and ramps by document 02, a file for each part.
 --   Cases           roads and cases by their fields, and with one field changed
 --   Interpolation   the straight line between two entries of a table's row
 --   Adjustments     what lane width, clearances, median and access take off a base speed

@@ -1,14 +1,16 @@
--- The ramp term, in thousandths of mi/h, by whole powers (document 01, "Free-flow speed F").
---   ramp_at_most k t   t is at most the manual's 3.22 × (ramps per mile)^0.84, with k ramps in six miles
---   ramp_term k        the greatest such t
+-- The ramp term, in thousandths of mi/h, by whole powers (document 02, T-08).
+--   is_ramp_term k t   t is the manual's 3.22 × (ramps per mile)^0.84 to the nearest thousandth, with k ramps in six miles
+--   ramp_term k        that t
 -- Assumes nothing.
-use Rattle.std.specs.Prelude.{ℕ, ◌*◌, ◌^◌, Bool, leb}
+use Rattle.std.specs.Prelude.{ℕ, zero, suc, ◌+◌, ◌*◌, ◌-◌, ◌^◌, Bool, ◌&&◌, leb, ltb, eqb}
 use Rattle.numbers.specs.Search.{greatest}
 
--- t^25 × 6^21 ≤ 3,220^25 × k^21
-unfoldable pub ramp_at_most : ℕ → ℕ → Bool
-ramp_at_most k t = leb (t ^ 25 * 6 ^ 21) (3220 ^ 25 * k ^ 21)
+-- "the whole t with (2t − 1)^25 × 6^21 ≤ 6,440^25 × k^21 < (2t + 1)^25 × 6^21, and 0 for k = 0"
+unfoldable pub is_ramp_term : ℕ → ℕ → Bool
+is_ramp_term zero t = eqb t 0
+is_ramp_term (suc k) t =
+    leb ((2 * t - 1) ^ 25 * 6 ^ 21) (6440 ^ 25 * suc k ^ 21) && ltb (6440 ^ 25 * suc k ^ 21) ((2 * t + 1) ^ 25 * 6 ^ 21)
 
--- "With k ramps in six miles, it is the greatest whole t with t^25 × 6^21 ≤ 3,220^25 × k^21": none to k = 48 is above 19,000
+-- there is exactly one to k = 48 (specs/Laws), and none of these is above 19,000
 unfoldable pub ramp_term : ℕ → ℕ
-ramp_term k = greatest (ramp_at_most k) 19000
+ramp_term k = greatest (is_ramp_term k) 19000
