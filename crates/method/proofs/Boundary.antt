@@ -19,7 +19,7 @@ use Rattle.road.specs.Adjustments.{total_clearance, total_clearance_row, total_c
 use Rattle.road.specs.RampTerm.{is_ramp_term, ramp_term}
 use Rattle.road.specs.FreeFlowSpeed.{estimated_by, uncapped_by, free_flow_speed_of}
 use Rattle.road.specs.Refusals.{weather_unfit, road_refusals, load_refusals, field_refusals}
-use Rattle.road.proofs.RampLaws.{ramp_term-eq, ramp_term-zero}
+use Rattle.road.proofs.RampLaws.{ramp_term-eq}
 use Rattle.method.specs.Refusals.{speed_refusals, refusals}
 use Rattle.method.specs.Checked.{curve_of}
 use Rattle.method.specs.Flow.{heavy_factor_of, flow_rate_of}
@@ -34,6 +34,10 @@ ramp-6 = ramp_term-eq 6 3220 (omega arith) tt
 pub ramp-24 : ramp_term 24 ≡ 10318
 unfolding is_ramp_term
 ramp-24 = ramp_term-eq 24 10318 (omega arith) tt
+
+ramp-0 : ramp_term 0 ≡ 0
+unfolding is_ramp_term
+ramp-0 = ramp_term-eq 0 0 (omega arith) tt
 
 other-ramps : (ramp_term 1 ≡ 715) × (ramp_term 10 ≡ 4945) × (ramp_term 36 ≡ 14505) × (ramp_term 48 ≡ 18469)
 unfolding is_ramp_term
@@ -88,7 +92,7 @@ speeds-shown : Shown speed_figures
 unfolding div_up entry_before entry_after weighted_sum interpolated lane_width_adjustment per_missing_foot right_clearance_row
     right_clearance_adjustment total_clearance total_clearance_row total_clearance_adjustment access_adjustment estimated_by
     uncapped_by free_flow_speed_of speed_figures
-speeds-shown = (refl, (refl, (simp ramp_term-zero, (refl, (refl, (refl, weather-shown))))))
+speeds-shown = (refl, (refl, (simp ramp-0, (refl, (refl, (refl, weather-shown))))))
 
 ramps-shown : Shown ramp_figures
 unfolding div_up entry_before entry_after weighted_sum interpolated lane_width_adjustment per_missing_foot right_clearance_row
@@ -110,7 +114,7 @@ unfolding in_order refusal_of div_up entry_before entry_after weighted_sum inter
 boundary-shown = (
   simp ramp-24,
   (
-    simp (ramp-6, ramp-24, ramp_term-zero),
+    simp (ramp-6, ramp-24, ramp-0),
     (
       refl,
       (

@@ -2,11 +2,10 @@
 --   ramp_term-eq       it is t where t fits the rule
 --   ramp_term-le       it is at most 19,000
 --   ramp_table-at      the entry at k is the term of k ramps
---   ramp_term-zero     with no ramps it is 0
---   ramp_term-nearest  the same, and with 1 to 48 it is above 0, fits the rule, and no other number does
+--   ramp_term-nearest  with up to 48 ramps it fits the rule, no other number does, and with one or more it is above 0
 --   table_entries      for tactics: ramp_table-at
 -- Assumes nothing.
-use Rattle.std.proofs.Common.{◌≡◌, refl, sym, ◌∙◌, Bool, ◌&&◌, ℕ, zero, suc, ◌+◌, ◌*◌, ◌-◌, ◌^◌, ◌≤◌, arith, T, leb, ltb}
+use Rattle.std.proofs.Common.{◌≡◌, refl, Bool, ◌&&◌, ℕ, zero, suc, ◌+◌, ◌*◌, ◌-◌, ◌^◌, ◌≤◌, ◌<◌, arith, T, leb, ltb}
 use Rattle.std.proofs.Common.{leb→le, ltb→lt, eqb→eq, le_trans, le_antisymm, lt_of_lt_of_le, lt_irrefl, mul-le-mul_left, mul-le-mul_right}
 use Rattle.std.proofs.Common.{lit≤, get_or, length}
 use Rattle.std.proofs.Math.Decide.{dec_le}
@@ -16,7 +15,7 @@ use Rattle.numbers.proofs.SearchLaws.{greatest-le, greatest-eq}
 use Rattle.numbers.proofs.BoolLaws.{and-left, and-right}
 use Rattle.numbers.proofs.TableLaws.{every_entry-at}
 use Rattle.road.specs.RampTerm.{is_ramp_term, ramp_term}
-use Rattle.road.specs.Laws.{RampRoundsTo, RampTermIsNearest}
+use Rattle.road.specs.Laws.{RampTermIsNearest}
 use Rattle.road.proofs.RampTable.{ramp_table}
 
 -- the test of an entry t at place k: it is the term of k ramps
@@ -31,10 +30,11 @@ table-length : length ramp_table ≡ 49
 unfolding ramp_table
 table-length = refl
 
-rounds_to : (k t : ℕ) → 1 ≤ k → T (is_ramp_term k t) → RampRoundsTo k t
+-- the two halves of the rule, with one ramp or more
+rounds_to : (k t : ℕ) → T (is_ramp_term (suc k) t)
+    → ((2 * t - 1) ^ 25 * 6 ^ 21 ≤ 6440 ^ 25 * suc k ^ 21) × (6440 ^ 25 * suc k ^ 21 < (2 * t + 1) ^ 25 * 6 ^ 21)
 unfolding is_ramp_term
-rounds_to zero t h e = absurd (omega arith)
-rounds_to (suc k) t h e =
+rounds_to k t e =
     let exact = 6440 ^ 25 * suc k ^ 21 in
     let low = (2 * t - 1) ^ 25 * 6 ^ 21 in
     let high = (2 * t + 1) ^ 25 * 6 ^ 21 in (
@@ -42,35 +42,30 @@ rounds_to (suc k) t h e =
       ltb→lt exact high (and-right (leb low exact) (ltb exact high) e),
     )
 
--- where t fits the rule, 6,440^25 × k^21 does not reach (2t + 1)^25 × 6^21
-beyond : {A : Type 0} (k t : ℕ) → RampRoundsTo k t → (2 * t + 1) ^ 25 * 6 ^ 21 ≤ 6440 ^ 25 * k ^ 21 → A
-beyond k t p h = absurd (lt_irrefl (6440 ^ 25 * k ^ 21) (lt_of_lt_of_le p.1 h))
-
 -- of two numbers that fit the rule the first is not the greater
-rounds_to-le : (k s t : ℕ) → RampRoundsTo k s → RampRoundsTo k t → s ≤ t
-rounds_to-le k s t p q = go (dec_le s t)
+is_ramp_term-le : (k s t : ℕ) → T (is_ramp_term k s) → T (is_ramp_term k t) → s ≤ t
+unfolding is_ramp_term
+is_ramp_term-le zero s t p q = omega (arith, eqb→eq s 0 p)
+is_ramp_term-le (suc k) s t p q = go (dec_le s t)
   where
     go : Dec (s ≤ t) → s ≤ t
     go (yes l) = l
     go (no l) =
         let next : 2 * t + 1 ≤ 2 * s - 1 = omega arith in
-        beyond k t q (le_trans (mul-le-mul_right (6 ^ 21) (pow-le-pow_left next 25)) p.0)
-
-rounds_to-unique : (k s t : ℕ) → RampRoundsTo k s → RampRoundsTo k t → s ≡ t
-rounds_to-unique k s t p q = le_antisymm (rounds_to-le k s t p q) (rounds_to-le k t s q p)
-
--- the exact term of one ramp is above half a thousandth, and so is that of more
-rounds_to-pos : (k t : ℕ) → 1 ≤ k → RampRoundsTo k t → 1 ≤ t
-rounds_to-pos k zero h p =
-    let one : (2 * 0 + 1) ^ 25 * 6 ^ 21 ≤ 6440 ^ 25 * 1 ^ 21 = lit≤ tt in
-    beyond k 0 p (le_trans one (mul-le-mul_left (6440 ^ 25) (pow-le-pow_left h 21)))
-rounds_to-pos k (suc t) h p = omega arith
+        let reached = le_trans (mul-le-mul_right (6 ^ 21) (pow-le-pow_left next 25)) (rounds_to k s p).0 in
+        absurd (lt_irrefl (6440 ^ 25 * suc k ^ 21) (lt_of_lt_of_le (rounds_to k t q).1 reached))
 
 is_ramp_term-unique : (k s t : ℕ) → T (is_ramp_term k s) → T (is_ramp_term k t) → s ≡ t
-unfolding is_ramp_term
-is_ramp_term-unique zero s t p q = eqb→eq s 0 p ∙ sym (eqb→eq t 0 q)
-is_ramp_term-unique (suc k) s t p q =
-    let above : 1 ≤ suc k = omega arith in rounds_to-unique (suc k) s t (rounds_to (suc k) s above p) (rounds_to (suc k) t above q)
+is_ramp_term-unique k s t p q = le_antisymm (is_ramp_term-le k s t p q) (is_ramp_term-le k t s q p)
+
+-- the exact term of one ramp is above half a thousandth, and so is that of more
+is_ramp_term-pos : (k t : ℕ) → 1 ≤ k → T (is_ramp_term k t) → 1 ≤ t
+is_ramp_term-pos zero t h e = absurd (omega arith)
+is_ramp_term-pos (suc k) zero h e =
+    let one : (2 * 0 + 1) ^ 25 * 6 ^ 21 ≤ 6440 ^ 25 * 1 ^ 21 = lit≤ tt in
+    let more = le_trans one (mul-le-mul_left (6440 ^ 25) (pow-le-pow_left h 21)) in
+    absurd (lt_irrefl (6440 ^ 25 * suc k ^ 21) (lt_of_lt_of_le (rounds_to k 0 e).1 more))
+is_ramp_term-pos (suc k) (suc t) h e = omega arith
 
 pub ramp_term-eq : (k t : ℕ) → t ≤ 19000 → T (is_ramp_term k t) → ramp_term k ≡ t
 unfolding ramp_term
@@ -99,15 +94,9 @@ module _ (k : ℕ) (h : k ≤ 48) where
   unfolding entry
   ramp_term-fits = rw ramp_table-at entry-term
 
-pub ramp_term-zero : ramp_term 0 ≡ 0
-unfolding is_ramp_term
-ramp_term-zero = ramp_term-eq 0 0 (omega arith) tt
-
 pub ramp_term-nearest : RampTermIsNearest
-ramp_term-nearest = (
-  ramp_term-zero,
-  λ k l h. let term = rounds_to k (ramp_term k) l (ramp_term-fits k h) in
-      (rounds_to-pos k (ramp_term k) l term, term, λ t e. rounds_to-unique k t (ramp_term k) e term),
-)
+ramp_term-nearest k h =
+    let e = ramp_term-fits k h in
+    (e, λ t f. is_ramp_term-unique k t (ramp_term k) f e, λ l. is_ramp_term-pos k (ramp_term k) l e)
 
 pub ruleset table_entries = (ramp_table-at)

@@ -1,9 +1,8 @@
 -- The laws of free-flow speed, and of refusal 19, stated over the definitions that the contracts cite; proofs/Laws proves each.
 --   StraightBetweenEntries, ClearancesAreWhole, RightClearanceByTenths, RampTermIsNearest, EstimateNeverBelowZero,
 --   FreeFlowSpeedNeverFallsWithLanes, WeatherFitsExactly
---   RampRoundsTo k t   the ramp term's rule for k ramps, from 1 on
 -- Assumes nothing.
-use Rattle.std.specs.Prelude.{◌≡◌, false, ◌↔◌, List, ℕ, suc, ◌+◌, ◌*◌, ◌-◌, ◌^◌, ◌≤◌, ◌<◌, min, get_or}
+use Rattle.std.specs.Prelude.{◌≡◌, false, ◌↔◌, List, ℕ, suc, ◌+◌, ◌*◌, ◌-◌, ◌≤◌, ◌<◌, min, get_or, T}
 use Rattle.curve.specs.declared.kind.Kind.{Kind}
 use Rattle.curve.specs.declared.Weather.{Weather}
 use Rattle.curve.specs.Weather.{FactorsFit}
@@ -11,7 +10,7 @@ use Rattle.road.specs.declared.Road.{Road}
 use Rattle.road.specs.Interpolation.{weighted_sum}
 use Rattle.road.specs.Adjustments.{lane_width_adjustment, per_missing_foot, right_clearance_row, right_clearance_adjustment}
 use Rattle.road.specs.Adjustments.{total_clearance, total_clearance_row, total_clearance_adjustment, median_adjustment, access_adjustment}
-use Rattle.road.specs.RampTerm.{ramp_term}
+use Rattle.road.specs.RampTerm.{is_ramp_term, ramp_term}
 use Rattle.road.specs.FreeFlowSpeed.{estimated_speed, free_flow_speed_of}
 use Rattle.road.specs.Refusals.{weather_unfit, RoadFits}
 
@@ -32,17 +31,11 @@ ClearancesAreWhole =
 abbrev pub RightClearanceByTenths : Type 0
 RightClearanceByTenths = (r n : ℕ) → 10 * right_clearance_adjustment r n ≡ (60 - min 60 r) * per_missing_foot n
 
--- (2t − 1)^25 × 6^21 ≤ 6,440^25 × k^21 < (2t + 1)^25 × 6^21
-abbrev pub RampRoundsTo : ℕ → ℕ → Type 0
-RampRoundsTo k t =
-    ((2 * t - 1) ^ 25 * 6 ^ 21 ≤ 6440 ^ 25 * k ^ 21) × (6440 ^ 25 * k ^ 21 < (2 * t + 1) ^ 25 * 6 ^ 21)
-
--- With 1 to 48 ramps exactly one number fits the rule, the ramp term, and it is above 0, so that 2t − 1 is not cut at 0. With none it is 0.
+-- With up to 48 ramps exactly one number fits the rule, the ramp term. With one or more it is above 0, so that 2t − 1 is not cut at 0.
 abbrev pub RampTermIsNearest : Type 0
 RampTermIsNearest =
-    (ramp_term 0 ≡ 0)
-    × ((k : ℕ) → 1 ≤ k → k ≤ 48
-    → (1 ≤ ramp_term k) × RampRoundsTo k (ramp_term k) × ((t : ℕ) → RampRoundsTo k t → t ≡ ramp_term k))
+    (k : ℕ) → k ≤ 48
+    → T (is_ramp_term k (ramp_term k)) × ((t : ℕ) → T (is_ramp_term k t) → t ≡ ramp_term k) × (1 ≤ k → 1 ≤ ramp_term k)
 
 -- An estimate and what is taken off are together the base speed, on a road that 1 to 5 do not refuse: no difference is cut at 0.
 abbrev pub EstimateNeverBelowZero : Type 0
