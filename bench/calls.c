@@ -76,7 +76,7 @@ static int32_t plain_dailies(const struct line *line, size_t place, union answer
 /* Demands from 0 to 9,999 on, up to 700 wide, heavy shares from 0 to 99 on, factors up to 895 or more. Some are refused by 22 or 7 to 9. */
 static int32_t ask_forecast(forecast *asked, const struct line *line, size_t place, union answer *answer)
 {
-    uint64_t demand = place * 7919 % 10000, width = place % 1000 == 999 ? 100000 : place % 701;
+    uint64_t demand = place * 7919 % 10000, width = place % 1000 == 999 ? 1000000 : place % 701;
     return asked(line->bytes, line->length, demand, demand + width, place % 100, 95 + place % 911, 245 + place % 653, 895 + place % 109,
                  answer->figures, FORECAST_FIGURES);
 }

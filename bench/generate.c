@@ -1,8 +1,9 @@
 /* Writes lines for the benchmark to standard output: generate [COUNT], 1,000,000 unless told otherwise.
 
-   Both kinds, both ways, clear weather in 13 fields, speeds 70,000 to 75,000, demands 0 to 20,000, every other field anywhere within
-   refusals 1 to 9. A freeway whose estimated speed falls below the lower end is refused with 10, as in real files; no other line is
-   refused. The draws come from a linear congruential generator with a fixed seed in 32 bits: the bytes are the same on every machine. */
+   Both kinds, both ways, clear weather in 13 fields, speeds 70,000 to 75,000, demands 0 to 20,000, of one line in sixteen 0 to 999,999,
+   every other field anywhere within refusals 1 to 9. A freeway whose estimated speed falls below the lower end is refused with 10, as in
+   real files; no other line is refused. The draws come from a linear congruential generator with a fixed seed in 32 bits: the bytes are the
+   same on every machine. */
 #include <inttypes.h>
 #include <stdint.h>
 #include <stdio.h>
@@ -46,7 +47,7 @@ static void put_line(void)
     put_letter(freeway ? 'D' : draw_letter("UDT", 3), '\t');
     put_number(0, freeway ? 48 : 200); /* ramps in six miles, or access points per mile */
     put_number(2, freeway ? 8 : 3);    /* lanes */
-    put_number(0, 20000);              /* demand */
+    put_number(0, draw(0, 15) == 0 ? 999999 : 20000); /* demand */
     put_number(250, 1000);             /* peak-hour factor */
     put_number(0, 1000);               /* heavy share */
     put_letter(draw_letter("LR", 2), '\n');

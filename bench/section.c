@@ -2,7 +2,7 @@
 #include "section.h"
 #include <stdbool.h>
 
-enum { LONGEST_LINE = 80, GREATEST_DEMAND = 99999, MILLION = 1000000 };
+enum { LONGEST_LINE = 80, GREATEST_DEMAND = 999999, MILLION = 1000000 };
 
 #define GREATEST_DAILY_TRAFFIC 4000000000
 
@@ -85,23 +85,25 @@ static bool read_letter(struct cursor *line, uint8_t *letter)
     return true;
 }
 
-/* One to five digits with no leading zero. */
-static bool read_number(struct cursor *line, uint64_t *number)
+/* One to five digits with no leading zero, of a demand one to six. */
+static bool read_number(struct cursor *line, uint64_t *numbers, enum number place)
 {
     const uint8_t *start = line->at;
+    ptrdiff_t most_digits = place == DEMAND ? 6 : 5;
     uint64_t n = 0;
-    while (line->at < line->end && line->at - start < 6 && (uint8_t)(*line->at - '0') < 10) {
+    while (line->at < line->end && line->at - start <= most_digits && (uint8_t)(*line->at - '0') < 10) {
         n = 10 * n + (uint8_t)(*line->at++ - '0');
     }
     ptrdiff_t digits = line->at - start;
-    *number = n;
-    return digits >= 1 && digits <= 5 && (digits == 1 || *start != '0');
+    numbers[place] = n;
+    return digits >= 1 && digits <= most_digits && (digits == 1 || *start != '0');
 }
 
-static bool read_numbers(struct cursor *line, uint64_t *numbers, int count)
+/* The numbers from one place on, up to another. */
+static bool read_numbers(struct cursor *line, uint64_t *numbers, enum number first, enum number end)
 {
-    for (int i = 0; i < count; i++) {
-        if (!read_number(line, &numbers[i]) || !pass_tab(line)) {
+    for (enum number place = first; place < end; place++) {
+        if (!read_number(line, numbers, place) || !pass_tab(line)) {
             return false;
         }
     }
@@ -109,11 +111,12 @@ static bool read_numbers(struct cursor *line, uint64_t *numbers, int count)
 }
 
 /* The two factors at a line's end, 1,000 for both where it ends before them. */
-static bool read_weather(struct cursor *line, uint64_t *factors)
+static bool read_weather(struct cursor *line, uint64_t *numbers)
 {
-    factors[0] = factors[1] = 1000;
+    numbers[SPEED_FACTOR] = numbers[CAPACITY_FACTOR] = 1000;
     return line->at == line->end
-        || (pass_tab(line) && read_numbers(line, factors, 1) && read_number(line, &factors[1]) && line->at == line->end);
+        || (pass_tab(line) && read_numbers(line, numbers, SPEED_FACTOR, CAPACITY_FACTOR)
+            && read_number(line, numbers, CAPACITY_FACTOR) && line->at == line->end);
 }
 
 static bool read_section(const uint8_t *bytes, size_t length, struct section *section)
@@ -124,9 +127,9 @@ static bool read_section(const uint8_t *bytes, size_t length, struct section *se
         return false;
     }
     if (!read_letter(&line, &kind) || !pass_tab(&line) || !read_letter(&line, &way) || !pass_tab(&line)
-        || !read_numbers(&line, section->numbers, 4) || !read_letter(&line, &section->median) || !pass_tab(&line)
-        || !read_numbers(&line, section->numbers + 4, 5) || !read_letter(&line, &terrain)
-        || !read_weather(&line, section->numbers + SPEED_FACTOR)) {
+        || !read_numbers(&line, section->numbers, SPEED, ACCESS) || !read_letter(&line, &section->median) || !pass_tab(&line)
+        || !read_numbers(&line, section->numbers, ACCESS, SPEED_FACTOR) || !read_letter(&line, &terrain)
+        || !read_weather(&line, section->numbers)) {
         return false;
     }
     section->freeway = kind == 'F';

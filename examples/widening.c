@@ -4,17 +4,18 @@
 
    LINE is a section's line (13 or 15 fields parted by tabs), GROWTH the yearly growth of its demand in thousandths, LETTER the target, A
    to E, YEARS how many years to look ahead. For each year, from 0 for the section as given, a row: year, demand, letter, and the lanes that
-   the target needs, or 'none' where no lane count meets it. The rows end before a demand above 99,999, which no line can hold.
+   the target needs, or 'none' where no lane count meets it. The rows end before a demand above 999,999, which no
+   line can hold.
 
    The last lines, each where it holds:
 
-     demand passes 99999 in year N        the first year without a row
+     demand passes 999999 in year N       the first year without a row
      must be wider in year N              the first year in which some lane count meets the target, and the section's own does not (in snow,
                                           on an estimated speed, see the row's lanes)
      need not be wider in years 0 to N    the section meets the target in these years
      no widening suffices from year N     no lane count meets the target in that year or in a later one
 
-   The demand never falls, so once no lane count meets the target, none does later. None does with a demand above 99,999 either: no service
+   The demand never falls, so once no lane count meets the target, none does later. None does with a demand above 999,999 either: no service
    volume is above 19,200.
 
    widening.out is what it prints for the first line of sections.tsv, 30, C and 12.
@@ -33,7 +34,6 @@
 
 enum {
     DEMAND_FIELD = 10,
-    GREATEST_DEMAND = 99999,
     LINE_SIZE = 81 /* 80 bytes and the zero byte */
 };
 
@@ -53,7 +53,7 @@ struct year {
 
 /* The first year of each sort, or the year after the last one looked at. */
 struct first_years {
-    unsigned long passed; /* the demand is above GREATEST_DEMAND */
+    unsigned long passed; /* the demand is above MAREHOUR_GREATEST_DEMAND */
     unsigned long narrow; /* some lane count meets the target, and the section's own does not */
     unsigned long unmet;  /* no lane count meets the target */
 };
@@ -158,7 +158,7 @@ static int refused(int32_t result)
 static void print_verdict(const struct plan *plan, const struct first_years *first)
 {
     if (first->passed <= plan->years) {
-        printf("demand passes %d in year %lu\n", GREATEST_DEMAND, first->passed);
+        printf("demand passes %d in year %lu\n", MAREHOUR_GREATEST_DEMAND, first->passed);
     }
     if (first->narrow <= plan->years) {
         printf("must be wider in year %lu\n", first->narrow);
@@ -176,7 +176,7 @@ static int32_t print_rows(const struct plan *plan, struct first_years *first)
     unsigned long demand = strtoul(field(plan->line, DEMAND_FIELD), NULL, 10);
     unsigned long number;
     printf("year\tdemand\tletter\tlanes\n");
-    for (number = 0; number <= plan->years && demand <= GREATEST_DEMAND; number++) {
+    for (number = 0; number <= plan->years && demand <= MAREHOUR_GREATEST_DEMAND; number++) {
         char line[LINE_SIZE];
         struct year year;
         with_demand(plan->line, demand, line);

@@ -41,9 +41,14 @@
     15  capacity factor: what is left of the capacity
 
    A line of 13 fields means 1,000 for both factors, clear weather; 14 fields are malformed. A
-   number has one to five digits and no leading zero, save 0 itself. What clearances take off a base
-   speed is linear, tenth by tenth, between the feet that the manual's tables have; what ramps take
-   off is rounded to the nearest thousandth of mi/h.
+   number has one to five digits, the demand one to six, and no leading zero, save 0 itself. What
+   clearances take off a base speed is linear, tenth by tenth, between the feet that the manual's
+   tables have; what ramps take off is rounded to the nearest thousandth of mi/h.
+
+   Older readers. A library from before MAREHOUR_GREATEST_DEMAND, when the greatest demand was
+   99,999, refuses a line with a demand of six digits with 15, and reads every other line alike. A
+   demand above 99,999 that is handed over as a number, in a day, by a daily traffic or as an end of
+   a forecast, it refuses with 7.
 
    Memory. A call reads line[0] to line[line_length - 1] and demands[0] to
    demands[demand_count - 1], and nothing else, and keeps no pointer. It writes into answer[0] to
@@ -67,6 +72,9 @@ extern "C" {
 
 /* The least length of an answer buffer. Every answer fits in it. */
 #define MAREHOUR_ANSWER_SIZE 64
+
+/* The greatest demand, in vehicles per hour. */
+#define MAREHOUR_GREATEST_DEMAND 999999
 
 /* The most demands of a day, and how many numbers each of its answers has. */
 #define MAREHOUR_DAY_DEMANDS 24
@@ -101,9 +109,9 @@ enum {
     MAREHOUR_MEDIAN_UNFIT = 4,           /* median other than D on kind F */
     MAREHOUR_ACCESS_TOO_LARGE = 5,       /* ramps above 48 (F), access points above 200 (M) */
     MAREHOUR_LANES_NOT_OF_THE_KIND = 6,  /* lanes not 2 to 8 (F), not 2 to 3 (M) */
-    MAREHOUR_DEMAND_TOO_LARGE = 7,       /* demand above 99,999, which no line can hold: one of a
-                                            day, the hourly demand of a daily traffic, or an end of
-                                            a forecast demand */
+    MAREHOUR_DEMAND_TOO_LARGE = 7,       /* demand above MAREHOUR_GREATEST_DEMAND, which no line can
+                                            hold: one of a day, the hourly demand of a daily
+                                            traffic, or an end of a forecast demand */
     MAREHOUR_FACTOR_OUT_OF_RANGE = 8,    /* peak-hour factor, or an end of it, not 250 to 1,000 */
     MAREHOUR_SHARE_TOO_LARGE = 9,        /* heavy share, or an end of it, above 1,000 */
     MAREHOUR_SPEED_BELOW_LOWER_END = 10, /* free-flow speed F below 55,000 (F), 45,000 (M), or
@@ -140,7 +148,7 @@ int32_t marehour_answer(const uint8_t *line, size_t line_length, uint8_t *answer
    and density are rounded up, speed down; the letter rests on the speed before it is rounded. Up
    to capacity the speed on kind M is never above the manual's curve and less than 26 below it.
    Above capacity the letter is F, and speed and density are 0. A service volume is the greatest
-   demand from 0 to 99,999 that gets its letter or a better one.
+   demand from 0 to MAREHOUR_GREATEST_DEMAND that gets its letter or a better one.
 
    The result is the count of bytes written, newline included, at most MAREHOUR_ANSWER_SIZE; or
    minus the first of these refusals that holds, in this order:
@@ -188,8 +196,8 @@ int32_t marehour_day(const uint8_t *line, size_t line_length, const uint64_t *de
      rate; speed; density; service volumes A to E
 
    Where one of 1 to 9, 19 and 10 refuses the section with that demand, the number is the first that
-   does, in this order, and the other eleven are 0. A demand above 99,999 gets 7, or one of 1 to 6
-   where that refuses the section; the other positions go on.
+   does, in this order, and the other eleven are 0. A demand above MAREHOUR_GREATEST_DEMAND gets 7,
+   or one of 1 to 6 where that refuses the section; the other positions go on.
 
    The result is the count of answers written, which is demand_count; or minus the first of these
    refusals that holds, in this order:

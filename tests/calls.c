@@ -26,7 +26,8 @@
 enum { LONGEST_BUFFER = 4096, MOST_VECTORS = 2000, SECONDS = 120 };
 
 /* A day: how many demands each line is asked with, more than a day may have, and the greatest that 7 passes. */
-enum { ASKED = 3, MORE_DEMANDS = 30, GREATEST_DEMAND = 99999 };
+enum { ASKED = 3, MORE_DEMANDS = 30, GREATEST_DEMAND = 999999 };
+_Static_assert(MAREHOUR_GREATEST_DEMAND == GREATEST_DEMAND, "the header names another greatest demand");
 
 /* Where a line's own load stands, from 0 on. */
 enum { DEMAND_FIELD = 9, FACTOR_FIELD, SHARE_FIELD };
@@ -432,9 +433,34 @@ static void check_counts(const struct calls *calls, const struct vector *vector)
     }
 }
 
+/* Where the sixth digit begins and ends, and the seventh begins, on the first line, the printed one: the refusal, the letter and the flow
+   rate. */
+static void check_long_demands(const struct calls *calls)
+{
+    enum { COUNT = 4, LETTER = 1, FLOW_RATE = 4, FIGURES = COUNT * MAREHOUR_DAY_FIGURES };
+    static const uint64_t demands[COUNT] = {99999, 100000, GREATEST_DEMAND, GREATEST_DEMAND + 1};
+    static const uint64_t expected[COUNT][3] = {
+        {0, MAREHOUR_LETTER_F, 59783},
+        {0, MAREHOUR_LETTER_F, 59783},
+        {0, MAREHOUR_LETTER_F, 597826},
+        {MAREHOUR_DEMAND_TOO_LARGE, 0, 0},
+    };
+    const uint8_t *line = lend(&line_fence, answers[0].line, answers[0].length, AT_END);
+    const uint8_t *lent = lend(&demands_fence, demands, sizeof demands, AT_END);
+    uint64_t *figures = (uint64_t *)(void *)fresh_buffer(FIGURES * sizeof *figures, AT_END);
+    int32_t result = calls->day(line, answers[0].length, (const uint64_t *)(const void *)lent, COUNT, figures, FIGURES);
+    check(result == COUNT, "result %d of %d long demands", result, COUNT);
+    for (size_t i = 0; i < COUNT; i++) {
+        const uint64_t *position = figures + MAREHOUR_DAY_FIGURES * i;
+        bool same = position[0] == expected[i][0] && position[LETTER] == expected[i][1] && position[FLOW_RATE] == expected[i][2];
+        check(same, "other numbers of demand %zu", (size_t)demands[i]);
+    }
+}
+
 static void check_days(const struct calls *calls)
 {
     check_counts(calls, &answers[0]);
+    check_long_demands(calls);
     for (size_t i = 0; i < answer_count; i++) {
         check_day(calls, &answers[i]);
     }
@@ -614,7 +640,7 @@ static void check_forecast(const struct calls *calls, const struct vector *vecto
 /* The first line, the printed one, with a load that 8 and 9 refuse in the place of its own, asked with its own. */
 static void check_other_load(const struct calls *calls)
 {
-    static const uint8_t line[] = "F\tE\t75400\t110\t20\t0\tD\t24\t2\t99999\t0\t99999\tR";
+    static const uint8_t line[] = "F\tE\t75400\t110\t20\t0\tD\t24\t2\t999999\t0\t99999\tR";
     struct vector other = answers[0];
     struct forecast forecasts[FORECASTS];
     make_forecasts(&answers[0], forecasts);
@@ -631,10 +657,10 @@ static void check_forecasts(const struct calls *calls)
     }
 }
 
-/* Counts of tried demands: 64 for the first line, the printed one; the others within their ends. tests/compare/tries.rs works each out. */
+/* Counts of tried demands: 67 for the first line, the printed one; the others within their ends. tests/compare/tries.rs works each out. */
 static void check_tries(const struct calls *calls)
 {
-    check(calls->tries(answers[0].line, answers[0].length) == 64, "not 64 tries for the first line");
+    check(calls->tries(answers[0].line, answers[0].length) == 67, "not 67 tries for the first line");
     for (size_t i = 0; i < answer_count; i++) {
         const struct vector *vector = &answers[i];
         int width = vector->length < 80 ? (int)vector->length : 80;

@@ -1,4 +1,4 @@
-// Compares the engine, linked as an archive, with the second implementation of document 01 and of requests T-01 to T-03 and T-05 to T-08
+// Compares the engine, linked as an archive, with the second implementation of document 01 and of requests T-01 to T-03 and T-05 to T-09
 // (tests/second). What it must count of T-04 is had from that one's service volumes (tests/compare/tries.rs).
 //
 //   compare quick         the documents' figures, the traps, the manual's examples, curves by a stride, random cases, floats, the laws,

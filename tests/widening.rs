@@ -1,5 +1,5 @@
 // Checks the example host examples/widening.c, at the project's root; the path of the built program is the argument.
-//   - status 0: the example's output; growth 0; 'none' from the first year and later; the most lanes; the passing of 99,999;
+//   - status 0: the example's output; growth 0; 'none' from the first year and later; the most lanes; the passing of 999,999;
 //   - status 1: each refusal that a line can get, with its number;
 //   - status 2: bad arguments of each kind;
 //   - status 3: an output that can't be written.
@@ -22,11 +22,13 @@ const NOT_WRITTEN: &str = "widening: standard output can't be written\n";
 // Lanes and demand; growth, letter and years; the rows and the last lines, parted by semicolons, the fields of a row by blanks.
 type Table = (&'static str, &'static str, &'static str);
 
-const FREEWAY: [Table; 16] = [
+const FREEWAY: [Table; 27] = [
     // growth 0
     ("2 1000", "0 C 2", "0 1000 A 2;1 1000 A 2;2 1000 A 2;need not be wider in years 0 to 2"),
     ("2 3553", "0 C 1", "0 3553 D 3;1 3553 D 3;must be wider in year 0"),
     ("2 99999", "0 E 1", "0 99999 F none;1 99999 F none;no widening suffices from year 0"),
+    ("2 100000", "0 E 1", "0 100000 F none;1 100000 F none;no widening suffices from year 0"),
+    ("2 999999", "0 E 1", "0 999999 F none;1 999999 F none;no widening suffices from year 0"),
     // no demand, and more lanes than needed
     ("2 0", "99999 A 1", "0 0 A 2;1 0 A 2;need not be wider in years 0 to 1"),
     ("5 3000", "0 C 0", "0 3000 A 2;need not be wider in years 0 to 0"),
@@ -36,16 +38,48 @@ const FREEWAY: [Table; 16] = [
     // its own lanes serve, then more, then none; its own, then none
     ("2 3500", "1000 C 3", "0 3500 C 2;1 7000 F 4;2 14000 F 8;3 28000 F none;must be wider in year 1;no widening suffices from year 3"),
     ("2 4000", "4000 E 1", "0 4000 D 2;1 20000 F none;need not be wider in years 0 to 0;no widening suffices from year 1"),
-    // 99,999 is passed after a year in which its own lanes serve, more, and none
-    ("2 1000", "99999 C 5", "0 1000 A 2;demand passes 99999 in year 1;need not be wider in years 0 to 0;no widening suffices from year 1"),
-    ("2 4000", "99999 C 5", "0 4000 D 3;demand passes 99999 in year 1;must be wider in year 0;no widening suffices from year 1"),
-    ("2 50000", "1000 C 5", "0 50000 F none;demand passes 99999 in year 1;no widening suffices from year 0"),
-    // 99,999 itself has a row; a passing after the last year is not told
-    ("2 99899", "1 E 2", "0 99899 F none;1 99999 F none;demand passes 99999 in year 2;no widening suffices from year 0"),
-    ("2 1000", "99999 C 0", "0 1000 A 2;need not be wider in years 0 to 0"),
-    // the greatest numbers; a product just above 2^32
-    ("8 99999", "99999 E 99999", "0 99999 F none;demand passes 99999 in year 1;no widening suffices from year 0"),
-    ("8 42525", "99999 E 1", "0 42525 F none;demand passes 99999 in year 1;no widening suffices from year 0"),
+    // 999,999 is passed after a year in which its own lanes serve, fewer than them, more, and none
+    (
+        "6 10000",
+        "99999 C 5",
+        "0 10000 C 6;demand passes 999999 in year 1;need not be wider in years 0 to 0;no widening suffices from year 1",
+    ),
+    (
+        "8 10000",
+        "99999 C 5",
+        "0 10000 B 6;demand passes 999999 in year 1;need not be wider in years 0 to 0;no widening suffices from year 1",
+    ),
+    ("2 10000", "99999 C 5", "0 10000 F 6;demand passes 999999 in year 1;must be wider in year 0;no widening suffices from year 1"),
+    ("2 500000", "1000 C 5", "0 500000 F none;demand passes 999999 in year 1;no widening suffices from year 0"),
+    // it is passed after a year with six digits
+    (
+        "2 1000",
+        "99999 C 5",
+        "0 1000 A 2;1 100999 F none;demand passes 999999 in year 2;need not be wider in years 0 to 0;no widening suffices from year 1",
+    ),
+    (
+        "2 4000",
+        "99999 C 5",
+        "0 4000 D 3;1 403996 F none;demand passes 999999 in year 2;must be wider in year 0;no widening suffices from year 1",
+    ),
+    (
+        "2 50000",
+        "1000 C 5",
+        "0 50000 F none;1 100000 F none;2 200000 F none;3 400000 F none;4 800000 F none;demand passes 999999 in year 5;\
+         no widening suffices from year 0",
+    ),
+    // 99,999 and what comes after it; 999,999 itself has a row, as 999,998.004 rounded up too, and 999,999.99 is past it; a passing after
+    // the last year is not told
+    ("2 99899", "1 E 2", "0 99899 F none;1 99999 F none;2 100099 F none;no widening suffices from year 0"),
+    ("2 999000", "1 E 2", "0 999000 F none;1 999999 F none;demand passes 999999 in year 2;no widening suffices from year 0"),
+    ("2 998002", "2 E 2", "0 998002 F none;1 999999 F none;demand passes 999999 in year 2;no widening suffices from year 0"),
+    ("2 990099", "10 E 2", "0 990099 F none;demand passes 999999 in year 1;no widening suffices from year 0"),
+    ("8 10000", "99999 C 0", "0 10000 B 6;need not be wider in years 0 to 0"),
+    // the greatest numbers; products just above 2^32 and 23 times 2^32
+    ("8 999999", "99999 E 99999", "0 999999 F none;demand passes 999999 in year 1;no widening suffices from year 0"),
+    ("8 99999", "99999 E 99999", "0 99999 F none;demand passes 999999 in year 1;no widening suffices from year 0"),
+    ("8 42525", "99999 E 1", "0 42525 F none;demand passes 999999 in year 1;no widening suffices from year 0"),
+    ("8 978072", "99999 E 1", "0 978072 F none;demand passes 999999 in year 1;no widening suffices from year 0"),
 ];
 
 const MULTILANE: [Table; 3] = [
@@ -60,7 +94,7 @@ const SNOW: [Table; 2] = [
 ];
 
 // Lines with the fields parted by blanks, and the refusal of each.
-const REFUSED: [(&str, u32); 16] = [
+const REFUSED: [(&str, u32); 19] = [
     ("F G 29999 120 60 60 D 0 2 1000 1000 0 L", 1),
     ("F G 75000 99 60 60 D 0 2 1000 1000 0 L", 2),
     ("F G 75000 120 401 60 D 0 2 1000 1000 0 L", 3),
@@ -73,7 +107,10 @@ const REFUSED: [(&str, u32); 16] = [
     ("F G 75000 120 60 60 D 0 2 1000 1000 0 L 499 1000", 19),
     ("M G 60000 120 60 60 D 0 2 1000 1000 0 L 1000 999", 19),
     ("F G 54999 120 60 60 D 0 2 1000 1000 0 L", 10),
-    ("F G 75000 120 60 60 D 0 2 100000 1000 0 L", 15),
+    ("F G 75000 120 60 60 D 0 2 999999 1000 1001 L", 9),
+    ("F G 75000 120 60 60 D 0 2 1000000 1000 0 L", 15),
+    ("F G 75000 120 60 60 D 0 2 099999 1000 0 L", 15),
+    ("F G 75000 120 60 60 D 0 2 1000 100000 0 L", 15),
     ("F G 75000 120 60 60 D 0 2 1000 1000 0 L 1000", 15),
     ("F G 75000 120 60 60 D 0 2", 15),
     ("", 15),

@@ -20,13 +20,20 @@ const NOT_READ: &str = "yearly: the list can't be read\n";
 const ROAD: &str = "F G 75000 120 60 60 D 0 2 0 1000 0 L";
 
 // Of a road of F = 75,000 with two lanes, H = 1,000 and P = 0, whose service volume of C is 3,552 an hour: what stands before its line, and
-// its row. 71,757 × 0.0495 = 3,551.97; 58,710 × 0.0605 = 3,551.96.
-const ROWS: [(&str, &str); 7] = [
+// its row. 71,757 × 0.0495 = 3,551.97; 58,710 × 0.0605 = 3,551.96; 2,020,181 × 0.0495 = 99,998.96; 2,020,202 × 0.0495 = 99,999.999;
+// 20,202,000 × 0.0495 = 999,999; 16,528,909 × 0.0605 = 999,998.99.
+const ROWS: [(&str, &str); 13] = [
     ("town U 71757", "town 71757 3552 C 71757"),
     ("town U 71758", "town 71758 3553 D 71757"),
     ("land R 58710", "land 58710 3552 C 58710"),
     ("land R 58711", "land 58711 3553 D 58710"),
     ("empty R 0", "empty 0 0 A 58710"),
+    ("five U 2020181", "five 2020181 99999 F 71757"),
+    ("six U 2020202", "six 2020202 100000 F 71757"),
+    ("last U 20202000", "last 20202000 999999 F 71757"),
+    ("past U 20202001", "past 20202001 X 7"),
+    ("last R 16528909", "last 16528909 999999 F 58710"),
+    ("past R 16528910", "past 16528910 X 7"),
     ("most U 4000000000", "most 4000000000 X 7"),
     ("more U 4000000001", "more 4000000001 X 21"),
 ];

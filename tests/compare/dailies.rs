@@ -2,8 +2,10 @@
 // length and content. What the engine hands back for a random call is also compared with its own single answer to the hourly demand, and
 // the second implementation judges each of its daily service volumes d: d meets the letter and d + 1 does not. Some are counted.
 
-use super::days::{single, AT_0, AT_2000, AT_2643, LINE, MALFORMED, MALFORMED_LINES, SNOW_AT_3000};
-use super::draw::{accepted, draw_accepted_case, draw_case, draw_demand, draw_line, line_of, move_past_limits, Draw};
+use super::days::{
+    single, AT_0, AT_100000, AT_2000, AT_2643, AT_99999, AT_999999, LINE, MALFORMED, MALFORMED_LINES, SIX_DIGITS, SNOW_AT_3000,
+};
+use super::draw::{accepted, draw_accepted_case, draw_case, draw_demand, draw_line, has_six_digits, line_of, move_past_limits, Draw};
 use super::engine;
 use super::lent::{draw_length, After, Lent};
 use super::tally::{Outcomes, Tally};
@@ -23,20 +25,21 @@ const WHOLE: Shares = [1_000, 1_000];
 //   1: 0.598. 10: 5.98; 60,000 / 60,782 = 0.99.
 //   2,642: 1,579.46; w = ((158,000 − 156,872) / 73,910)² = 0.0002329; S = 60,782 − 9,497.1w = 60,779.79; 15,800,000 / S = 259.95.
 //   3,858: 2,306.41; w = ((230,700 − 156,872) / 73,910)² = 0.9977823; S = 51,305.95; 23,070,000 / S = 449.66.
-//   3,859: 2,307.01, so v = 2,308 is above capacity.
+//   3,859: 2,307.01, so v = 2,308 is above capacity. 996,000: 595,434.78.
 const AT_1: [u64; POSITION] = [0, 1, 60_782, 230_782, 1, 60_782, 1, 1_117, 1_829, 2_642, 3_360, 3_858];
 const AT_10: [u64; POSITION] = [0, 1, 60_782, 230_782, 6, 60_782, 1, 1_117, 1_829, 2_642, 3_360, 3_858];
 const AT_2642: [u64; POSITION] = [0, 3, 60_782, 230_782, 1_580, 60_779, 260, 1_117, 1_829, 2_642, 3_360, 3_858];
 const AT_3858: [u64; POSITION] = [0, 5, 60_782, 230_782, 2_307, 51_305, 450, 1_117, 1_829, 2_642, 3_360, 3_858];
 const AT_3859: [u64; POSITION] = [0, 6, 60_782, 230_782, 2_308, 0, 0, 1_117, 1_829, 2_642, 3_360, 3_858];
-const FLOW_AT_GREATEST: u64 = (GREATEST_DEMAND * 1_100).div_ceil(920 * 2);
-const AT_GREATEST: [u64; POSITION] = [0, 6, 60_782, 230_782, FLOW_AT_GREATEST, 0, 0, 1_117, 1_829, 2_642, 3_360, 3_858];
+const AT_996000: [u64; POSITION] = [0, 6, 60_782, 230_782, 595_435, 0, 0, 1_117, 1_829, 2_642, 3_360, 3_858];
 
 // Its daily service volumes on an urban road. A daily traffic is 0.0495 of itself an hour: 22,565 is 1,116.97 and 22,566 is 1,117.02;
 // 36,949 is 1,828.98 and 36,950 is 1,829.03; 53,373 is 2,641.96 and 53,374 is 2,642.01; 67,878 is 3,359.96 and 67,879 is 3,360.01;
 // 77,939 is 3,857.98 and 77,940 is 3,858.03.
 const ON_URBAN_ROADS: [u64; 5] = [22_565, 36_949, 53_373, 67_878, 77_939];
 const HOURLY: [u64; 5] = [1_117, 1_829, 2_642, 3_360, 3_858];
+// With K = 1 and D = 249 a vehicle an hour stands for 4,016.06 a day.
+const BY_ONE_AND_249: [u64; 5] = [4_485_943, 7_345_381, 10_610_441, 13_493_975, 15_493_975];
 
 // A given speed of 75,000 with eight lanes, H = 1,000 and P = 0: v is V / 8 rounded up, b = 100,000 and c = 240,000. The last flow rates of
 // the letters are 825, 1,328, 1,776, 2,130 and 2,400, with S = 75,000 − 21,666.67 × ((v − 1,000) / 1,400)².
@@ -82,7 +85,13 @@ const DAILIES: &[(&str, u64, Shares, [u64; POSITION], [u64; 5])] = &[
     (LINE, 77_940, URBAN, AT_3859, ON_URBAN_ROADS),
     (LINE, 2_000, WHOLE, AT_2000, HOURLY),
     (LINE, 2_643, WHOLE, AT_2643, HOURLY),
-    (LINE, GREATEST_DEMAND, WHOLE, AT_GREATEST, HOURLY),
+    (LINE, 99_999, WHOLE, AT_99999, HOURLY),
+    (LINE, 100_000, WHOLE, AT_100000, HOURLY),
+    (LINE, 999_999, WHOLE, AT_999999, HOURLY),
+    // 99,999.999 and 999,999 an hour, and 996,000 of the greatest daily traffic.
+    (LINE, 2_020_202, URBAN, AT_100000, ON_URBAN_ROADS),
+    (LINE, 20_202_000, URBAN, AT_999999, ON_URBAN_ROADS),
+    (LINE, 4_000_000_000, [1, 249], AT_996000, BY_ONE_AND_249),
     // The line's own demand is not used. Clear weather is written out.
     ("F E 75400 110 20 0 D 24 2 0 920 50 R", 53_373, URBAN, AT_2642, ON_URBAN_ROADS),
     ("F E 75400 110 20 0 D 24 2 54321 920 50 R", 53_374, URBAN, AT_2643, ON_URBAN_ROADS),
@@ -163,10 +172,12 @@ const REFUSED: &[(&str, u64, Shares, usize, i32)] = &[
     ("M G 60000 120 60 60 D 201 4 0 1000 0 L", 5, URBAN, 16, -5),
     ("F G 75000 120 60 60 D 0 0 0 1000 0 L", 4_000_000_000, WHOLE, 16, -6),
     ("M G 60000 120 60 60 D 0 4 0 249 0 L", 5, URBAN, 16, -6),
-    (LINE, GREATEST_DEMAND + 1, WHOLE, 16, -7),
-    (LINE, 1_000_000, WHOLE, 33, -7),
+    (LINE, 1_000_000, WHOLE, 16, -7),
+    (LINE, 9_999_999, WHOLE, 33, -7),
     (LINE, 4_000_000_000, WHOLE, 16, -7),
-    // 198,000,000 an hour.
+    // 999,999.05 an hour, 1,000,000 and 198,000,000.
+    (LINE, 20_202_001, URBAN, 16, -7),
+    (LINE, 4_000_000_000, [1, 250], 16, -7),
     (LINE, 4_000_000_000, URBAN, 16, -7),
     // 7 is before 8, 9, 19 and 10.
     (HEAVY, 4_000_000_000, WHOLE, 16, -7),
@@ -175,6 +186,15 @@ const REFUSED: &[(&str, u64, Shares, usize, i32)] = &[
     ("F G 75000 120 60 60 D 0 2 0 1000 1001 L", 1_000_000, WHOLE, 16, -7),
     ("F G 75000 120 60 60 D 0 2 0 1000 0 L 499 1000", 1_000_000, WHOLE, 16, -7),
     ("F G 54999 120 60 60 D 0 2 0 1000 0 L", 1_000_000, WHOLE, 16, -7),
+    // 100,000 to 999,999 an hour are not refused by 7, so that the road's own refusal is the first.
+    (HEAVY, 100_000, WHOLE, 16, -8),
+    (HEAVY, 999_999, WHOLE, 16, -8),
+    ("F G 75000 120 60 60 D 0 2 0 1000 1001 L", 100_000, WHOLE, 16, -9),
+    ("F G 75000 120 60 60 D 0 2 0 1000 1001 L", 999_999, WHOLE, 16, -9),
+    ("F G 75000 120 60 60 D 0 2 0 1000 0 L 499 1000", 100_000, WHOLE, 16, -19),
+    ("F G 75000 120 60 60 D 0 2 0 1000 0 L 499 1000", 999_999, WHOLE, 16, -19),
+    ("F G 54999 120 60 60 D 0 2 0 1000 0 L", 100_000, WHOLE, 16, -10),
+    ("F G 54999 120 60 60 D 0 2 0 1000 0 L", 999_999, WHOLE, 16, -10),
     // 8 before 9 before 19 before 10.
     (HEAVY, 5, URBAN, 16, -8),
     ("F G 75000 120 60 60 D 0 2 0 1001 1001 L", 0, URBAN, 16, -8),
@@ -186,10 +206,11 @@ const REFUSED: &[(&str, u64, Shares, usize, i32)] = &[
     ("M G 44999 120 60 60 D 0 2 0 1000 0 L", 4_000_000_000, [1, 1], 16, -10),
 ];
 
-// What must come up in a run of 100,000: results of refused calls, letters, and daily service volumes at their upper end.
-const OUTCOMES: [&str; 22] = [
+// What must come up in a run of 100,000: results of refused calls, letters, hourly demands of six digits, and daily service volumes at
+// their upper end.
+const OUTCOMES: [&str; 23] = [
     "-15", "-17", "-20", "-21", "-1", "-2", "-3", "-4", "-5", "-6", "-7", "-8", "-9", "-10", "-19", "A", "B", "C", "D", "E", "F",
-    AT_THE_END,
+    SIX_DIGITS, AT_THE_END,
 ];
 const AT_THE_END: &str = "a volume of 4,000,000,000";
 const LEAST_OF_EACH: u64 = 500;
@@ -201,7 +222,7 @@ const BEFORE_THE_CASE: [i32; 4] = [-17, -15, -20, -21];
 const LARGE: [u64; 4] = [1 << 32, 1 << 63, u64::MAX / 1_000_000, u64::MAX - 1];
 
 // Where daily volumes are counted, 7 refuses this daily traffic.
-const MOST_COUNTED: u64 = 1_200_000;
+const MOST_COUNTED: u64 = 12_000_000;
 
 // A call, with the buffer as it is before.
 struct Call {
@@ -407,6 +428,9 @@ impl Dailies<'_> {
                 self.neighbours(&call, &theirs);
             }
             self.outcomes.seen(outcome(&ours));
+            if ours.result > 0 && has_six_digits(call.hourly_demand()) {
+                self.outcomes.seen(SIX_DIGITS.to_string());
+            }
             if ours.result > 0 && parts(&ours).1.contains(&GREATEST_DAILY_TRAFFIC) {
                 self.outcomes.seen(AT_THE_END.to_string());
             }

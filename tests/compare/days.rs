@@ -1,7 +1,7 @@
 // Whole days in one call: some with their figures, and random lines with random demands and buffers of random length and content. Each
 // position of a random day is also compared with the engine's own single answer.
 
-use super::draw::{accepted, draw_demand, draw_line, Draw};
+use super::draw::{accepted, draw_demand, draw_line, has_six_digits, Draw, DEMAND_FIELD};
 use super::engine;
 use super::lent::{After, Lent};
 use super::tally::{Outcomes, Tally};
@@ -13,21 +13,26 @@ const fn refused(number: u64) -> [u64; POSITION] {
     [number, 0, 0, 0, 0, 0, 0, 0, 0, 0, 0, 0]
 }
 
-// The line of document 01, and its answers to the demands 0, 2,000, 2,643, one more than the service volume of C, and 99,999.
+// The line of document 01, and its answers to the demands 0, 2,000, 2,643, one more than the service volume of C, 99,999, 100,000 and
+// 999,999.
 // 2,643 × 1.1 / (0.92 × 2) = 1,580.05; w = ((158,100 − 156,872) / (230,782 − 156,872))² = 0.0002761; S = 60,782 − 9,497.1w = 60,779.38;
-// 15,810,000 / S = 260.12. 99,999 × 1.1 / (0.92 × 2) = 59,782.01.
+// 15,810,000 / S = 260.12. 99,999 × 1.1 / (0.92 × 2) = 59,782.01, with 100,000 it is 59,782.61, with 999,999 it is 597,825.49.
 pub const LINE: &str = "F E 75400 110 20 0 D 24 2 2000 920 50 R";
 pub const AT_0: [u64; POSITION] = [0, 1, 60_782, 230_782, 0, 60_782, 0, 1_117, 1_829, 2_642, 3_360, 3_858];
 pub const AT_2000: [u64; POSITION] = [0, 3, 60_782, 230_782, 1_196, 60_782, 197, 1_117, 1_829, 2_642, 3_360, 3_858];
 pub const AT_2643: [u64; POSITION] = [0, 4, 60_782, 230_782, 1_581, 60_779, 261, 1_117, 1_829, 2_642, 3_360, 3_858];
-const AT_99999: [u64; POSITION] = [0, 6, 60_782, 230_782, 59_783, 0, 0, 1_117, 1_829, 2_642, 3_360, 3_858];
+pub const AT_99999: [u64; POSITION] = [0, 6, 60_782, 230_782, 59_783, 0, 0, 1_117, 1_829, 2_642, 3_360, 3_858];
+pub const AT_100000: [u64; POSITION] = AT_99999;
+pub const AT_999999: [u64; POSITION] = [0, 6, 60_782, 230_782, 597_826, 0, 0, 1_117, 1_829, 2_642, 3_360, 3_858];
 
 // A given speed of 75,000 with the factors 950 and 900, as T-03 has it.
 pub const SNOW_AT_3000: [u64; POSITION] = [0, 3, 71_250, 216_000, 1_500, 66_271, 227, 1_566, 2_506, 3_294, 3_884, 4_320];
+const SNOW_AT_100000: [u64; POSITION] = [0, 6, 71_250, 216_000, 50_000, 0, 0, 1_566, 2_506, 3_294, 3_884, 4_320];
 
 // Lines, demands and what each position gets. Blanks stand for tabs.
 const DAYS: &[(&str, &[u64], &[[u64; POSITION]])] = &[
-    (LINE, &[2_000, 100_000, 2_643], &[AT_2000, refused(7), AT_2643]),
+    (LINE, &[2_000, 1_000_000, 2_643], &[AT_2000, refused(7), AT_2643]),
+    (LINE, &[99_999, 100_000, 999_999, 1_000_000, 2_000], &[AT_99999, AT_100000, AT_999999, refused(7), AT_2000]),
     (LINE, &[2_000], &[AT_2000]),
     (LINE, &[u64::MAX], &[refused(7)]),
     // 2,000 once cut to 32 bits; a product past 64 bits.
@@ -35,16 +40,18 @@ const DAYS: &[(&str, &[u64], &[[u64; POSITION]])] = &[
     (LINE, &[0; 24], &[AT_0; 24]),
     // The line's own demand is not used.
     ("F E 75400 110 20 0 D 24 2 99999 920 50 R", &[0, 99_999, 2_000], &[AT_0, AT_99999, AT_2000]),
+    ("F E 75400 110 20 0 D 24 2 999999 920 50 R", &[0, 999_999, 2_000], &[AT_0, AT_999999, AT_2000]),
     // A line of 15 fields; clear weather written out.
-    ("F G 75000 120 60 60 D 0 2 0 1000 0 L 950 900", &[3_000, 100_000], &[SNOW_AT_3000, refused(7)]),
+    ("F G 75000 120 60 60 D 0 2 0 1000 0 L 950 900", &[3_000, 1_000_000, 100_000], &[SNOW_AT_3000, refused(7), SNOW_AT_100000]),
     ("F E 75400 110 20 0 D 24 2 2000 920 50 R 1000 1000", &[2_000], &[AT_2000]),
     // 7 is before 8, 9, 19 and 10 and after 1 to 6.
-    ("F G 75000 120 60 60 D 0 2 0 249 0 L", &[100_000, 5], &[refused(7), refused(8)]),
-    ("F G 75000 120 60 60 D 0 2 0 1000 1001 L", &[5, u64::MAX, 99_999], &[refused(9), refused(7), refused(9)]),
-    ("F G 54999 120 60 60 D 0 2 0 1000 0 L", &[100_000, 5, 100_000], &[refused(7), refused(10), refused(7)]),
-    ("F G 75000 120 60 60 D 0 2 0 1000 0 L 499 1000", &[100_000, 5], &[refused(7), refused(19)]),
-    ("M G 60000 120 60 60 D 0 2 0 1000 0 L 1000 999", &[100_000, 5], &[refused(7), refused(19)]),
-    ("F G 75000 120 60 60 D 0 1 0 249 0 L", &[100_000, 5], &[refused(6), refused(6)]),
+    ("F G 75000 120 60 60 D 0 2 0 249 0 L", &[1_000_000, 5], &[refused(7), refused(8)]),
+    ("F G 75000 120 60 60 D 0 2 0 249 0 L", &[100_000, 5], &[refused(8), refused(8)]),
+    ("F G 75000 120 60 60 D 0 2 0 1000 1001 L", &[5, u64::MAX, 999_999], &[refused(9), refused(7), refused(9)]),
+    ("F G 54999 120 60 60 D 0 2 0 1000 0 L", &[1_000_000, 100_000, 1_000_000], &[refused(7), refused(10), refused(7)]),
+    ("F G 75000 120 60 60 D 0 2 0 1000 0 L 499 1000", &[1_000_000, 999_999, 5], &[refused(7), refused(19), refused(19)]),
+    ("M G 60000 120 60 60 D 0 2 0 1000 0 L 1000 999", &[1_000_000, 999_999, 5], &[refused(7), refused(19), refused(19)]),
+    ("F G 75000 120 60 60 D 0 1 0 249 0 L", &[1_000_000, 5], &[refused(6), refused(6)]),
     ("F G 29999 120 60 60 D 0 2 0 1000 0 L", &[u64::MAX; 24], &[refused(1); 24]),
 ];
 
@@ -70,16 +77,19 @@ const REFUSED: &[(&str, usize, usize, i32)] = &[
 ];
 
 // Malformed lines. The line's own demand has to be well formed, though it is not used.
-pub const MALFORMED_LINES: [&str; 5] = [
+pub const MALFORMED_LINES: [&str; 6] = [
     "",
     "F E 75400 110 20 0 D 24 2  920 50 R",
     "F E 75400 110 20 0 D 24 2 02000 920 50 R",
-    "F E 75400 110 20 0 D 24 2 100000 920 50 R",
+    "F E 75400 110 20 0 D 24 2 1000000 920 50 R",
+    "F E 75400 110 20 0 D 24 2 099999 920 50 R",
     "F E 75400 110 20 0 D 24 2 2000 920 50 R 1000",
 ];
 
-// What must come up in a run of 100,000: results of refused calls, refusals and letters of positions.
-const OUTCOMES: [&str; 19] = ["-15", "-18", "1", "2", "3", "4", "5", "6", "7", "8", "9", "10", "19", "A", "B", "C", "D", "E", "F"];
+// What must come up in a run of 100,000: results of refused calls, refusals and letters of positions, and demands of six digits.
+const OUTCOMES: [&str; 20] =
+    ["-15", "-18", "1", "2", "3", "4", "5", "6", "7", "8", "9", "10", "19", "A", "B", "C", "D", "E", "F", SIX_DIGITS];
+pub const SIX_DIGITS: &str = "six digits answered";
 const LEAST_OF_EACH: u64 = 1_000;
 
 // Demands that a narrower number or a product may not hold, each with its neighbours.
@@ -133,7 +143,7 @@ fn draw_count(draw: &mut Draw) -> u64 {
 // A demand for a case, which comes with its curve if it is accepted.
 fn draw_any_demand(draw: &mut Draw, method: &Method, accepted: &Option<(Case, Curve)>) -> u64 {
     match (draw.from(0, 8), accepted) {
-        (0, _) => draw.one_of(&[0, 1, GREATEST_DEMAND, GREATEST_DEMAND + 1, GREATEST_DEMAND + 2]),
+        (0, _) => draw.one_of(&[0, 1, 99_999, 100_000, GREATEST_DEMAND, GREATEST_DEMAND + 1, GREATEST_DEMAND + 2]),
         (1, _) => draw.one_of(&LARGE) - 1 + draw.from(0, 2),
         (2, _) => draw.bits() >> draw.from(0, 63),
         (3, _) | (_, None) => draw.from(0, 19_999),
@@ -150,11 +160,11 @@ fn draw_call(draw: &mut Draw, method: &Method) -> Call {
     Call { line, demands, buffer: Lent::draw(draw, length) }
 }
 
-// A well-formed line with another demand, its tenth field.
+// A well-formed line with another demand.
 fn with_demand(line: &[u8], demand: u64) -> Vec<u8> {
     let digits = demand.to_string();
     let mut fields: Vec<&[u8]> = line.split(|&byte| byte == b'\t').collect();
-    fields[9] = digits.as_bytes();
+    fields[DEMAND_FIELD] = digits.as_bytes();
     fields.join(&b'\t')
 }
 
@@ -169,7 +179,7 @@ fn numbers(text: &str) -> Vec<u64> {
     }
 }
 
-// What the engine's single call answers with a demand. No line can hold one above 99,999: it gets 7, unless 1 to 6 refuse the line.
+// What the engine's single call answers with a demand. No line can hold one above 999,999: it gets 7, unless 1 to 6 refuse the line.
 pub fn single(line: &[u8], demand: u64) -> Vec<u64> {
     let answered = numbers(&engine::answer_text(&with_demand(line, demand.min(GREATEST_DEMAND))));
     if demand > GREATEST_DEMAND && !(1..=6).contains(&answered[0]) {
@@ -227,6 +237,9 @@ impl Days<'_> {
                 format!("day, {}: position {place} is {answered:?}, the single call answers {single:?}", call.name())
             });
             self.outcomes.seen(outcome(position(ours, place)));
+            if position(ours, place)[0] == 0 && has_six_digits(demand) {
+                self.outcomes.seen(SIX_DIGITS.to_string());
+            }
         }
     }
 

@@ -6,6 +6,15 @@ use crate::second::method::{
 };
 use std::fmt::Write;
 
+// The fields of numbers on a line, from 0 on, and of these the demand's.
+pub const NUMBER_FIELDS: [usize; 11] = [2, 3, 4, 5, 7, 8, DEMAND_FIELD, 10, 11, 13, 14];
+pub const DEMAND_FIELD: usize = 9;
+
+// Whether a line has room for a demand since T-09 only.
+pub fn has_six_digits(demand: u64) -> bool {
+    (100_000..=GREATEST_DEMAND).contains(&demand)
+}
+
 // Splitmix64.
 pub struct Draw(pub u64);
 
@@ -143,7 +152,7 @@ pub fn move_past_limits(draw: &mut Draw, case: &mut Case) {
 pub fn draw_demand(draw: &mut Draw, method: &Method, case: &Case, curve: &Curve) -> u64 {
     let volumes = method.service_volumes(case, curve);
     let demand = match draw.from(0, 9) {
-        0 => draw.one_of(&[0, 1, 2, GREATEST_DEMAND - 1, GREATEST_DEMAND]),
+        0 => draw.one_of(&[0, 1, 2, 99_999, 100_000, GREATEST_DEMAND - 1, GREATEST_DEMAND]),
         1 => draw.from(0, GREATEST_DEMAND),
         2 => {
             let at_breakpoint = curve.breakpoint * case.factor * case.lanes / passenger_cars(case) / 100;
@@ -223,6 +232,17 @@ pub fn line_of(case: &Case) -> Vec<u8> {
     line.into_bytes()
 }
 
+// Numbers at and past the most digits of a field, with a leading zero too.
+const LONG_NUMBERS: [&str; 6] = ["99999", "099999", "100000", "999999", "0999999", "1000000"];
+
+fn draw_long_number(draw: &mut Draw) -> String {
+    match draw.from(0, 2) {
+        0 => draw.one_of(&LONG_NUMBERS).to_string(),
+        1 => draw.from(100_000, 999_999).to_string(),
+        _ => draw.from(1_000_000, 9_999_999).to_string(),
+    }
+}
+
 const TELLING_BYTES: &[u8] = b"0123456789\t\tFMEGUDTLR fr-+.,\r\n\0\xff\x80";
 
 fn any_byte(draw: &mut Draw) -> u8 {
@@ -241,7 +261,8 @@ fn any_field(draw: &mut Draw, line: &[u8]) -> (usize, usize) {
     (start, end)
 }
 
-// Damages a line: a byte changed, cut, doubled or inserted; a field emptied, doubled, led by a zero, replaced; an end cut off; made longer.
+// Damages a line: a byte changed, cut, doubled or inserted; a field emptied, doubled, led by a zero, replaced, by six and more digits too;
+// an end cut off; made longer.
 pub fn damage(draw: &mut Draw, line: &mut Vec<u8>) {
     if line.is_empty() {
         line.push(any_byte(draw));
@@ -249,7 +270,7 @@ pub fn damage(draw: &mut Draw, line: &mut Vec<u8>) {
     }
     let at = draw.from(0, line.len() as u64 - 1) as usize;
     let (start, end) = any_field(draw, line);
-    match draw.from(0, 13) {
+    match draw.from(0, 14) {
         0 | 1 => line[at] = any_byte(draw),
         2 => {
             line.remove(at);
@@ -266,8 +287,11 @@ pub fn damage(draw: &mut Draw, line: &mut Vec<u8>) {
         }
         7 => line.insert(start, b'0'),
         8 => {
-            let value = draw.one_of(&["0", "00", "99999", "100000", "4294967296", "18446744073709551617", "-1", "+1", "1e3", "D", "L"]);
+            let value = draw.one_of(&["0", "00", "4294967296", "18446744073709551617", "-1", "+1", "1e3", "D", "L"]);
             line.splice(start..end, value.bytes());
+        }
+        13 => {
+            line.splice(start..end, draw_long_number(draw).bytes());
         }
         9 => line.truncate(at),
         10 => {

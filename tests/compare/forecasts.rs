@@ -4,8 +4,8 @@
 // lie between. Of some larger ranges every combination is tried.
 
 use super::dailies::{MULTILANE, SNOW, WIDE};
-use super::days::{LINE, MALFORMED, MALFORMED_LINES};
-use super::draw::{draw_accepted_case, draw_case, draw_line_of, line_of, move_past_limits, Draw};
+use super::days::{LINE, MALFORMED, MALFORMED_LINES, SIX_DIGITS};
+use super::draw::{draw_accepted_case, draw_case, draw_line_of, has_six_digits, line_of, move_past_limits, Draw};
 use super::engine;
 use super::laws::ask;
 use super::lent::{draw_length, After, Lent};
@@ -20,8 +20,8 @@ const fn ranges(demand: Ends, share: Ends, factor: Ends) -> Ranges {
 
 // The line of document 01 with another load of its own, with loads that 8 or 9 would refuse, and on level terrain.
 const OTHER_LOAD: &str = "F E 75400 110 20 0 D 24 2 0 1000 0 R";
-const UNFIT_FACTOR: &str = "F E 75400 110 20 0 D 24 2 99999 0 50 R";
-const UNFIT_SHARE: &str = "F E 75400 110 20 0 D 24 2 99999 920 1001 R";
+const UNFIT_FACTOR: &str = "F E 75400 110 20 0 D 24 2 999999 0 50 R";
+const UNFIT_SHARE: &str = "F E 75400 110 20 0 D 24 2 100000 920 1001 R";
 const LEVEL: &str = "F E 75400 110 20 0 D 24 2 2000 920 50 L";
 
 // Lines, ranges, and the eight numbers. Blanks stand for tabs.
@@ -47,10 +47,16 @@ const FORECASTS: &[(&str, Ranges, [u64; FIGURES])] = &[
     (LINE, ranges([3_360, 3_361], [50, 50], [920, 920]), [4, 3_360, 50, 920, 5, 3_361, 50, 920]),
     (LINE, ranges([3_858, 3_859], [50, 50], [920, 920]), [5, 3_858, 50, 920, 6, 3_859, 50, 920]),
     // One quantity over its whole range: the greatest demand; 1,086.96 and 3,260.87; 1,100 and 4,400.
-    (LINE, ranges([0, 99_999], [50, 50], [920, 920]), [1, 0, 50, 920, 6, 99_999, 50, 920]),
+    (LINE, ranges([0, 999_999], [50, 50], [920, 920]), [1, 0, 50, 920, 6, 999_999, 50, 920]),
     (LINE, ranges([2_000, 2_000], [0, 1_000], [920, 920]), [2, 2_000, 0, 920, 6, 2_000, 1_000, 920]),
     (LINE, ranges([2_000, 2_000], [50, 50], [250, 1_000]), [3, 2_000, 50, 1_000, 6, 2_000, 50, 250]),
-    (LINE, ranges([0, 99_999], [0, 1_000], [250, 1_000]), [1, 0, 0, 1_000, 6, 99_999, 1_000, 250]),
+    (LINE, ranges([0, 999_999], [0, 1_000], [250, 1_000]), [1, 0, 0, 1_000, 6, 999_999, 1_000, 250]),
+    // From five digits to six, and within six: 59,782.01, 59,782.61 and 597,825.49.
+    (LINE, ranges([0, 99_999], [50, 50], [920, 920]), [1, 0, 50, 920, 6, 99_999, 50, 920]),
+    (LINE, ranges([0, 100_000], [50, 50], [920, 920]), [1, 0, 50, 920, 6, 100_000, 50, 920]),
+    (LINE, ranges([3_858, 999_999], [50, 50], [920, 920]), [5, 3_858, 50, 920, 6, 999_999, 50, 920]),
+    (LINE, ranges([99_999, 100_000], [50, 50], [920, 920]), [6, 99_999, 50, 920, 6, 100_000, 50, 920]),
+    (LINE, ranges([100_000, 999_999], [50, 50], [920, 920]), [6, 100_000, 50, 920, 6, 999_999, 50, 920]),
     // Every combination gets the letter, and the same two are shown: 0 and 5.67; 1,110.39 and 1,222.22; 2,700 and 60,000.
     (LINE, ranges([0, 10], [0, 10], [900, 1_000]), [1, 0, 0, 1_000, 1, 10, 10, 900]),
     (LINE, ranges([0, 0], [0, 1_000], [250, 1_000]), [1, 0, 0, 1_000, 1, 0, 1_000, 250]),
@@ -60,7 +66,7 @@ const FORECASTS: &[(&str, Ranges, [u64; FIGURES])] = &[
     (LINE, ranges([2_000, 2_000], [50, 50], [920, 920]), [3, 2_000, 50, 920, 3, 2_000, 50, 920]),
     (LINE, ranges([2_643, 2_643], [50, 50], [920, 920]), [4, 2_643, 50, 920, 4, 2_643, 50, 920]),
     (LINE, ranges([0, 0], [0, 0], [1_000, 1_000]), [1, 0, 0, 1_000, 1, 0, 0, 1_000]),
-    (LINE, ranges([99_999, 99_999], [1_000, 1_000], [250, 250]), [6, 99_999, 1_000, 250, 6, 99_999, 1_000, 250]),
+    (LINE, ranges([999_999, 999_999], [1_000, 1_000], [250, 250]), [6, 999_999, 1_000, 250, 6, 999_999, 1_000, 250]),
     // The line's own load is not used. Clear weather is written out.
     (OTHER_LOAD, ranges([2_642, 2_643], [50, 50], [920, 920]), [3, 2_642, 50, 920, 4, 2_643, 50, 920]),
     (UNFIT_FACTOR, ranges([2_642, 2_642], [50, 50], [919, 920]), [3, 2_642, 50, 920, 4, 2_642, 50, 919]),
@@ -104,7 +110,8 @@ const REFUSED_RANGES: &[(Ranges, i32)] = &[
     (ranges([2_643, 2_642], [50, 50], [920, 920]), 22),
     (ranges([2_642, 2_642], [51, 50], [920, 920]), 22),
     (ranges([2_642, 2_642], [50, 50], [920, 919]), 22),
-    (ranges([99_999, 0], [0, 100], [850, 950]), 22),
+    (ranges([999_999, 0], [0, 100], [850, 950]), 22),
+    (ranges([100_000, 99_999], [0, 100], [850, 950]), 22),
     (ranges([1_000, 4_000], [1_000, 0], [850, 950]), 22),
     (ranges([1_000, 4_000], [0, 100], [1_000, 250]), 22),
     (ranges([1, 0], [1, 0], [251, 250]), 22),
@@ -117,10 +124,10 @@ const REFUSED_RANGES: &[(Ranges, i32)] = &[
     (ranges([1_000, 4_000], [0, 100], [PAST_16 + 850, 950]), 22),
     (ranges([SIGN, 4_000], [0, 100], [850, 950]), 22),
     // 22 is before 7: the same range, with one end or with both too large; another range.
-    (ranges([100_000, 99_999], [0, 100], [850, 950]), 22),
-    (ranges([100_001, 100_000], [0, 100], [850, 950]), 22),
+    (ranges([1_000_000, 999_999], [0, 100], [850, 950]), 22),
+    (ranges([1_000_001, 1_000_000], [0, 100], [850, 950]), 22),
     (ranges([FARTHEST, FARTHEST - 1], [0, 100], [850, 950]), 22),
-    (ranges([0, 100_000], [51, 50], [920, 920]), 22),
+    (ranges([0, 1_000_000], [51, 50], [920, 920]), 22),
     (ranges(AT_FARTHEST, [50, 50], [921, 920]), 22),
     // Before 8.
     (ranges([1_000, 4_000], [0, 100], [1_001, 1_000]), 22),
@@ -135,9 +142,9 @@ const REFUSED_RANGES: &[(Ranges, i32)] = &[
     (ranges([2_643, 2_642], [0, 1_001], [920, 920]), 22),
     (ranges([2_642, 2_642], [0, 1_001], [921, 920]), 22),
     // One end too large, and both.
-    (ranges([1_000, 100_000], [0, 100], [850, 950]), 7),
-    (ranges([99_999, 100_000], [0, 100], [850, 950]), 7),
-    (ranges([100_000, 100_000], [0, 100], [850, 950]), 7),
+    (ranges([1_000, 1_000_000], [0, 100], [850, 950]), 7),
+    (ranges([999_999, 1_000_000], [0, 100], [850, 950]), 7),
+    (ranges([1_000_000, 1_000_000], [0, 100], [850, 950]), 7),
     (ranges([PAST_32 + 1_000, PAST_32 + 4_000], [0, 100], [850, 950]), 7),
     (ranges([1_000, PAST_32 + 4_000], [0, 100], [850, 950]), 7),
     (ranges([1_000, SIGN], [0, 100], [850, 950]), 7),
@@ -148,13 +155,15 @@ const REFUSED_RANGES: &[(Ranges, i32)] = &[
     // 7 is before 8, whichever ends they meet: the best combination alone would have 8 in the first. Before 9, and before both.
     (ranges([0, 1_000_000], [50, 50], [900, 1_001]), 7),
     (ranges([0, 1_000_000], [50, 50], [249, 1_000]), 7),
-    (ranges([100_000, 100_000], [50, 50], [249, 1_001]), 7),
-    (ranges([0, 100_000], [0, 1_001], [920, 920]), 7),
-    (ranges([0, 100_000], [1_001, 1_001], [920, 920]), 7),
-    (ranges([0, 100_000], [1_001, 1_001], [0, 0]), 7),
+    (ranges([1_000_000, 1_000_000], [50, 50], [249, 1_001]), 7),
+    (ranges([0, 1_000_000], [0, 1_001], [920, 920]), 7),
+    (ranges([0, 1_000_000], [1_001, 1_001], [920, 920]), 7),
+    (ranges([0, 1_000_000], [1_001, 1_001], [0, 0]), 7),
     // One end out of range, and both.
-    (ranges([0, 99_999], [0, 1_000], [249, 1_000]), 8),
-    (ranges([0, 99_999], [0, 1_000], [250, 1_001]), 8),
+    (ranges([0, 999_999], [0, 1_000], [249, 1_000]), 8),
+    (ranges([0, 999_999], [0, 1_000], [250, 1_001]), 8),
+    (ranges([100_000, 100_000], [50, 50], [249, 1_001]), 8),
+    (ranges([0, 100_000], [1_001, 1_001], [0, 0]), 8),
     (ranges([1_000, 4_000], [0, 100], [900, 1_001]), 8),
     (ranges([1_000, 4_000], [0, 100], [249, 1_001]), 8),
     (ranges([1_000, 4_000], [0, 100], [249, 249]), 8),
@@ -173,7 +182,9 @@ const REFUSED_RANGES: &[(Ranges, i32)] = &[
     (ranges([1_000, 4_000], [1_001, 1_001], [249, 1_000]), 8),
     (ranges([1_000, 4_000], AT_FARTHEST, AT_FARTHEST), 8),
     // One end too large, and both.
-    (ranges([0, 99_999], [0, 1_001], [250, 1_000]), 9),
+    (ranges([0, 999_999], [0, 1_001], [250, 1_000]), 9),
+    (ranges([0, 100_000], [0, 1_001], [920, 920]), 9),
+    (ranges([0, 100_000], [1_001, 1_001], [920, 920]), 9),
     (ranges([1_000, 4_000], [1_000, 1_001], [850, 950]), 9),
     (ranges([1_000, 4_000], [1_001, 1_001], [850, 950]), 9),
     (ranges([1_000, 4_000], [0, PAST_32 + 100], [850, 950]), 9),
@@ -217,10 +228,11 @@ const MALFORMED_LOADS: [&str; 6] = [
     "F E 75400 110 20 0 D 24 2 2000 920 100000 R",
 ];
 
-// What must come up in a run of 100,000: results of refused calls, letters, and counts of combinations.
-const OUTCOMES: [&str; 31] = [
+// What must come up in a run of 100,000: results of refused calls, letters, high ends of demand of six digits, and counts of combinations.
+const OUTCOMES: [&str; 32] = [
     "-15", "-17", "-1", "-2", "-3", "-4", "-5", "-6", "-22", "-7", "-8", "-9", "-19", "-10", "best A", "best B", "best C", "best D",
     "best E", "best F", "worst A", "worst B", "worst C", "worst D", "worst E", "worst F", ONE, FEW_SAME, FEW_APART, MANY_SAME, MANY_APART,
+    SIX_DIGITS,
 ];
 // How many combinations there are, few where the second implementation tries each, and whether best and worst letter are apart.
 const ONE: &str = "one combination";
@@ -322,7 +334,7 @@ fn reverse(draw: &mut Draw, ranges: &mut Ranges) {
 fn move_ends_past_limits(draw: &mut Draw, ranges: &mut Ranges) {
     for _ in 0..draw.from(1, 3) {
         match draw.from(0, 7) {
-            0 | 1 => ranges.demand[1] = draw.one_of(&[GREATEST_DEMAND, GREATEST_DEMAND + 1, 1_000_000, FARTHEST]),
+            0 | 1 => ranges.demand[1] = draw.one_of(&[99_999, 100_000, GREATEST_DEMAND, GREATEST_DEMAND + 1, FARTHEST]),
             2 => ranges.share[1] = draw.one_of(&[1_000, 1_001, 1_002, FARTHEST]),
             3 => ranges.factor[1] = draw.one_of(&[1_000, 1_001, 1_002, FARTHEST]),
             4 => ranges.factor[0] = draw.one_of(&[0, 249, 250]),
@@ -483,6 +495,9 @@ impl Forecasts<'_> {
         let [best, worst] = shown(ours).map(|(letter, _)| lines::letter_name(letter as u32));
         self.outcomes.seen(format!("best {best}"));
         self.outcomes.seen(format!("worst {worst}"));
+        if has_six_digits(call.ranges.demand[1]) {
+            self.outcomes.seen(SIX_DIGITS.to_string());
+        }
         let counted = match (call.ranges.count(), best == worst) {
             (1, _) => ONE,
             (2..=MOST_TRIED, true) => FEW_SAME,

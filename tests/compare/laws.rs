@@ -3,10 +3,13 @@
 //     letter, under one weather; fewer lanes in clear weather or on a given speed.
 //   - A demand is at most the service volume of a letter exactly when it gets the letter or a better one.
 //   - The lanes question answers the least count with which the engine's own answer is the letter or a better one.
+//   - A line whose demand has at most five digits is read and answered as by the older reader. Any other was malformed to it, and is now
+//     unless it has six digits there (request T-09).
 
-use super::draw::{draw_accepted_case, line_of, Draw};
+use super::draw::{draw_accepted_case, draw_line, line_of, Draw, DEMAND_FIELD};
 use super::engine;
 use super::tally::Tally;
+use crate::second::lines;
 use crate::second::method::{Case, Method, Terrain, Way, Weather, GREATEST_DEMAND};
 
 // Letter and service volumes as the engine answers them, or its refusal. A is 1.
@@ -84,8 +87,42 @@ fn lanes_are_the_least(draw: &mut Draw, tally: &mut Tally, case: &Case) {
     tally.equal(engine::lanes_text(&line_of(case), letter), least, || format!("lanes for letter {letter}, {case:?}"));
 }
 
+// The greatest demand of the older reader.
+const OLDER_GREATEST_DEMAND: u64 = 99_999;
+
+// A demand's field, or nothing.
+fn demand_field(line: &[u8]) -> &[u8] {
+    line.split(|&byte| byte == b'\t').nth(DEMAND_FIELD).unwrap_or(b"")
+}
+
+// Hands back 1 where a six-digit demand, which the older reader refused, is well formed now.
+fn read_as_before(method: &Method, draw: &mut Draw, tally: &mut Tally, line: &[u8]) -> u64 {
+    let letter = draw.from(1, 5) as u32;
+    let (answer, lanes) = (engine::answer_text(line), engine::lanes_text(line, letter));
+    let [older_answer, older_lanes] = [lines::los_line_as_before(method, line), lines::lanes_line_as_before(method, line, letter)]
+        .map(|text| text.trim_end_matches('\n').to_string());
+    let name = || String::from_utf8_lossy(line).into_owned();
+    let length = demand_field(line).len();
+    if length <= 5 {
+        tally.equal(answer, older_answer, || format!("answer as before, {:?}", name()));
+        tally.equal(lanes, older_lanes, || format!("lanes for letter {letter} as before, {:?}", name()));
+        return 0;
+    }
+    tally.equal([&older_answer[..], &older_lanes], ["X\t15"; 2], || format!("older reader, {:?}", name()));
+    let malformed = answer == "X\t15";
+    tally.equal(malformed, lanes == "X\t15", || format!("answer and lanes for letter {letter}, {:?}", name()));
+    tally.check(malformed || length == 6, || format!("a demand of more than six digits is read, {:?}", name()));
+    u64::from(!malformed)
+}
+
+// "The service volumes [...] range over the longer interval", and none of them is in the part that is new.
+fn volumes_as_before(tally: &mut Tally, case: &Case, answer: &Answer) {
+    let before = answer.volumes.iter().all(|&volume| volume <= OLDER_GREATEST_DEMAND);
+    tally.check(before, || format!("a service volume above {OLDER_GREATEST_DEMAND}, {case:?}"));
+}
+
 pub fn sample(method: &Method, draw: &mut Draw, tally: &mut Tally, count: u64) {
-    let mut compared = 0;
+    let (mut compared, mut six_digits) = (0, 0);
     for _ in 0..count {
         let case = draw_accepted_case(draw, method);
         match ask(&case) {
@@ -93,9 +130,13 @@ pub fn sample(method: &Method, draw: &mut Draw, tally: &mut Tally, count: u64) {
                 compared += no_better_under_more_load(draw, tally, &case, &answer);
                 volumes_are_what_demands_meet(draw, tally, &case, &answer);
                 lanes_are_the_least(draw, tally, &case);
+                volumes_as_before(tally, &case, &answer);
             }
             Err(text) => tally.check(false, || format!("engine refuses an accepted case: {case:?}, {text:?}")),
         }
+        let line = draw_line(draw, method);
+        six_digits += read_as_before(method, draw, tally, &line);
     }
     tally.check(compared > count / 2, || format!("only {compared} pairs of loads were accepted"));
+    tally.check(six_digits > count / 10, || format!("only {six_digits} lines had six digits of demand"));
 }

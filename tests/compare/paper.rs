@@ -1,6 +1,7 @@
-// What documents 01 and 02 (T-02, T-03, T-08) say by figures, and figures worked out by hand from their rules, checked against both
+// What documents 01 and 02 (T-02, T-03, T-08, T-09) say by figures, and figures worked out by hand from their rules, checked against both
 // implementations. Lines are written with blanks for tabs; a - stands for a figure that is not checked there by itself.
 
+use super::draw::{DEMAND_FIELD, NUMBER_FIELDS};
 use super::engine;
 use super::tally::Tally;
 use crate::second::lines;
@@ -104,9 +105,30 @@ const ANSWERS: &[(&str, &str)] = &[
     ("M G 60000 120 60 60 D 0 2 0 1000 0 L 999 1000", "X 19"),
     ("M G 30000 120 60 60 D 0 2 0 1000 0 L 1000 999", "X 19"),
     ("F G 75000 120 60 60 D 0 2 0 1000 1001 L 499 1000", "X 9"),
-    // The greatest flow rate.
+    // Five digits of demand and six: 59,782.01, 59,782.61 and 597,825.49 cars.
+    ("F E 75400 110 20 0 D 24 2 99999 920 50 R", "F 60782 230782 59783 0 0 1117 1829 2642 3360 3858"),
+    ("F E 75400 110 20 0 D 24 2 100000 920 50 R", "F 60782 230782 59783 0 0 1117 1829 2642 3360 3858"),
+    ("F E 75400 110 20 0 D 24 2 999999 920 50 R", "F 60782 230782 597826 0 0 1117 1829 2642 3360 3858"),
     ("F G 60000 120 60 60 D 0 2 99999 250 1000 R", "F 60000 230000 599994 0 0"),
+    ("F G 60000 120 60 60 D 0 2 100000 250 1000 R", "F 60000 230000 600000 0 0"),
+    ("M G 60000 120 60 60 D 0 2 100000 1000 0 L", "F 60000 220000 50000 0 0 1320 2160 3064 3786 4400"),
+    ("F G 75000 120 60 60 D 0 2 999999 1000 0 L 950 900", "F 71250 216000 500000 0 0 1566 2506 3294 3884 4320"),
+    // On eight lanes of level terrain a car is 7.752 vehicles an hour: 128,998.84.
+    ("F G 72500 120 60 60 D 0 8 0 969 0 L", "A 72500 240000 0 72500 0 6178 10054 13620 16449 18604"),
+    ("F G 72500 120 60 60 D 0 8 999999 969 0 L", "F 72500 240000 128999 0 0 6178 10054 13620 16449 18604"),
+    // The greatest flow rate of each kind. With two lanes of kind F a vehicle is six cars, with three of kind M four.
+    ("F G 75000 120 60 60 D 0 2 999999 250 1000 R", "F 75000 240000 5999994 0 0 137 221 296 355 400"),
+    ("M G 45000 120 60 60 D 0 2 999999 250 1000 R", "F 45000 190000 5999994 0 0"),
+    ("M G 45000 120 60 60 D 0 3 999999 250 1000 R", "F 45000 190000 3999996 0 0"),
+    // The longest line that is accepted: 374,999.625 cars, and the last flow rates 825, 1,328, 1,776, 2,130 and 2,400 by 8 / 3.
+    ("F G 75000 200 400 400 D 48 8 999999 1000 1000 R 1000 1000", "F 75000 240000 375000 0 0 2200 3541 4736 5680 6400"),
+    // Every number at its widest.
+    (WIDEST, "X 1"),
 ];
+
+// A line as long as any that is well formed.
+const WIDEST: &str = "F G 99999 99999 99999 99999 D 99999 99999 999999 99999 99999 L 99999 99999";
+const LONGEST: usize = 74;
 
 // The lanes question: letter, line, answer.
 const LANES: &[(u32, &str, &str)] = &[
@@ -114,6 +136,14 @@ const LANES: &[(u32, &str, &str)] = &[
     (3, "F E 75400 110 20 0 D 24 2 2643 920 50 R", "3"),
     (3, "F E 75400 110 20 0 D 24 2 2642 920 50 R", "2"),
     (3, "F E 75400 110 20 0 D 24 2 99999 920 50 R", "X 14"),
+    (3, "F E 75400 110 20 0 D 24 2 100000 920 50 R", "X 14"),
+    (3, "F E 75400 110 20 0 D 24 2 999999 920 50 R", "X 14"),
+    (1, "F E 75400 110 20 0 D 24 2 999999 920 50 R", "X 14"),
+    (5, "F E 75400 110 20 0 D 24 2 999999 920 50 R", "X 14"),
+    (5, "M G 60000 120 60 60 D 0 2 999999 1000 0 L", "X 14"),
+    // The widest line: 16 before 1.
+    (5, WIDEST, "X 1"),
+    (6, WIDEST, "X 16"),
     // The answer does not rest on the lanes of the case.
     (3, "F E 75400 110 20 0 D 24 8 2000 920 50 R", "2"),
     // It checks 1 to 9, not 10. A missing tenth takes off 60, 40, 20, 10: F is below 55,000 with no count, one, two, three, every count.
@@ -142,6 +172,7 @@ const LANES: &[(u32, &str, &str)] = &[
     (5, "F E 58600 120 0 0 D 0 2 0 1000 0 L 861 1000", "X 14"),
     // 19 before 14, after 16.
     (5, "F G 75000 120 60 60 D 0 2 99999 1000 0 L 499 1000", "X 19"),
+    (5, "F G 75000 120 60 60 D 0 2 999999 1000 0 L 499 1000", "X 19"),
     (5, "M G 44999 120 60 60 D 0 2 0 1000 0 L 1000 999", "X 19"),
 ];
 
@@ -316,7 +347,7 @@ const MALFORMED: &[&str] = &[
     "F G 60000 120 60 60 d 0 2 1000 1000 0 L",
     "F G 60000 120 60 60 D +0 2 1000 1000 0 L",
     "F G 60000 120 60 60 D 0 2.0 1000 1000 0 L",
-    "F G 60000 120 60 60 D 0 2 100000 1000 0 L",
+    "F G 60000 120 60 60 D 0 2 1000000 1000 0 L",
     "F G 60000 120 60 60 D 0 2 4294968296 1000 0 L",
     "F G 60000 120 60 60 D 0 2 1000 1e3 0 L",
     "F G 60000 120 60 60 D 0 2 1000 1000 : L",
@@ -341,6 +372,16 @@ const MALFORMED: &[&str] = &[
     "F G 60000 120 60 60 D 0 2 1000 1000 00000000000000000000000000000000000000000000 L",
     "F G 60000 120 60 60 D 0 2 1000 1000 000000000000000000000000000000000000000000000 L",
 ];
+
+// Numbers of six digits, and what no field holds: leading zeros, seven digits, and six or seven bytes of which one or more are no digit.
+const SIX_DIGITS: [&str; 5] = ["100000", "100001", "123456", "999998", "999999"];
+const NO_NUMBERS: [&str; 20] = [
+    "099999", "000000", "0999999", "0000001", "1000000", "1000001", "1234567", "9999999", "99999O", "O99999", "99999/", "99999:", "9/9999",
+    "+99999", "-99999", "+999999", "99999.", "999,999", "1e5000", "DDDDDD",
+];
+
+// The least and the greatest demand of one to five digits.
+const SHORTER_DEMANDS: [&str; 11] = ["0", "1", "9", "10", "99", "100", "999", "1000", "9999", "10000", "99999"];
 
 fn tabbed(line: &str) -> Vec<u8> {
     line.replace(' ', "\t").replace('~', "\t").into_bytes()
@@ -467,27 +508,70 @@ impl Paper<'_> {
     }
 
     // Of two faults the one that comes first is refused. The lanes question passes over 10.
+    fn two_faults(&mut self, line: &str, faults: &[(i32, usize, &str)]) {
+        for (place, &(number, field, value)) in faults.iter().enumerate() {
+            for &(_, other_field, other_value) in &faults[place..] {
+                let faulty = with_field(&with_field(line, other_field, other_value), field, value);
+                self.answer(&faulty, &format!("X {number}"));
+                self.lanes(5, &faulty, &format!("X {}", if number == 10 { 14 } else { number }));
+                self.lanes(0, &faulty, "X 16");
+                self.lanes(6, &faulty, "X 16");
+                self.answer(&format!("{faulty} "), "X 15");
+                self.lanes(0, &format!("{faulty} "), "X 15");
+            }
+        }
+    }
+
+    fn malformed(&mut self, line: &str) {
+        self.answer(line, "X 15");
+        self.lanes(1, line, "X 15");
+        self.lanes(0, line, "X 15");
+    }
+
     fn order(&mut self) {
         for (line, faults) in [(FREEWAY, &FREEWAY_FAULTS[..]), (MULTILANE, &MULTILANE_FAULTS[..])] {
-            for (place, &(number, field, value)) in faults.iter().enumerate() {
-                for &(_, other_field, other_value) in &faults[place..] {
-                    let faulty = with_field(&with_field(line, other_field, other_value), field, value);
-                    self.answer(&faulty, &format!("X {number}"));
-                    self.lanes(5, &faulty, &format!("X {}", if number == 10 { 14 } else { number }));
-                    self.lanes(0, &faulty, "X 16");
-                    self.lanes(6, &faulty, "X 16");
-                    self.answer(&format!("{faulty} "), "X 15");
-                    self.lanes(0, &format!("{faulty} "), "X 15");
-                }
+            // 7 cannot be put on a line, so that no demand comes before a fault.
+            for demand in ["1000", "999999"] {
+                self.two_faults(&with_field(line, DEMAND_FIELD, demand), faults);
             }
         }
         for line in MALFORMED {
-            self.answer(line, "X 15");
-            self.lanes(1, line, "X 15");
-            self.lanes(0, line, "X 15");
+            self.malformed(line);
         }
         for letter in [0, 6, 7, 256, 257, 65_537, u32::MAX] {
             self.lanes(letter, LINE, "X 16");
+        }
+    }
+
+    // Six digits are a demand, and malformed in every other field.
+    fn six_digits(&mut self) {
+        for line in [FREEWAY, MULTILANE] {
+            for field in NUMBER_FIELDS {
+                for text in NO_NUMBERS {
+                    self.malformed(&with_field(line, field, text));
+                }
+                for number in SIX_DIGITS {
+                    self.six_digits_in(&with_field(line, field, number), field);
+                }
+            }
+            for demand in SHORTER_DEMANDS {
+                self.accepted(&with_field(line, DEMAND_FIELD, demand));
+            }
+        }
+        self.tally.equal(WIDEST.len(), LONGEST, || "length of the widest line".to_string());
+        for field in NUMBER_FIELDS {
+            let wider = with_field(WIDEST, field, if field == DEMAND_FIELD { "1000000" } else { "100000" });
+            self.malformed(&wider);
+        }
+    }
+
+    fn six_digits_in(&mut self, line: &str, field: usize) {
+        if field == DEMAND_FIELD {
+            self.answer(line, "F");
+            self.lanes(5, line, "X 14");
+            self.lanes(0, line, "X 16");
+        } else {
+            self.malformed(line);
         }
     }
 
@@ -528,6 +612,7 @@ impl Paper<'_> {
         self.adjustments();
         self.limits();
         self.order();
+        self.six_digits();
         self.buffer_length();
         self.surveys();
     }

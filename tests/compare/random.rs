@@ -1,6 +1,6 @@
 // Random lines, sound and damaged, with buffers of random length and content.
 
-use super::draw::{draw_accepted_case, draw_line, Draw};
+use super::draw::{draw_accepted_case, draw_line, Draw, DEMAND_FIELD, NUMBER_FIELDS};
 use super::engine;
 use super::tally::{Outcomes, Tally};
 use crate::second::lines;
@@ -14,6 +14,9 @@ const OUTCOMES: [&str; 27] = [
     "X16", "X17", "X19",
 ];
 const LEAST_OF_EACH: u64 = 1_000;
+
+// Lines with six digits in each field of a number and with seven in the demand's must come up too.
+const LEAST_OF_EACH_FIELD: u64 = 100;
 
 // Bytes on both sides of a lent buffer.
 const MARGIN: usize = 16;
@@ -48,6 +51,19 @@ fn outcome(result: i32, buffer: &[u8]) -> String {
     }
 }
 
+// The one number of a line of 13 or 15 fields that has more than five digits, if it has six or seven.
+fn long_number(line: &[u8]) -> Option<String> {
+    let fields: Vec<&[u8]> = line.split(|&byte| byte == b'\t').collect();
+    let mut long = NUMBER_FIELDS.iter().filter_map(|&place| Some((place, *fields.get(place)?))).filter(|(_, field)| field.len() > 5);
+    let ((place, field), None) = (long.next()?, long.next()) else { return None };
+    let digits = field[0] != b'0' && field.iter().all(u8::is_ascii_digit);
+    (digits && field.len() <= 7 && [13, 15].contains(&fields.len())).then(|| long_number_name(field.len(), place))
+}
+
+fn long_number_name(digits: usize, place: usize) -> String {
+    format!("{digits} digits in field {place}")
+}
+
 pub struct Random<'a> {
     pub method: &'a Method,
     pub draw: Draw,
@@ -80,6 +96,9 @@ impl Random<'_> {
         for number in 0..count {
             let line = draw_line(&mut self.draw, self.method);
             self.call(&line, None, &mut ours, &mut theirs);
+            if let Some(name) = long_number(&line) {
+                self.outcomes.seen(name);
+            }
             match number % 16 {
                 0 => LETTERS.iter().for_each(|&letter| self.call(&line, Some(letter), &mut ours, &mut theirs)),
                 1..=3 => {
@@ -93,6 +112,10 @@ impl Random<'_> {
 
     pub fn coverage(&mut self) {
         self.outcomes.cover(&mut self.tally, &OUTCOMES, LEAST_OF_EACH);
+        let long = NUMBER_FIELDS.map(|place| (6, place)).into_iter().chain([(7, DEMAND_FIELD)]);
+        let names: Vec<String> = long.map(|(digits, place)| long_number_name(digits, place)).collect();
+        let names: Vec<&str> = names.iter().map(String::as_str).collect();
+        self.outcomes.cover(&mut self.tally, &names, LEAST_OF_EACH_FIELD);
     }
 
     // The second implementation's own search for service volumes against trying every demand.
@@ -101,7 +124,7 @@ impl Random<'_> {
             let case = draw_accepted_case(&mut self.draw, self.method);
             let curve = self.method.curve(&case).expect("the case is accepted");
             let by_runs = self.method.service_volumes(&case, &curve);
-            let by_every = [1, 2, 3, 4, 5].map(|letter| self.method.service_volume_by_every_demand(&case, &curve, letter));
+            let by_every = self.method.service_volumes_by_every_demand(&case, &curve);
             self.tally.equal(by_runs, by_every, || format!("service volumes of the second implementation, {case:?}"));
         }
     }

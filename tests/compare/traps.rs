@@ -1,6 +1,6 @@
-// The traps that document 01 names, three of clearances, five of weather and two of the ramp term (document 02, T-02, T-03 and T-08). Each
-// is written out as a formula, with an input at which it answers something else: both implementations must give the right answer there, and
-// the trap its wrong one.
+// The traps that document 01 names, three of clearances, five of weather, two of the ramp term and two of the demand (document 02, T-02,
+// T-03, T-08 and T-09). Each is written out as a formula, with an input at which it answers something else: both implementations must give
+// the right answer there, and the trap its wrong one.
 
 use super::engine;
 use super::tally::Tally;
@@ -140,6 +140,22 @@ const TRAPS: &[Trap] = &[
         wrong: "B 65054 235054 1000 65054 154",
         formula: ramp_term_rounded_up,
     },
+    Trap {
+        name: "a demand above 99,999 taken as 99,999",
+        letter: 0,
+        line: "F E 75400 110 20 0 D 24 2 999999 920 50 R",
+        right: "F 60782 230782 597826 0 0",
+        wrong: "F 60782 230782 59783 0 0",
+        formula: demand_at_most_99999,
+    },
+    Trap {
+        name: "a demand's sixth digit left out",
+        letter: 0,
+        line: "F G 75000 120 60 60 D 0 8 100000 1000 0 L",
+        right: "F 75000 240000 12500 0 0",
+        wrong: "B 75000 240000 1250 74309 169",
+        formula: sixth_digit_left_out,
+    },
 ];
 
 // The first six fields of an answer, with blanks.
@@ -267,6 +283,20 @@ fn ramp_term_rounded_down(method: &Method, case: &Case) -> String {
 
 fn ramp_term_rounded_up(method: &Method, case: &Case) -> String {
     with_ramp_term(method, case, unrounded_ramp_term(case).ceil())
+}
+
+// The answer with a wrong demand.
+fn with_demand(method: &Method, case: &Case, wrong: u64) -> String {
+    let case = Case { demand: wrong, ..*case };
+    on_curve(method, &case, curve(method, &case))
+}
+
+fn demand_at_most_99999(method: &Method, case: &Case) -> String {
+    with_demand(method, case, case.demand.min(99_999))
+}
+
+fn sixth_digit_left_out(method: &Method, case: &Case) -> String {
+    with_demand(method, case, case.demand / 10)
 }
 
 // Blanks for tabs, and no more fields than there are wanted.

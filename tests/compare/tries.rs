@@ -12,15 +12,16 @@ use crate::second::method::{Case, Kind, Median, Method, Terrain, Way, Weather, G
 // "at most 80 demands tried for the five together"
 const MOST: i32 = 80;
 
-// Lines and what the call hands back, the sum of what is tried for E, D, C, B and A. Blanks stand for tabs. The volumes of the first are
-// 1117 1829 2642 3360 3858, those of the second 6178 10054 13620 16449 18604.
+// Lines and what the call hands back, the sum of what is tried for E, D, C, B and A. Blanks stand for tabs. The volumes of the first two
+// are 1117 1829 2642 3360 3858, those of the third 6178 10054 13620 16449 18604.
 const FIGURES: &[(&str, i32)] = &[
-    ("F E 75400 110 20 0 D 24 2 2000 920 50 R", 17 + 12 + 12 + 12 + 11),
-    ("F G 72500 120 60 60 D 0 8 0 969 0 L", 17 + 15 + 15 + 14 + 14),
+    ("F E 75400 110 20 0 D 24 2 2000 920 50 R", 20 + 12 + 12 + 12 + 11),
+    ("F E 75400 110 20 0 D 24 2 999999 920 50 R", 20 + 12 + 12 + 12 + 11),
+    ("F G 72500 120 60 60 D 0 8 0 969 0 L", 20 + 15 + 15 + 14 + 14),
     ("F E 60000 120 0 0 D 6 2 2000 1000 0 L", -10),
     ("F G 29999 120 60 60 D 0 2 0 249 0 L", -1),
     ("F G 75000 120 60 60 D 0 2 0 1000 0 L 499 1000", -19),
-    ("F G 75000 120 60 60 D 0 2 100000 1000 0 L", -15),
+    ("F G 75000 120 60 60 D 0 2 1000000 1000 0 L", -15),
     ("", -15),
 ];
 

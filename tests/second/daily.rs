@@ -5,7 +5,7 @@
 
 use super::figures;
 use super::lines::{parse, MALFORMED};
-use super::method::{flow_rate, least, Case, Curve, Method, Refusal, GREATEST_DEMAND};
+use super::method::{flow_rate, last_that_meet, least, Case, Curve, Method, Refusal, GREATEST_DEMAND};
 
 // The numbers of an answer: the eleven figures for the hourly demand, then the daily service volumes A to E.
 pub const FIGURES: usize = 16;
@@ -58,16 +58,10 @@ impl Section<'_> {
         [1, 2, 3, 4, 5].map(|letter| self.daily_volume(letter))
     }
 
-    // The same by plain counting, of every daily traffic from 0 to the last that 7 lets pass: a letter keeps the last that met it, however
-    // letters follow each other. Meant for large shares, with which there are few.
+    // The same by plain counting, of every daily traffic from 0 to the last that 7 lets pass, however letters follow each other. Meant for
+    // large shares, with which there are few.
     pub fn daily_volumes_by_counting(&self) -> [u64; 5] {
-        let mut volumes = [0; 5];
-        let letters = (0..=GREATEST_DAILY_TRAFFIC).map_while(|daily_traffic| Some((daily_traffic, self.letter(daily_traffic)?)));
-        for (daily_traffic, got) in letters {
-            // From the place of the letter on; F, the sixth, has none.
-            volumes[got as usize - 1..].fill(daily_traffic);
-        }
-        volumes
+        last_that_meet((0..=GREATEST_DAILY_TRAFFIC).map_while(|daily_traffic| Some((daily_traffic, self.letter(daily_traffic)?))))
     }
 }
 

@@ -9,14 +9,23 @@ pub const MALFORMED: Refusal = 15;
 const LETTER_UNKNOWN: Refusal = 16;
 pub const BUFFER_TOO_SHORT: Refusal = 17;
 
-// One to five digits with no leading zero, save 0 itself.
-fn number(field: &[u8]) -> Option<u64> {
+// How many digits a number has at most: a demand, one that an older reader takes (before T-09), and every other number.
+const DEMAND_DIGITS: usize = 6;
+const OLDER_DEMAND_DIGITS: usize = 5;
+const DIGITS: usize = 5;
+
+// Some digits with no leading zero, save 0 itself.
+fn number_of(field: &[u8], most_digits: usize) -> Option<u64> {
     let well_formed = match field {
         [b'0'] => true,
-        [b'1'..=b'9', others @ ..] => others.len() <= 4 && others.iter().all(u8::is_ascii_digit),
+        [b'1'..=b'9', others @ ..] => field.len() <= most_digits && others.iter().all(u8::is_ascii_digit),
         _ => false,
     };
     well_formed.then(|| field.iter().fold(0, |value, digit| 10 * value + u64::from(digit - b'0')))
+}
+
+fn number(field: &[u8]) -> Option<u64> {
+    number_of(field, DIGITS)
 }
 
 // The meaning of a field of one letter.
@@ -34,7 +43,7 @@ fn weather(fields: &[&[u8]]) -> Option<Weather> {
     }
 }
 
-pub fn parse(line: &[u8]) -> Option<Case> {
+fn parse_with(line: &[u8], demand_digits: usize) -> Option<Case> {
     if line.len() > LONGEST_LINE {
         return None;
     }
@@ -52,7 +61,7 @@ pub fn parse(line: &[u8]) -> Option<Case> {
         median: choice(median, &[(b'U', Median::Undivided), (b'D', Median::Divided), (b'T', Median::TurnLane)])?,
         access: number(access)?,
         lanes: number(lanes)?,
-        demand: number(demand)?,
+        demand: number_of(demand, demand_digits)?,
         factor: number(factor)?,
         share: number(share)?,
         terrain: choice(terrain, &[(b'L', Terrain::Level), (b'R', Terrain::Rolling)])?,
@@ -60,13 +69,22 @@ pub fn parse(line: &[u8]) -> Option<Case> {
     })
 }
 
+pub fn parse(line: &[u8]) -> Option<Case> {
+    parse_with(line, DEMAND_DIGITS)
+}
+
+// "an older reader meets a six-digit demand with refusal 15"
+pub fn parse_as_older_reader(line: &[u8]) -> Option<Case> {
+    parse_with(line, OLDER_DEMAND_DIGITS)
+}
+
 pub fn letter_name(letter: u32) -> char {
     [' ', 'A', 'B', 'C', 'D', 'E', 'F'][letter as usize]
 }
 
-fn answer_text(method: &Method, line: &[u8]) -> Result<String, Refusal> {
-    let case = parse(line).ok_or(MALFORMED)?;
-    let answer = method.answer(&case)?;
+// What is answered to what a reader made of a line.
+fn answer_text(method: &Method, case: Option<Case>) -> Result<String, Refusal> {
+    let answer = method.answer(&case.ok_or(MALFORMED)?)?;
     let [a, b, c, d, e] = answer.service_volumes;
     Ok(format!(
         "{}\t{}\t{}\t{}\t{}\t{}\t{a}\t{b}\t{c}\t{d}\t{e}\n",
@@ -79,8 +97,8 @@ fn answer_text(method: &Method, line: &[u8]) -> Result<String, Refusal> {
     ))
 }
 
-fn lanes_text(method: &Method, line: &[u8], letter: u32) -> Result<String, Refusal> {
-    let case = parse(line).ok_or(MALFORMED)?;
+fn lanes_text(method: &Method, case: Option<Case>, letter: u32) -> Result<String, Refusal> {
+    let case = case.ok_or(MALFORMED)?;
     if !(1..=LETTER_E).contains(&letter) {
         return Err(LETTER_UNKNOWN);
     }
@@ -102,14 +120,14 @@ pub fn answer(method: &Method, line: &[u8], buffer: &mut [u8]) -> i32 {
     if buffer.len() < LEAST_BUFFER {
         return -BUFFER_TOO_SHORT;
     }
-    written(answer_text(method, line), buffer)
+    written(answer_text(method, parse(line)), buffer)
 }
 
 pub fn lanes(method: &Method, line: &[u8], letter: u32, buffer: &mut [u8]) -> i32 {
     if buffer.len() < LEAST_BUFFER {
         return -BUFFER_TOO_SHORT;
     }
-    written(lanes_text(method, line, letter), buffer)
+    written(lanes_text(method, parse(line), letter), buffer)
 }
 
 // The lines of an input: a last line without newline counts, an empty input has none.
@@ -121,7 +139,20 @@ pub fn input_lines(input: &[u8]) -> Vec<&[u8]> {
     lines
 }
 
+fn printed(text: Result<String, Refusal>) -> String {
+    text.unwrap_or_else(|number| format!("X\t{number}\n"))
+}
+
 // What los prints for a line.
 pub fn los_line(method: &Method, line: &[u8]) -> String {
-    answer_text(method, line).unwrap_or_else(|number| format!("X\t{number}\n"))
+    printed(answer_text(method, parse(line)))
+}
+
+// With the older reader, what los prints for a line, and the lanes question in the same form.
+pub fn los_line_as_before(method: &Method, line: &[u8]) -> String {
+    printed(answer_text(method, parse_as_older_reader(line)))
+}
+
+pub fn lanes_line_as_before(method: &Method, line: &[u8], letter: u32) -> String {
+    printed(lanes_text(method, parse_as_older_reader(line), letter))
 }

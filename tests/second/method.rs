@@ -8,7 +8,7 @@ use super::big::Big;
 use std::ops::RangeInclusive;
 use std::sync::OnceLock;
 
-pub const GREATEST_DEMAND: u64 = 99_999;
+pub const GREATEST_DEMAND: u64 = 999_999;
 
 // Letters by number: A is 1, F is 6.
 pub const LETTER_E: u32 = 5;
@@ -369,6 +369,16 @@ fn service_volume(runs: &[Run], case: &Case, letter: u32) -> u64 {
     unreachable!("demand 0 gets A")
 }
 
+// Of numbers with their letters, the last that gets A, the last that gets B or a better one, and so on to E. One of them gets A.
+pub fn last_that_meet(letters: impl Iterator<Item = (u64, u32)>) -> [u64; 5] {
+    let mut last = [0; 5];
+    for (number, letter) in letters {
+        // From the place of the letter on; F, the sixth, has none.
+        last[letter as usize - 1..].fill(number);
+    }
+    last
+}
+
 pub struct Method {
     ramp_terms: Vec<u64>,
     powers: Vec<u64>,
@@ -475,10 +485,9 @@ impl Method {
         self.kept_runs[kind as usize].get(slot as usize)
     }
 
-    // The service volume of one letter, by trying every demand.
-    pub fn service_volume_by_every_demand(&self, case: &Case, curve: &Curve, letter: u32) -> u64 {
-        let meets = |demand: &u64| self.letter(curve, flow_rate(&Case { demand: *demand, ..*case })) <= letter;
-        (0..=GREATEST_DEMAND).rev().find(meets).expect("demand 0 gets A")
+    // The service volumes by trying every demand, however letters follow each other.
+    pub fn service_volumes_by_every_demand(&self, case: &Case, curve: &Curve) -> [u64; 5] {
+        last_that_meet((0..=GREATEST_DEMAND).map(|demand| (demand, self.letter(curve, flow_rate(&Case { demand, ..*case })))))
     }
 
     pub fn service_volumes(&self, case: &Case, curve: &Curve) -> [u64; 5] {

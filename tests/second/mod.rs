@@ -3,7 +3,7 @@
 //   big      whole numbers of any size
 //   method   the answer to a case, and the lanes question; clearances from request T-02 of document 02, weather from T-03, the ramp term
 //            from T-08
-//   lines    cases and answers as text, and the program's input and output; weather fields from T-03
+//   lines    cases and answers as text, and the program's input and output; weather fields from T-03, six digits of demand from T-09
 //   survey   surveyed speeds
 //   day      a whole day in one call, from request T-01 of document 02
 //   daily    daily traffic in the place of the demand, from request T-06 of document 02

@@ -7,17 +7,17 @@
 --   estimated-answer   the answer to the case that 10 refuses
 --   snow-answer, example-in-snow   the answers to the two cases in snow
 --   eight-lanes-accepted, eight-lanes-volumes   a case with 8 lanes, and its service volumes
---   none-at-99999      with V = 99,999 no count of the printed case meets C
+--   none-at-999999     with V = 999,999 no count of the printed case meets C
 --   boundary-shown     each figure of the list is what is to be shown
 -- Assumes nothing.
-use Rattle.std.proofs.Common.{◌≡◌, refl, ap, ◌∙◌, Bool, false, ◌&&◌, [], ◌∷◌, ◌++◌, ℕ, ◌≤◌, arith, T, leb, leb→le, drop}
+use Rattle.std.proofs.Common.{◌≡◌, refl, ap, ◌∙◌, Bool, false, ◌&&◌, [], ◌∷◌, ◌++◌, ℕ, ◌≤◌, arith, T, leb, leb→le, drop, get_or}
 use Rattle.numbers.specs.Division.{div_up}
 use Rattle.numbers.specs.Search.{least_from, least, ends_at}
 use Rattle.numbers.proofs.SearchLaws.{greatest-last}
 use Rattle.numbers.proofs.BoolLaws.{and-left, and-right}
 use Rattle.checks.specs.Refusals.{refuses}
 use Rattle.checks.specs.Figures.{Shown}
-use Rattle.checks.specs.Numbers.{in_order, refusal_of}
+use Rattle.checks.specs.Numbers.{in_order, refusal_of, refusal_number}
 use Rattle.checks.proofs.FigureLaws.{Shown-append}
 use Rattle.curve.specs.declared.kind.Kind.TheVariants as Kind
 use Rattle.curve.specs.declared.Curve.{Curve}
@@ -43,10 +43,10 @@ use Rattle.method.proofs.Boundary.{ramp-6, ramp-24}
 use Rattle.answer.specs.Volumes.{meets, service_volume}
 use Rattle.answer.specs.Answers as answers
 use Rattle.answer.specs.Answers.{graded, answer_to}
-use Rattle.answer.specs.Lanes.{lanes_found, lanes_refusals}
+use Rattle.answer.specs.Lanes.{lanes_found, lanes_refusals, lanes_answer}
 use Rattle.answer.specs.Search.{demand_meets}
 use Rattle.answer.specs.SearchOrder.{eight_lanes}
-use Rattle.answer.specs.Boundary.{example_with, example_in_snow, estimated, given_in_snow, refused_by19, answered, counted}
+use Rattle.answer.specs.Boundary.{example_with, example_in_snow, estimated, given_in_snow, refused_by19, greatest_flow, answered, counted}
 use Rattle.answer.specs.Boundary.{added_figures, boundary_figures}
 use Rattle.answer.proofs.VolumeLaws.{case_meets, case_meets-down, service_volume-eq}
 
@@ -165,22 +165,38 @@ unfolding div_up ends_at heavy_factor_of flow_rate_of fall_share_by speed densit
 eight-lanes-volumes =
     five eight_lanes (freeway 72500 240000 110000) eight-lanes-accepted eight-lanes-curve 6178 10054 13620 16449 18604 tt tt tt tt tt
 
+-- the case with the greatest flow rate
+greatest-flow-accepted : Accepted greatest_flow
+unfolding uncapped_by free_flow_speed_of weather_unfit road_refusals load_refusals field_refusals adjusted_speed speed_refusals refusals
+greatest-flow-accepted = refl
+
+greatest-flow-curve : case_curve greatest_flow ≡ freeway 75000 240000 100000
+unfolding uncapped_by free_flow_speed_of capacity breakpoint adjusted_speed adjusted_capacity adjusted_breakpoint curve_under curve_of
+greatest-flow-curve = refl
+
+greatest-flow-volumes : VolumesOf greatest_flow 137 221 296 355 400
+unfolding div_up ends_at heavy_factor_of flow_rate_of fall_share_by speed density meets_limit density_limit keeps ends
+greatest-flow-volumes = five greatest_flow (freeway 75000 240000 100000) greatest-flow-accepted greatest-flow-curve 137 221 296 355 400 tt tt tt tt tt
+
 -- ---- the figures
--- the printed line's eleven, a case that 10 refuses, and those of the two in snow
+-- the printed line's eleven, a case that 10 refuses, those of the two in snow, and those at the greatest flow rate
 answers-shown : (answered example ≡ 0 ∷ 3 ∷ 60782 ∷ 230782 ∷ 1196 ∷ 60782 ∷ 197 ∷ 1117 ∷ 1829 ∷ 2642 ∷ 3360 ∷ 3858 ∷ [])
     × (answered estimated ≡ 10 ∷ [])
     × (answered (given_in_snow 2 3000) ≡ 0 ∷ 3 ∷ 71250 ∷ 216000 ∷ 1500 ∷ 66271 ∷ 227 ∷ 1566 ∷ 2506 ∷ 3294 ∷ 3884 ∷ 4320 ∷ [])
     × (answered (example_in_snow 2000) ≡ 0 ∷ 3 ∷ 52272 ∷ 173372 ∷ 1196 ∷ 52222 ∷ 230 ∷ 960 ∷ 1572 ∷ 2221 ∷ 2636 ∷ 2898 ∷ [])
+    × (answered greatest_flow ≡ 0 ∷ 6 ∷ 75000 ∷ 240000 ∷ 5999994 ∷ 0 ∷ 0 ∷ 137 ∷ 221 ∷ 296 ∷ 355 ∷ 400 ∷ [])
 unfolding in_order refusal_of div_up uncapped_by free_flow_speed_of weather_unfit road_refusals load_refusals field_refusals adjusted_speed
     speed_refusals refusals capacity breakpoint adjusted_capacity adjusted_breakpoint curve_under curve_of heavy_factor_of flow_rate_of fall_share_by speed shown_speed density shown_density
     density_limit density_letter letter_at performance measures graded
 answers-shown =
     let given = given-volumes in
-    let snow = snow-volumes in (
+    let snow = snow-volumes in
+    let most = greatest-flow-volumes in (
       simp (example-speeds.0, volumes.0, volumes.1, volumes.2, volumes.3, volumes.4),
       simp estimated-speeds.0,
       simp (given.0, given.1, given.2, given.3, given.4),
       simp (example-speeds.0, snow.0, snow.1, snow.2, snow.3, snow.4),
+      simp (most.0, most.1, most.2, most.3, most.4),
     )
 
 pub example-answer : answered example ≡ 0 ∷ 3 ∷ 60782 ∷ 230782 ∷ 1196 ∷ 60782 ∷ 197 ∷ 1117 ∷ 1829 ∷ 2642 ∷ 3360 ∷ 3858 ∷ []
@@ -201,7 +217,8 @@ pub example-figures : answers.values (answer_to example) ≡ 3 ∷ 60782 ∷ 230
 example-figures = ap (drop 1) example-answer
 
 -- the lanes of the printed case, with more demand, with a letter number past E; in snow; the order 16, 1, 19
-lanes-shown : (counted example 3 ≡ 0 ∷ 2 ∷ []) × (counted (example_with 2643) 3 ≡ 0 ∷ 3 ∷ []) × (counted (example_with 99999) 3 ≡ 14 ∷ [])
+lanes-shown : (counted example 3 ≡ 0 ∷ 2 ∷ []) × (counted (example_with 2643) 3 ≡ 0 ∷ 3 ∷ [])
+    × (counted (example_with 999999) 3 ++ counted (example_with 99999) 3 ≡ 14 ∷ 14 ∷ [])
     × (counted example 6 ≡ 16 ∷ []) × (counted (example_in_snow 2222) 3 ≡ 0 ∷ 3 ∷ [])
     × (counted refused_by19 1 ++ (counted refused_by19 6 ++ (counted refused_by_all 1 ++ counted refused_by_all 0)) ≡ 19 ∷ 16 ∷ 1 ∷ 16 ∷ [])
 unfolding in_order refusal_of div_up least_from least weather_unfit road_refusals load_refusals field_refusals refusals heavy_factor_of flow_rate_of fall_share_by speed
@@ -239,14 +256,14 @@ unfolding in_order refusal_of div_up least_from least weather_unfit road_refusal
     shown_density density_limit density_letter letter_at performance measures meets lanes_found lanes_refusals
 estimated-shown = simp (estimated-speeds.0, estimated-speeds.1, estimated-speeds.2)
 
-pub none-at-99999 : counted (example_with 99999) 3 ≡ 14 ∷ []
-none-at-99999 = lanes-shown.2
+pub none-at-999999 : refusal_number (lanes_answer (example_with 999999) 3) ≡ 14
+none-at-999999 = ap (λ ns. get_or ns 0 0) lanes-shown.2
 
 added-shown : Shown added_figures
 unfolding added_figures
 added-shown =
     let a = answers-shown in
-    let l = lanes-shown in (a.0, (l.0, (l.1, (l.2, (l.3, (a.1, (estimated-shown, (a.2, (a.3, (l.4, (l.5, tt)))))))))))
+    let l = lanes-shown in (a.0, (l.0, (l.1, (l.2, (l.3, (a.1, (estimated-shown, (a.2, (a.3, (l.4, (l.5, (a.4, tt))))))))))))
 
 pub boundary-shown : Shown boundary_figures
 boundary-shown = Shown-append specs-method.boundary_figures added_figures method.boundary-shown added-shown

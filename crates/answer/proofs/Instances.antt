@@ -38,7 +38,7 @@ use Rattle.answer.proofs.AnswerLaws.{answer_to-number, Meets-iff}
 use Rattle.answer.proofs.Promises.{volume_in-accepted, no-better-under-more-load, meets-up-to-the-service-volume}
 use Rattle.answer.proofs.Promises.{least-accepted-count}
 use Rattle.answer.proofs.Boundary.{example-speeds, estimated-speeds, example-accepted, snow-accepted, volumes, snow-volumes}
-use Rattle.answer.proofs.Boundary.{example-figures, none-at-99999}
+use Rattle.answer.proofs.Boundary.{example-figures, none-at-999999}
 
 lighter-accepted : Accepted lighter
 unfolding weather_unfit road_refusals load_refusals field_refusals adjusted_speed speed_refusals refusals
@@ -121,7 +121,7 @@ no-better-letter-in-snow-on-an-estimate = (
 )
 
 -- what part 2 says of an accepted case, by the service volume s of letter number n
-by-volume : (case : Case) → Accepted case → (n s : ℕ) → 1 ≤ n → n ≤ 5 → s < 99999 → service_volume case n ≡ s
+by-volume : (case : Case) → Accepted case → (n s : ℕ) → 1 ≤ n → n ≤ 5 → s < 999999 → service_volume case n ≡ s
     → ((demand : ℕ) → demand ≤ s → Meets (with_demand case demand) n) × (Meets (with_demand case (suc s)) n → ⊥)
 by-volume case ok n s h k l e =
     let volume : volume_in (answer_to case) n ≡ s = volume_in-accepted case n ok h k ∙ e in (
@@ -184,13 +184,13 @@ four-lanes-for-every-letter = (refused, needed)
           fewer-refused n,
         )
 
-example-fits : FieldsFit (example_with 99999)
+example-fits : FieldsFit (example_with 999999)
 unfolding weather_unfit road_refusals load_refusals field_refusals
 example-fits = refl
 
 pub no-lanes-for-the-greatest-demand : NoLanesForTheGreatestDemand
 no-lanes-for-the-greatest-demand =
-    (least-accepted-count (example_with 99999) 3 (omega arith) (omega arith) example-fits).1.0 (ap (λ ns. get_or ns 0 0) none-at-99999)
+    (least-accepted-count (example_with 999999) 3 (omega arith) (omega arith) example-fits).1.0 none-at-999999
 
 -- with 3 lanes the letter is C
 three-meet : T (meets (with_lanes (multilane_with 3600) 3) 3)

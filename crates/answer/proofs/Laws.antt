@@ -1,14 +1,15 @@
 -- The laws of specs/Laws, proved.
 --   service_volume-le   no service volume is above 19,200
 --   lanes_answer-number   the number of the answer to the lanes question is the first of its list
---   figures-within-ends, refusals-within-ends, refusals-reach-ends, lanes-refusals-in-order, lanes-refused-as-the-case, counts-are-digits
+--   figures-within-ends, volumes-up-to-any-end, refusals-within-ends, refusals-reach-ends, lanes-refusals-in-order, lanes-refused-as-the-case,
+--   counts-are-digits
 --   found-digit          the same of a count that is answered
 -- Assumes nothing.
 use Rattle.std.proofs.Common.{lit≤, Ok, Bool, le_trans, ◌≡◌, refl, sym, ap, ◌∙◌, ⊎_elim, [], ◌∷◌, ℕ, suc, ◌*◌, ◌≤◌, arith, eq-zero-or-pos}
-use Rattle.std.proofs.Common.{mul-le-mul, mul-le-mul_left, T, leb, leb→le, length, get_or}
+use Rattle.std.proofs.Common.{mul-le-mul, mul-le-mul_left, T, leb, leb→le, length, get_or, zero-le}
 use Rattle.numbers.specs.Search.{greatest}
 use Rattle.numbers.proofs.DivisionLaws.{div_up-le-iff, le-div_up}
-use Rattle.numbers.proofs.SearchLaws.{greatest-passes, least-le}
+use Rattle.numbers.proofs.SearchLaws.{greatest-passes, greatest-within, least-le}
 use Rattle.numbers.proofs.BoolLaws.{and-left}
 use Rattle.checks.specs.Refusals.{first_refusal}
 use Rattle.checks.proofs.RefusalLaws.{first_refusal-some, first_refusal-le, first_refusal-ge, inside}
@@ -21,6 +22,7 @@ use Rattle.curve.proofs.KindLaws.{kind-ends}
 use Rattle.curve.proofs.ServiceLaws.{letter_number-le, shown_speed-le, shown_density-le}
 use Rattle.road.specs.declared.Case.{Case}
 use Rattle.road.specs.Refusals.{greatest_demand, weather_unfit, road_refusals, load_refusals, field_refusals}
+use Rattle.road.specs.Cases.{with_demand}
 use Rattle.road.proofs.RefusalLaws.{load-ends}
 use Rattle.method.specs.declared.flow.Load.{Load}
 use Rattle.method.specs.Refusals.{speed_refusals, refusals, Accepted}
@@ -30,13 +32,13 @@ use Rattle.method.specs.Assess.{measures}
 use Rattle.method.proofs.RefusalLaws.{refusals-fields, accepted-fields, refusal-le}
 use Rattle.method.proofs.CheckedLaws.{case_curve-well_formed, case_curve-sized}
 use Rattle.method.proofs.FlowLaws.{case_load-fits}
-use Rattle.answer.specs.Volumes.{service_volume}
+use Rattle.answer.specs.Volumes.{meets, service_volume}
 use Rattle.answer.specs.Answers.{graded}
 use Rattle.answer.specs.Lanes.{lanes_meet, lanes_found, lanes_refusals, lanes_answer, values}
 use Rattle.answer.specs.Search.{demand_meets}
 use Rattle.answer.specs.Laws.{FiguresWithinEnds, RefusalsWithinEnds, RefusalsReachEnds, LanesRefusalsInOrder}
-use Rattle.answer.specs.Laws.{LanesRefusedAsTheCase, CountsAreDigits}
-use Rattle.answer.proofs.VolumeLaws.{case_meets, case_meets-zero, service_volume-eq}
+use Rattle.answer.specs.Laws.{LanesRefusedAsTheCase, CountsAreDigits, VolumesUpToAnyEnd}
+use Rattle.answer.proofs.VolumeLaws.{case_meets, case_meets-zero, meets-demand, service_volume-eq}
 use Rattle.answer.proofs.AnswerLaws.{answer_to-accepted, answer_to-number}
 
 -- ---- figures
@@ -63,6 +65,13 @@ service_volume-le case n a h k =
     rw (service_volume-eq case n a h k)
     (demand_meets-le case (density_limit n) (greatest test greatest_demand) a
     (greatest-passes test greatest_demand (case_meets-zero case (density_limit n) a)))
+
+pub volumes-up-to-any-end : VolumesUpToAnyEnd
+unfolding service_volume
+volumes-up-to-any-end case n end a h k low high =
+    let test : ℕ → Bool = λ demand. meets (with_demand case demand) n in
+    let zero : T (test 0) = rw (meets-demand case n a h k 0 zero-le) (case_meets-zero case (density_limit n) a) in
+    greatest-within test end greatest_demand zero high (le_trans (service_volume-le case n a h k) low)
 
 -- H is at least 250, and there are at least 2 lanes
 flow_rate_of-le : (case : Case) → Accepted case → case_flow_rate case ≤ 6 * greatest_demand

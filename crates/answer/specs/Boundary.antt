@@ -1,10 +1,11 @@
--- The boundary sections of document 01, with the ramp term of T-08, and of T-03 of document 02, that this layer adds to those of
--- method/specs/Boundary.
+-- The boundary sections of document 01, with the ramp term of T-08, and of T-03 and T-09 of document 02, that this layer adds to those
+-- of method/specs/Boundary.
 --   example_with demand   the printed line's case with another demand
 --   example_in_snow demand   the same with speed factor 860 and capacity factor 780
 --   estimated            F E 60000 120 0 0 D 6 2 2000 1000 0 L: refused with 10, and 4 lanes are the least for every letter
 --   given_in_snow n demand   F G 75000 120 60 60 D 0 N V 1000 0 L 950 900
 --   refused_by19          F G 75000 120 60 60 D 0 2 0 1000 0 L 499 1000
+--   greatest_flow        F G 75000 120 60 60 D 0 2 999999 250 1000 R: the greatest flow rate
 --   answered case         the number of its answer's refusal, 0 for none, and the answer's values
 --   counted case n        the same of the lanes question with letter number n
 --   added_figures         what this layer adds
@@ -42,6 +43,9 @@ given_in_snow n demand = with_lanes (two_lanes_under (factors 950 900) (given Ki
 abbrev pub refused_by19 : Case
 refused_by19 = two_lanes_under (factors 499 1000) (given Kind.Freeway 75000 120) 0
 
+abbrev pub greatest_flow : Case
+greatest_flow = loaded (given Kind.Freeway 75000 120) 2 999999 250 1000 Terrain.Rolling clear
+
 abbrev pub answered : Case → List ℕ
 answered case = refusal_number (answer_to case) ∷ answers.values (answer_to case)
 
@@ -49,14 +53,15 @@ abbrev pub counted : Case → ℕ → List ℕ
 counted case n = refusal_number (lanes_answer case n) ∷ lanes.values (lanes_answer case n)
 
 -- Of what is accepted 0 and its values, of what is refused its number. Starred: the printed line. Not starred: the lanes question at the
--- printed case with letter C, with V = 2,643 and with 99,999; a letter number past E; a case that 10 refuses, and its lanes; answers in
--- snow, at a given and at an estimated speed; the lanes of the latter; the order 16, 1, 19 in the lanes question.
+-- printed case with letter C, with V = 2,643, with 999,999 and with 99,999; a letter number past E; a case that 10 refuses, and its lanes;
+-- answers in snow, at a given and at an estimated speed; the lanes of the latter; the order 16, 1, 19 in the lanes question; the greatest
+-- flow rate.
 unfoldable pub added_figures : List Figure
 added_figures =
     figure (answered example) (0 ∷ 3 ∷ 60782 ∷ 230782 ∷ 1196 ∷ 60782 ∷ 197 ∷ 1117 ∷ 1829 ∷ 2642 ∷ 3360 ∷ 3858 ∷ [])
     ∷ figure (counted example 3) (0 ∷ 2 ∷ [])
     ∷ figure (counted (example_with 2643) 3) (0 ∷ 3 ∷ [])
-    ∷ figure (counted (example_with 99999) 3) (14 ∷ [])
+    ∷ figure (counted (example_with 999999) 3 ++ counted (example_with 99999) 3) (14 ∷ 14 ∷ [])
     ∷ figure (counted example 6) (16 ∷ [])
     ∷ figure (answered estimated) (10 ∷ [])
     ∷ figure (counted estimated 1) (0 ∷ 4 ∷ [])
@@ -65,6 +70,7 @@ added_figures =
     ∷ figure (counted (example_in_snow 2222) 3) (0 ∷ 3 ∷ [])
     ∷ figure (counted refused_by19 1 ++ (counted refused_by19 6 ++ (counted refused_by_all 1 ++ counted refused_by_all 0)))
     (19 ∷ 16 ∷ 1 ∷ 16 ∷ [])
+    ∷ figure (answered greatest_flow) (0 ∷ 6 ∷ 75000 ∷ 240000 ∷ 5999994 ∷ 0 ∷ 0 ∷ 137 ∷ 221 ∷ 296 ∷ 355 ∷ 400 ∷ [])
     ∷ []
 
 abbrev pub boundary_figures : List Figure

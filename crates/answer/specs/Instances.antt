@@ -13,7 +13,7 @@
 --   ServiceVolumeOfTheExample        part 2: with V = 2,642 the printed case meets C, with 2,643 it does not
 --   FirstAndLastServiceVolume        part 2: A up to 1,117 and E up to 3,858, each with V = 0 too
 --   FourLanesForEveryLetter          part 3: a case that 10 refuses needs 4 lanes, for every letter
---   NoLanesForTheGreatestDemand      part 3: with V = 99,999 no accepted count of the printed case meets C
+--   NoLanesForTheGreatestDemand      part 3: with V = 999,999 no accepted count of the printed case meets C
 --   ThreeLanesOnAMultilane           part 3 on kind M: with V = 3,600 C needs 3 lanes
 --   narrow_in_snow                   F E 75400 110 20 0 D 24 2 2000 920 50 R 815 1000: 10 refuses 2 lanes after the factor
 --   ThreeLanesInSnow                 part 3 in snow: it needs 3 lanes for C
@@ -82,7 +82,7 @@ FourLanesForEveryLetter =
 
 abbrev pub NoLanesForTheGreatestDemand : Type 0
 NoLanesForTheGreatestDemand =
-    (count : ℕ) → AcceptedCount (example_with 99999) count → Meets (with_lanes (example_with 99999) count) 3 → ⊥
+    (count : ℕ) → AcceptedCount (example_with 999999) count → Meets (with_lanes (example_with 999999) count) 3 → ⊥
 
 abbrev pub ThreeLanesOnAMultilane : Type 0
 ThreeLanesOnAMultilane = values (lanes_answer (multilane_with 3600) 3) ≡ 3 ∷ []

@@ -1,6 +1,7 @@
 -- Laws of the answers, stated; proofs/Laws proves them.
 --   figure_ends          the most that each figure of an answer can be
 --   FiguresWithinEnds    no figure of an answer is above its end; the room for an answer rests on it
+--   VolumesUpToAnyEnd    searched for up to any end from 19,200 on, the service volumes are the same
 --   last_refusal         19, the greatest number with which a case or a lanes question is refused
 --   RefusalsWithinEnds   no refusal has a greater number
 --   RefusalsReachEnds    a case that 19 refuses, and its lanes question
@@ -10,10 +11,13 @@
 -- Assumes nothing.
 use Rattle.std.specs.Prelude.{◌≡◌, List, [], ◌∷◌, map, ℕ, ◌*◌, ◌≤◌}
 use Rattle.numbers.specs.Bounds.{AllAtMost}
+use Rattle.numbers.specs.Search.{greatest}
 use Rattle.checks.specs.Numbers.{refusal_number}
 use Rattle.road.specs.declared.Case.{Case}
 use Rattle.road.specs.Refusals.{greatest_demand}
+use Rattle.road.specs.Cases.{with_demand}
 use Rattle.method.specs.Refusals.{Accepted}
+use Rattle.answer.specs.Volumes.{meets, service_volume}
 use Rattle.answer.specs.Answers as answers
 use Rattle.answer.specs.Answers.{answer_to}
 use Rattle.answer.specs.Lanes as lanes
@@ -28,6 +32,12 @@ figure_ends =
 
 abbrev pub FiguresWithinEnds : Type 0
 FiguresWithinEnds = (case : Case) → Accepted case → AllAtMost (answers.values (answer_to case)) figure_ends
+
+-- so they are the same searched for up to 99,999, the greatest demand before T-09
+abbrev pub VolumesUpToAnyEnd : Type 0
+VolumesUpToAnyEnd =
+    (case : Case) (n end : ℕ) → Accepted case → 1 ≤ n → n ≤ 5 → 19200 ≤ end → end ≤ greatest_demand
+    → greatest (λ demand. meets (with_demand case demand) n) end ≡ service_volume case n
 
 abbrev pub last_refusal : ℕ
 last_refusal = 19

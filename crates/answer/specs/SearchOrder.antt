@@ -4,10 +4,10 @@
 --   ExampleVolumesRise     so it is with A and B, and with D and E, of the printed line
 --   TriesOfALetter         at most 20 demands are tried for E, and at most 15 for each other letter
 --   AtMost80Tried          at most 80 are tried for the five together, and at least one
---   example_tried          the 64 that are tried for the printed line, a row for each of E, D, C, B and A
---   ExampleTried           they are those, and 64 are counted
+--   example_tried          the 67 that are tried for the printed line, a row for each of E, D, C, B and A
+--   ExampleTried           they are those, and 67 are counted
 --   eight_lanes            F G 72500 120 60 60 D 0 8 0 969 0 L
---   EightLanesTried        75 are counted for it
+--   EightLanesTried        78 are counted for it
 --   RefusedTried           none is counted for a case that 10 refuses
 -- Assumes nothing.
 use Rattle.std.specs.Prelude.{◌≡◌, List, [], ◌∷◌, ℕ, suc, ◌≤◌, length}
@@ -43,20 +43,21 @@ AtMost80Tried = (case : Case) → Accepted case → (1 ≤ length (demands_tried
 
 abbrev pub example_tried : List ℕ
 example_tried =
-    50000 ∷ 25000 ∷ 12500 ∷ 6250 ∷ 3125 ∷ 4687 ∷ 3906 ∷ 3515 ∷ 3710 ∷ 3808 ∷ 3857 ∷ 3881 ∷ 3869 ∷ 3863 ∷ 3860 ∷ 3858 ∷ 3859
+    500000 ∷ 250000 ∷ 125000 ∷ 62500 ∷ 31250 ∷ 15625 ∷ 7812 ∷ 3906 ∷ 1953 ∷ 2929 ∷ 3417 ∷ 3661 ∷ 3783 ∷ 3844 ∷ 3875 ∷ 3859 ∷ 3851
+    ∷ 3855 ∷ 3857 ∷ 3858
     ∷ 1929 ∷ 2894 ∷ 3376 ∷ 3135 ∷ 3255 ∷ 3315 ∷ 3345 ∷ 3360 ∷ 3368 ∷ 3364 ∷ 3362 ∷ 3361
     ∷ 1680 ∷ 2520 ∷ 2940 ∷ 2730 ∷ 2625 ∷ 2677 ∷ 2651 ∷ 2638 ∷ 2644 ∷ 2641 ∷ 2642 ∷ 2643
     ∷ 1321 ∷ 1982 ∷ 1651 ∷ 1816 ∷ 1899 ∷ 1857 ∷ 1836 ∷ 1826 ∷ 1831 ∷ 1828 ∷ 1829 ∷ 1830
     ∷ 915 ∷ 1372 ∷ 1143 ∷ 1029 ∷ 1086 ∷ 1114 ∷ 1128 ∷ 1121 ∷ 1117 ∷ 1119 ∷ 1118 ∷ []
 
 abbrev pub ExampleTried : Type 0
-ExampleTried = (demands_tried example ≡ example_tried) × ((counted_answer example).tries ≡ 64)
+ExampleTried = (demands_tried example ≡ example_tried) × ((counted_answer example).tries ≡ 67)
 
 abbrev pub eight_lanes : Case
 eight_lanes = loaded (given Kind.Freeway 72500 120) 8 0 969 0 Terrain.Level clear
 
 abbrev pub EightLanesTried : Type 0
-EightLanesTried = (counted_answer eight_lanes).tries ≡ 75
+EightLanesTried = (counted_answer eight_lanes).tries ≡ 78
 
 abbrev pub RefusedTried : Type 0
 RefusedTried = (counted_answer estimated).tries ≡ 0

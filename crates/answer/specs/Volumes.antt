@@ -17,7 +17,7 @@ use Rattle.answer.specs.declared.evaluate.Volumes.{Volumes}
 unfoldable pub meets : Case → ℕ → Bool
 meets case n = eqb (refusal case) 0 && leb (letter_number (measures case).performance.letter) n
 
--- "The service volume of a letter is the greatest V from 0 to 99,999 that gets that letter or a better one"
+-- "The service volume of a letter is the greatest V from 0 to 99,999 that gets that letter or a better one", now to 999,999
 unfoldable pub service_volume : Case → ℕ → ℕ
 service_volume case n = greatest (λ demand. meets (with_demand case demand) n) greatest_demand
 

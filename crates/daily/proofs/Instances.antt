@@ -136,7 +136,7 @@ module _ (shares : Shares) (z : AcceptedTraffic eight_lanes shares 0) where
       )
 
 -- letters that are worked out, and the volumes by them
-worked-out : (letters_at eight_lanes (shares_of 1000 1000) (19200 ∷ 19201 ∷ greatest_demand ∷ []) ≡ 5 ∷ 6 ∷ 6 ∷ [])
+worked-out : (letters_at eight_lanes (shares_of 1000 1000) (19200 ∷ 19201 ∷ 100000 ∷ greatest_demand ∷ []) ≡ 5 ∷ 6 ∷ 6 ∷ 6 ∷ [])
     × (letters_at (multilane_with 0) (shares_of 90 1000) (24000 ∷ 24001 ∷ []) ≡ 2 ∷ 3 ∷ [])
     × (volumes_in (daily_answer eight_lanes (shares_of 2 2) 0) ≡ 1650000000 ∷ 2656000000 ∷ 3552000000 ∷ 4000000000 ∷ 4000000000 ∷ [])
     × (volumes_in (daily_answer eight_lanes (shares_of 1 1) 0) ≡ 4000000000 ∷ 4000000000 ∷ 4000000000 ∷ 4000000000 ∷ 4000000000 ∷ [])

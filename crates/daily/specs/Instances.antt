@@ -80,7 +80,8 @@ hourly_instances =
 
 -- 20 before 21 before 1: a share of 0 and one of 1,001 with a daily traffic and a case that are refused too, and the others by themselves;
 -- 4,000,000,001 and 2^64 - 1; then a case that breaks 1 to 10 and 19. 7 in its own place: an hourly demand of 4,000,000,000 on a road that
--- 2 refuses, and with a peak-hour factor of 1, which 8 refuses where 7 does not; one more than the greatest demand on an accepted road. 19.
+-- 2 refuses, and with a peak-hour factor of 1, which 8 refuses where 7 does not, up to 999,999; one more than the greatest demand on an
+-- accepted road. 19.
 unfoldable pub refusal_instances : List Figure
 refusal_instances =
     figure (told (daily_answer refused_by_all (shares_of 0 550) 5000000000)) (20 ∷ [])
@@ -92,14 +93,16 @@ refusal_instances =
     ∷ figure (told (daily_answer refused_by_all urban 4000000000)) (1 ∷ [])
     ∷ figure (told (daily_answer narrow (shares_of 1000 1000) 4000000000)) (2 ∷ [])
     ∷ figure (told (daily_answer peaked (shares_of 1000 1000) 4000000000)) (7 ∷ [])
-    ∷ figure (told (daily_answer peaked (shares_of 1000 1000) 5)) (8 ∷ [])
+    ∷ figure (map (λ daily. refusal_number (daily_answer peaked (shares_of 1000 1000) daily)) (5 ∷ 100000 ∷ 999999 ∷ 1000000 ∷ []))
+    (8 ∷ 8 ∷ 8 ∷ 7 ∷ [])
     ∷ figure (told (daily_answer example (shares_of 1000 1000) (suc greatest_demand))) (7 ∷ [])
     ∷ figure (told (daily_answer refused_by19 urban 0)) (19 ∷ [])
     ∷ []
 
 -- The printed road with 40,404 a day, urban, in clear weather and in snow, and with 33,057, rural; its letters with 53,373 and 53,374 a
--- day, urban, and with 53,373, rural; 8 lanes at 75,000 with hourly demands at the end of E, past it, and with the greatest; a multilane
--- highway with 2,160 an hour, which is B, and 2,161; the daily service volumes of the 8 lanes with K = D = 2, 1 and 1,000.
+-- day, urban, and with 53,373, rural; 8 lanes at 75,000 with hourly demands at the end of E, past it, of six digits, and with the
+-- greatest; a multilane highway with 2,160 an hour, which is B, and 2,161; the daily service volumes of the 8 lanes with K = D = 2, 1 and
+-- 1,000.
 unfoldable pub daily_instances : List Figure
 daily_instances =
     figure (told (daily_answer example urban 40404)) (0 ∷ printed_figures)
@@ -107,7 +110,7 @@ daily_instances =
     ∷ figure (told (daily_answer (example_in_snow 0) urban 40404)) (0 ∷ snow_figures)
     ∷ figure (letters_at example urban (53373 ∷ 53374 ∷ [])) (3 ∷ 4 ∷ [])
     ∷ figure (letters_at example rural (53373 ∷ [])) (4 ∷ [])
-    ∷ figure (letters_at eight_lanes (shares_of 1000 1000) (19200 ∷ 19201 ∷ greatest_demand ∷ [])) (5 ∷ 6 ∷ 6 ∷ [])
+    ∷ figure (letters_at eight_lanes (shares_of 1000 1000) (19200 ∷ 19201 ∷ 100000 ∷ greatest_demand ∷ [])) (5 ∷ 6 ∷ 6 ∷ 6 ∷ [])
     ∷ figure (letters_at (multilane_with 0) (shares_of 90 1000) (24000 ∷ 24001 ∷ [])) (2 ∷ 3 ∷ [])
     ∷ figure (volumes_in (daily_answer eight_lanes (shares_of 2 2) 0)) (1650000000 ∷ 2656000000 ∷ 3552000000 ∷ 4000000000 ∷ 4000000000 ∷ [])
     ∷ figure (volumes_in (daily_answer eight_lanes (shares_of 1 1) 0)) (4000000000 ∷ 4000000000 ∷ 4000000000 ∷ 4000000000 ∷ 4000000000 ∷ [])

@@ -70,12 +70,15 @@ instances-shown =
         (
           day refused_by8 (1000000 ∷ 5 ∷ []) (replicate 24 9) refl,
           (
-            day refused_by10 (1000000 ∷ 5 ∷ 1000000 ∷ []) (replicate 36 9) refl,
+            day refused_by8 (100000 ∷ 5 ∷ []) (replicate 24 9) refl,
             (
-              day refused_by6 (1000000 ∷ 5 ∷ []) (replicate 24 9) refl,
+              day refused_by10 (1000000 ∷ 5 ∷ 1000000 ∷ []) (replicate 36 9) refl,
               (
-                day refused_by19 (1000000 ∷ 5 ∷ []) (replicate 24 9) refl,
-                (snow-day, (refl, (refl, (refl, (refl, (refl, (refl, tt))))))),
+                day refused_by6 (1000000 ∷ 5 ∷ []) (replicate 24 9) refl,
+                (
+                  day refused_by19 (1000000 ∷ 5 ∷ []) (replicate 24 9) refl,
+                  (snow-day, (refl, (refl, (refl, (refl, (refl, (refl, tt))))))),
+                ),
               ),
             ),
           ),

@@ -56,13 +56,14 @@ abbrev called : ℕ → ℕ → List ℕ
 called n room = refusal_number (day_answer n room) ∷ values (day_answer n room)
 
 -- Three demands on the printed road, of which 7 refuses the second; the same with one number too few; a road that 8 refuses, one that 10
--- does, one that 6 does and one that 19 does, each with demands that 7 refuses and one that it lets pass; a day in snow; no demand, 1, 24
--- and 25 with room for all, 3 with room for two and eleven numbers more, and for three.
+-- does, one that 6 does and one that 19 does, each with demands that 7 refuses and one that it lets pass, and the first with 100,000 too; a
+-- day in snow; no demand, 1, 24 and 25 with room for all, 3 with room for two and eleven numbers more, and for three.
 unfoldable pub day_instances : List Figure
 day_instances =
     figure (day_content example example_demands (replicate 38 9)) example_day
     ∷ figure (day_content example example_demands (replicate 35 9)) (replicate 35 9)
     ∷ figure (day_content refused_by8 (1000000 ∷ 5 ∷ []) (replicate 24 9)) (refused_with 7 ++ refused_with 8)
+    ∷ figure (day_content refused_by8 (100000 ∷ 5 ∷ []) (replicate 24 9)) (refused_with 8 ++ refused_with 8)
     ∷ figure (day_content refused_by10 (1000000 ∷ 5 ∷ 1000000 ∷ []) (replicate 36 9)) (refused_with 7 ++ (refused_with 10 ++ refused_with 7))
     ∷ figure (day_content refused_by6 (1000000 ∷ 5 ∷ []) (replicate 24 9)) (refused_with 6 ++ refused_with 6)
     ∷ figure (day_content refused_by19 (1000000 ∷ 5 ∷ []) (replicate 24 9)) (refused_with 7 ++ refused_with 19)

@@ -54,7 +54,7 @@ abbrev pub slow : Case
 slow = two_lanes (given Kind.Freeway 54999 120) 0
 
 abbrev pub fit : Forecast
-fit = forecast_of 0 99999 0 1000 250 1000
+fit = forecast_of 0 999999 0 1000 250 1000
 
 abbrev pub reversed_thrice : Forecast
 reversed_thrice = forecast_of 2 1 2 1 2 1
@@ -105,7 +105,7 @@ refusal_instances =
     ∷ figure (numbers_of level_freeway (forecast_of 0 0 0 1001 900 1001 ∷ forecast_of 0 0 0 1001 249 1000 ∷ [])) (8 ∷ 8 ∷ [])
     ∷ figure
     (numbers_of level_freeway
-    (forecast_of 0 100000 0 0 900 900 ∷ forecast_of 0 0 0 0 249 1000 ∷ forecast_of 0 0 0 0 250 1001
+    (forecast_of 0 1000000 0 0 900 900 ∷ forecast_of 0 0 0 0 249 1000 ∷ forecast_of 0 0 0 0 250 1001
     ∷ forecast_of 0 0 0 1001 900 900 ∷ []))
     (7 ∷ 8 ∷ 8 ∷ 9 ∷ [])
     ∷ figure (map (λ case. refusal_number (forecast_answer case fit)) (level_freeway ∷ refused_by19 ∷ slow ∷ [])) (0 ∷ 19 ∷ 10 ∷ [])

@@ -1,5 +1,6 @@
 -- A number read digit by digit (specs/Fields, specs/Places).
 --   fits-more               a number of i digits with one digit more
+--   room-for-more           64 bits hold it, up to 19 digits
 --   DigitsRead bs i n       the first i bytes of bs are digits of its first field, and spell n
 --   read-more               one digit more is read
 --   read-stops              a byte that is no digit follows, or a digit too many: malformed
@@ -10,6 +11,7 @@ use Rattle.std.proofs.Common.{◌≡◌, ℕ, suc, ◌+◌, ◌-◌, ◌*◌, �
 use Rattle.std.proofs.Common.{List, [], ◌∷◌, length, get_or, take, drop, eqb, sym, ◌∙◌, arith, add-one, pow-suc, drop-cons}
 use Rattle.std.proofs.Common.{ne_eqb, eq-eqb, length-take-le, drop_of_length-le, ⊎_elim, eq-or-lt_of_le}
 use Rattle.std.proofs.lemmas.Grind.{common_steps}
+use Rattle.std.proofs.Math.Nat.{pow-le-pow_right}
 use Rattle.text.specs.Bytes.{tab}
 use Rattle.text.specs.Parts.{count_before}
 use Rattle.text.proofs.PartsLaws.{count_before-le}
@@ -18,6 +20,9 @@ use Rattle.lines.specs.Places.{first_field}
 
 pub fits-more : (n d i : ℕ) → n < 10 ^ i → d ≤ 9 → 10 * n + d < 10 ^ (i + 1)
 fits-more n d i h k = rw (add-one i) (omega (arith, pow-suc 10 i))
+
+pub room-for-more : (n i : ℕ) → n < 10 ^ i → i < 19 → 10 * n + 9 < 2 ^ 64
+room-for-more n i h l = omega (arith, pow-le-pow_right {n = 10} (omega arith) {i = i} {j = 18} (omega arith))
 
 pub record DigitsRead (bs : List ℕ) (i n : ℕ) : Type 0 where
   pub same-field : i + count_before tab (drop i bs) ≡ count_before tab bs

@@ -2,10 +2,10 @@
 --   FieldFits, Fits   what the value of a field is; values that fit some fields
 --   values_of-fits    the values of well-formed parts fit their fields
 --   length-never-decides-alone, well-formed-lines-are-short, clear-weather-may-be-left-out, other-counts-are-malformed,
---   values-are-the-fields, demand-on-a-line, refusal-has-its-number
+--   values-are-the-fields, demand-on-a-line, refusal-has-its-number, five-digits-read-as-before, older-reader-refuses-more
 -- Assumes nothing.
 use Rattle.std.proofs.Common.{◌≡◌, ℕ, zero, suc, ◌+◌, ◌-◌, ◌*◌, ◌^◌, ◌≤◌, ◌<◌, true, cond, Option, Some, None}
-use Rattle.std.proofs.Common.{Ok, Err, List, [], ◌∷◌, ◌++◌, eqb, ltb, length, drop, get_or, refl, sym, ap, ◌∙◌, subst, arith}
+use Rattle.std.proofs.Common.{Ok, Err, List, [], ◌∷◌, ◌++◌, eqb, ltb, length, drop, get_or, set, refl, sym, ap, ◌∙◌, subst, arith}
 use Rattle.std.proofs.Common.{lt_of_lt_of_le, drop_of_length-le, drop-cons, ne_eqb, le-ltb, add-zero}
 use Rattle.std.proofs.lemmas.Grind.{common_steps}
 use native.Mathlib.Nat.{pow-le-pow_right}
@@ -21,6 +21,7 @@ use Rattle.lines.specs.Reading.{kind_of, way_of, median_of, terrain_of, case_of,
 use Rattle.lines.specs.Reading.{median_byte, terrain_byte, values}
 use Rattle.lines.specs.Laws.{LengthNeverDecidesAlone, longest_well_formed, WellFormedLinesAreShort, ClearWeatherMayBeLeftOut}
 use Rattle.lines.specs.Laws.{OtherCountsAreMalformed, ValuesAreTheFields, DemandOnALine, RefusalHasItsNumber}
+use Rattle.lines.specs.Laws.{older_layout, FiveDigitsReadAsBefore, OlderReaderRefusesMore}
 use Rattle.lines.proofs.DigitsLaws.{fits-more}
 
 -- ---- the value of one field
@@ -219,3 +220,54 @@ unfolding layout case_of
 demand-on-a-line bs case e =
     let r = read-values bs case e in
     omega (arith, ap (λ c. c.demand) r.2, (values_of-fits layout (completed (parts tab bs)) r.0 r.1).1 9 (omega arith))
+
+-- ---- the demand before T-09
+number-shorter : (k : ℕ) (bs : List ℕ) → length bs ≤ k → number (suc k) bs ≡ number k bs
+unfolding number
+number-shorter k bs h = grind (arith, common_steps)
+
+number-longer : (k : ℕ) (bs : List ℕ) → k < length bs → number k bs ≡ None
+unfolding number
+number-longer k bs h = grind (arith, common_steps)
+
+-- a field that reads as the one put in its place
+same-values : (g : Field) (fs : List Field) (ps : List (List ℕ)) (i : ℕ)
+    → field_as (get_or fs i g) (get_or ps i []) ≡ field_as g (get_or ps i []) → values_of fs ps ≡ values_of (set fs i g) ps
+unfolding values_of
+same-values g [] ps i e = refl
+same-values g (f ∷ fs) [] zero e = refl
+same-values g (f ∷ fs) [] (suc i) e = refl
+same-values g (f ∷ fs) (p ∷ ps) zero e = rw e
+same-values g (f ∷ fs) (p ∷ ps) (suc i) e = rw (same-values g fs ps i e)
+
+-- a field that is malformed
+no-values : (fs : List Field) (ps : List (List ℕ)) (i : ℕ) → i < length fs
+    → field_as (get_or fs i (digits 5)) (get_or ps i []) ≡ None → values_of fs ps ≡ None
+unfolding values_of
+no-values [] ps i l e = absurd (omega arith)
+no-values (f ∷ fs) [] i l e = refl
+no-values (f ∷ fs) (p ∷ ps) zero l e = rw e
+no-values (f ∷ fs) (p ∷ ps) (suc i) l e = rw (no-values fs ps i (omega arith) e) (joined-none (field_as f p))
+  where
+    joined-none : (v : Option ℕ) → joined v None ≡ None
+    joined-none None = refl
+    joined-none (Some v) = refl
+
+completed-demand : (ps : List (List ℕ)) → get_or (completed ps) 9 [] ≡ get_or ps 9 []
+unfolding completed
+completed-demand ps = grind (arith, common_steps)
+
+pub five-digits-read-as-before : FiveDigitsReadAsBefore
+unfolding layout field_as read_line
+five-digits-read-as-before bs h =
+    let field : List ℕ = get_or (completed (parts tab bs)) 9 [] in
+    let few : length field ≤ 5 = rw (completed-demand (parts tab bs)) h in
+    rw (same-values (digits 5) layout (completed (parts tab bs)) 9 (number-shorter 5 field few))
+
+pub older-reader-refuses-more : OlderReaderRefusesMore
+unfolding layout field_as read_values
+older-reader-refuses-more bs h =
+    let field : List ℕ = get_or (completed (parts tab bs)) 9 [] in
+    let many : 5 < length field = rw (completed-demand (parts tab bs)) h in
+    rw (no-values older_layout (completed (parts tab bs)) 9 (omega arith) (number-longer 5 field many))
+    (cond-all (λ r. r ≡ Err Refusal.LineMalformed) (ltb longest_line (length bs)) refl refl)

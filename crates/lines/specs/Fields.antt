@@ -1,4 +1,4 @@
--- The fields of a line (document 01, "Lines", and document 02, T-03).
+-- The fields of a line (document 01, "Lines", and document 02, T-03 and T-09).
 --   Field              one of some letters, or a number with at most so many digits
 --   layout             the 15 fields
 --   clear_factors      the last two fields of a line that has 13
@@ -26,13 +26,14 @@ pub data Field : Type 0 where
   digits : ℕ → Field
 
 -- "kind F or M; E or G; speed; width; right clearance; left clearance; median U, D or T; ramps in six miles (F) or access points per
--- mile (M); lanes; V; H; P; terrain L or R"; "two fields at its end, speed factor and capacity factor"; "A number has one to five digits"
+-- mile (M); lanes; V; H; P; terrain L or R"; "two fields at its end, speed factor and capacity factor"; "A number has one to five digits";
+-- of V "its field may have six digits"
 unfoldable pub layout : List Field
 layout =
     letters (bytes_of "FM") ∷ letters (bytes_of "EG")
     ∷ digits 5 ∷ digits 5 ∷ digits 5 ∷ digits 5
     ∷ letters (bytes_of "UDT")
-    ∷ digits 5 ∷ digits 5 ∷ digits 5 ∷ digits 5 ∷ digits 5
+    ∷ digits 5 ∷ digits 5 ∷ digits 6 ∷ digits 5 ∷ digits 5
     ∷ letters (bytes_of "LR")
     ∷ digits 5 ∷ digits 5 ∷ []
 
@@ -53,7 +54,7 @@ spelled n (b ∷ bs) = cond (digit b) (spelled (10 * n + (b - code "0")) bs) Non
 abbrev pub leading_zero : List ℕ → Bool
 leading_zero bs = ltb 1 (length bs) && eqb (get_or bs 0 0) (code "0")
 
--- "one to five digits with no leading zero, save 0 itself"
+-- "one to five digits with no leading zero, save 0 itself", with k in the place of five
 unfoldable pub number : ℕ → List ℕ → Option ℕ
 number k bs = cond (outside 1 k (length bs) || leading_zero bs) None (spelled 0 bs)
 

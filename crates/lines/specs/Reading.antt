@@ -3,6 +3,7 @@
 --   case_of vs           the case of the 15 values of a line
 --   read_values vs       the case of a line's values, refusal 15 where there are none
 --   longest_line         80 bytes
+--   read_by fields bs    the case of a line whose fields are these, or its refusal
 --   read_line bs         the case of a line, or its refusal; checks/specs/Numbers.refusal_number has its number
 --   kind_byte, way_byte, median_byte, terrain_byte   the letters' bytes
 --   values r            the 15 values of a case; of a refusal no value
@@ -19,7 +20,7 @@ use Rattle.road.specs.declared.Terrain.{Terrain}
 use Rattle.road.specs.declared.Case.{Case}
 use Rattle.road.specs.Cases.{road, loaded}
 use Rattle.checks.specs.declared.Refusal.{Refusal}
-use Rattle.lines.specs.Fields.{layout, completed, values_of}
+use Rattle.lines.specs.Fields.{Field, layout, completed, values_of}
 
 abbrev pub kind_of : ℕ → Kind
 kind_of b = cond (eqb b (code "F")) Kind.Freeway Kind.Multilane
@@ -48,10 +49,13 @@ read_values (Some vs) = Ok (case_of vs)
 abbrev pub longest_line : ℕ
 longest_line = 80
 
+abbrev pub read_by : List Field → List ℕ → Result Case Refusal
+read_by fields bs =
+    cond (ltb longest_line (length bs)) (Err Refusal.LineMalformed) (read_values (values_of fields (completed (parts tab bs))))
+
 -- "One case a line, 13 fields parted by tabs", or 15 with the weather's factors
 unfoldable pub read_line : List ℕ → Result Case Refusal
-read_line bs =
-    cond (ltb longest_line (length bs)) (Err Refusal.LineMalformed) (read_values (values_of layout (completed (parts tab bs))))
+read_line bs = read_by layout bs
 
 abbrev pub kind_byte : Kind → ℕ
 kind_byte Kind.Freeway = code "F"

@@ -1,9 +1,10 @@
 // The fields of a line, read in turn.
 //   Lettered   a type whose values stand on a line as one letter each
 //   Fields     what is left of a line
-//   number     a number, in one pass over its bytes
+//   number     a number of one to five digits
+//   demand     a number of one to six
 //   letter     a letter, as a value of the type that is asked for
-ghost use Rattle.std.specs.Prelude.{◌≡◌, ℕ, List, option_map};
+ghost use Rattle.std.specs.Prelude.{◌≡◌, ◌≤◌, ℕ, List, option_map};
 ghost use Rattle.text.specs.Bytes.{bytes_of};
 ghost use Rattle.lines.specs.Fields.{digits, letters, leading_zero};
 ghost use Rattle.lines.specs.Reading.{kind_byte, way_byte, median_byte, terrain_byte};
@@ -14,6 +15,9 @@ use road::{Median, Terrain, Way};
 
 // "A number has one to five digits"
 const MOST_DIGITS: usize = 5;
+
+// "V may reach 999,999 and its field may have six digits"
+const MOST_DEMAND_DIGITS: usize = 6;
 
 fn leading_zero(field: &[u8]) -> bool
     ensures { result ≡ leading_zero field.now }
@@ -95,9 +99,11 @@ pub struct Fields<'a> {
 }
 
 impl<'a> Fields<'a> {
+    // A number of one to so many digits, in one pass over its bytes.
     #[inline(always)]
-    pub fn number(&mut self) -> Option<u64>
-        ensures { ReadsOne (digits 5) result (left self.old) (left self.new) }
+    fn number_up_to(&mut self, most_digits: usize) -> Option<u64>
+        requires fits { most_digits ≤ 19 }
+        ensures { ReadsOne (digits most_digits) result (left self.old) (left self.new) }
     {
         let line = self.rest.take()?;
         let mut value = 0;
@@ -107,7 +113,7 @@ impl<'a> Fields<'a> {
                 self.rest = Some(&line[length + 1..]);
                 break;
             }
-            if !b.is_ascii_digit() || length == MOST_DIGITS {
+            if !b.is_ascii_digit() || length == most_digits {
                 return None;
             }
             value = 10 * value + u64::from(b - b'0');
@@ -115,6 +121,20 @@ impl<'a> Fields<'a> {
         }
         let field = &line[..length];
         (!field.is_empty() && !leading_zero(field)).then_some(value)
+    }
+
+    #[inline(always)]
+    pub fn number(&mut self) -> Option<u64>
+        ensures { ReadsOne (digits 5) result (left self.old) (left self.new) }
+    {
+        self.number_up_to(MOST_DIGITS)
+    }
+
+    #[inline(always)]
+    pub fn demand(&mut self) -> Option<u64>
+        ensures { ReadsOne (digits 6) result (left self.old) (left self.new) }
+    {
+        self.number_up_to(MOST_DEMAND_DIGITS)
     }
 
     #[inline(always)]

@@ -58,7 +58,7 @@ impl<'a> Fields<'a> {
         Some(Case {
             road: self.road()?,
             lanes: self.number()?,
-            demand: self.number()?,
+            demand: self.demand()?,
             peak_hour_factor: self.number()?,
             heavy_share: self.number()?,
             terrain: self.letter()?,

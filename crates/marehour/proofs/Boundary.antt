@@ -26,6 +26,7 @@ use Rattle.forecast.specs.Instances.{wide}
 use Rattle.forecast.proofs.Instances.{wide-told}
 use Rattle.survey.specs.Boundary.{survey_figures}
 use Rattle.survey.proofs.Boundary.{survey-shown}
+use Rattle.lines.specs.Laws.{longest_well_formed}
 use Rattle.lines.specs.Fields.{layout, completed, spelled, number, letter, field_as, values_of}
 use Rattle.lines.specs.Reading.{case_of, read_values, read_line, values}
 use Rattle.replies.specs.Texts.{refusal_text, text_of, line_text}
@@ -59,7 +60,7 @@ unfolding in_order refusal_of flat_map on_first parts decimal_up_to decimal figu
 factor-shown = refl
 
 longest-shown : length (bytes_of longest) ∷ (refusal_number (read_line (bytes_of longest)) ∷ values (read_line (bytes_of longest)))
-    ≡ 73 ∷ 0 ∷ 77 ∷ 71 ∷ 99999 ∷ 99999 ∷ 99999 ∷ 99999 ∷ 84 ∷ 99999 ∷ 99999 ∷ 99999 ∷ 99999 ∷ 99999 ∷ 76 ∷ 99999 ∷ 99999 ∷ []
+    ≡ longest_well_formed ∷ 0 ∷ 77 ∷ 71 ∷ 99999 ∷ 99999 ∷ 99999 ∷ 99999 ∷ 84 ∷ 99999 ∷ 99999 ∷ 999999 ∷ 99999 ∷ 99999 ∷ 76 ∷ 99999 ∷ 99999 ∷ []
 unfolding on_first parts layout completed spelled number letter field_as values_of case_of read_values read_line
 longest-shown = refl
 
@@ -90,7 +91,7 @@ forecast-shown =
     ∙ ap (λ figures. drop 1 figures ++ (9 ∷ [])) wide-told
 
 added-shown : Shown added_figures
-unfolding flat_map on_first parts layout completed spelled number letter field_as values_of read_values read_line texts last_line
+unfolding flat_map on_first parts layout completed spelled number letter field_as values_of case_of read_values read_line texts last_line
     without_empty_last lines_of output_of added_figures
 added-shown = (
   line-shown,
@@ -106,7 +107,7 @@ added-shown = (
             forecast-shown,
             (
               ap (λ r. refusal_number r ∷ values r) line-read,
-              (refl, (refl, (refl, (refl, (refl, (snow-shown, (refl, (refl, (refl, (factor-shown, (longest-shown, tt))))))))))),
+              (refl, (refl, (refl, (refl, (snow-shown, (factor-shown, (longest-shown, tt))))))),
             ),
           ),
         ),

@@ -1,14 +1,16 @@
--- The boundary sections of document 01, with the ramp term of T-08, and of T-03 of document 02: one list, those of the layers below with
--- what this layer adds.
+-- The boundary sections of document 01, with the ramp term of T-08, and of T-03 and T-09 of document 02: one list, those of the layers
+-- below with what this layer adds.
 --   printed_line            the line of document 01
 --   printed_line_with v t   the same with another demand and another terrain
 --   printed_answer          what `los` prints for it
 --   snow_answer             what it prints for the same line with the factors 860 and 780
---   longest                 a well-formed line of 73 bytes
+--   malformed_lines         lines that are refused with 15
+--   longest                 a well-formed line of 74 bytes
 --   added_figures           what this layer adds
 --   boundary_figures        the list
 -- Assumes nothing.
-use Rattle.std.specs.Prelude.{ℕ, List, [], ◌∷◌, ◌++◌, length, replicate}
+use mathlib.Core.List.{flat_map}
+use Rattle.std.specs.Prelude.{ℕ, Result, List, [], ◌∷◌, ◌++◌, length, map, replicate}
 use Prim.Native.String.{String, ◌++◌ as ◌then◌}
 use Rattle.text.specs.Bytes.{bytes_of}
 use Rattle.checks.specs.Figures.{Figure, figure}
@@ -17,8 +19,11 @@ use Rattle.day.specs.Instances.{example_demands, example_day}
 use Rattle.daily.specs.Instances.{urban, printed_figures}
 use Rattle.forecast.specs.Instances.{wide}
 use Rattle.survey.specs.Boundary.{survey_figures}
+use Rattle.checks.specs.declared.Refusal.{Refusal}
 use Rattle.checks.specs.Numbers.{refusal_number}
+use Rattle.road.specs.declared.Case.{Case}
 use Rattle.lines.specs.Reading.{read_line, values}
+use Rattle.lines.specs.Laws.{longest_well_formed, older_read_line}
 use Rattle.replies.specs.Texts.{line_text}
 use Rattle.stream.specs.Stream.{output_of}
 use Rattle.replies.specs.Output.{line_texts}
@@ -31,9 +36,44 @@ printed_line_with demand terrain = "F\tE\t75400\t110\t20\t0\tD\t24\t2\t" then (d
 abbrev pub printed_line : String
 printed_line = printed_line_with "2000" "R"
 
--- the number of the refusal of a line, 0 for none, and its values
+-- the number of the refusal of what was read, 0 for none, and its values
+abbrev shown : Result Case Refusal → List ℕ
+shown r = refusal_number r ∷ values r
+
 abbrev read_as : String → List ℕ
-read_as line = refusal_number (read_line (bytes_of line)) ∷ values (read_line (bytes_of line))
+read_as line = shown (read_line (bytes_of line))
+
+-- by a reader before T-09
+abbrev read_before : String → List ℕ
+read_before line = shown (older_read_line (bytes_of line))
+
+-- what the printed line with another demand is read as
+abbrev printed_case_with : ℕ → List ℕ
+printed_case_with demand = 0 ∷ 70 ∷ 69 ∷ 75400 ∷ 110 ∷ 20 ∷ 0 ∷ 68 ∷ 24 ∷ 2 ∷ demand ∷ 920 ∷ 50 ∷ 82 ∷ 1000 ∷ 1000 ∷ []
+
+-- with no demand, with a leading zero in a demand of two to seven digits, with seven digits; with six digits in each other number; with an
+-- unknown terrain, with a leading zero in a factor; with 14 fields, of which the last is empty or not, and with 16
+abbrev pub malformed_lines : List String
+malformed_lines =
+    map (λ demand. printed_line_with demand "R") ("" ∷ "00" ∷ "007" ∷ "0100" ∷ "02000" ∷ "099999" ∷ "0999999" ∷ "1000000" ∷ [])
+    ++ (
+    "F\tE\t100000\t110\t20\t0\tD\t24\t2\t2000\t920\t50\tR"
+    ∷ "F\tE\t75400\t100000\t20\t0\tD\t24\t2\t2000\t920\t50\tR"
+    ∷ "F\tE\t75400\t110\t100000\t0\tD\t24\t2\t2000\t920\t50\tR"
+    ∷ "F\tE\t75400\t110\t20\t100000\tD\t24\t2\t2000\t920\t50\tR"
+    ∷ "F\tE\t75400\t110\t20\t0\tD\t100000\t2\t2000\t920\t50\tR"
+    ∷ "F\tE\t75400\t110\t20\t0\tD\t24\t100000\t2000\t920\t50\tR"
+    ∷ "F\tE\t75400\t110\t20\t0\tD\t24\t2\t2000\t100000\t50\tR"
+    ∷ "F\tE\t75400\t110\t20\t0\tD\t24\t2\t2000\t920\t100000\tR"
+    ∷ (printed_line then "\t100000\t1000")
+    ∷ (printed_line then "\t1000\t100000")
+    ∷ printed_line_with "2000" "M"
+    ∷ (printed_line then "\t0950\t1000")
+    ∷ (printed_line then "\t")
+    ∷ (printed_line then "\t1000")
+    ∷ (printed_line then "\t1000\t1000\t1000")
+    ∷ []
+    )
 
 abbrev pub printed_answer : String
 printed_answer = "C\t60782\t230782\t1196\t60782\t197\t1117\t1829\t2642\t3360\t3858\n"
@@ -42,13 +82,13 @@ abbrev pub snow_answer : String
 snow_answer = "C\t52272\t173372\t1196\t52222\t230\t960\t1572\t2221\t2636\t2898\n"
 
 abbrev pub longest : String
-longest = "M\tG\t99999\t99999\t99999\t99999\tT\t99999\t99999\t99999\t99999\t99999\tL\t99999\t99999"
+longest = "M\tG\t99999\t99999\t99999\t99999\tT\t99999\t99999\t999999\t99999\t99999\tL\t99999\t99999"
 
 -- Starred: the printed line. Not starred: what is printed for it between an empty line and a last line without newline; an empty input; its
 -- day with 2,000, 1,000,000 and 2,643; its daily figures with 40,404 vehicles, K 90 and D 550; its letters with a demand of 1,000 to 4,000,
--- a share of 0 to 100 and a factor of 850 to 950; its 15 values, letters by their bytes; the line with a leading zero, six digits and an
--- empty field as its demand, with an empty 14th field, and with an unknown terrain; in snow; with 14 fields, 16, and a leading zero in a
--- factor; and with a factor of 99999, which is 19; and the longest line that is read.
+-- a share of 0 to 100 and a factor of 850 to 950; its 15 values, letters by their bytes; malformed lines; the line with a demand of six
+-- digits, by the reader before T-09 too, and by that with five; in snow, and with a factor of 99999, which is 19; the longest line that is
+-- read.
 unfoldable pub added_figures : List Figure
 added_figures =
     figure (line_text (bytes_of printed_line)) (bytes_of printed_answer)
@@ -57,19 +97,15 @@ added_figures =
     ∷ figure (content (day_call (bytes_of printed_line) example_demands 38) (replicate 38 9)) example_day
     ∷ figure (content (daily_call (bytes_of printed_line) urban 40404 17) (replicate 17 9)) (printed_figures ++ (9 ∷ []))
     ∷ figure (content (forecast_call (bytes_of printed_line) wide 9) (replicate 9 9)) (1 ∷ 1000 ∷ 0 ∷ 950 ∷ 6 ∷ 4000 ∷ 100 ∷ 850 ∷ 9 ∷ [])
-    ∷ figure (read_as printed_line) (0 ∷ 70 ∷ 69 ∷ 75400 ∷ 110 ∷ 20 ∷ 0 ∷ 68 ∷ 24 ∷ 2 ∷ 2000 ∷ 920 ∷ 50 ∷ 82 ∷ 1000 ∷ 1000 ∷ [])
-    ∷ figure (read_as (printed_line_with "02000" "R")) (15 ∷ [])
-    ∷ figure (read_as (printed_line_with "100000" "R")) (15 ∷ [])
-    ∷ figure (read_as (printed_line_with "" "R")) (15 ∷ [])
-    ∷ figure (read_as (printed_line then "\t")) (15 ∷ [])
-    ∷ figure (read_as (printed_line_with "2000" "M")) (15 ∷ [])
+    ∷ figure (read_as printed_line) (printed_case_with 2000)
+    ∷ figure (flat_map read_as malformed_lines) (replicate (length malformed_lines) 15)
+    ∷ figure (read_as (printed_line_with "100000" "R")) (printed_case_with 100000)
+    ∷ figure (read_before (printed_line_with "100000" "R")) (15 ∷ [])
+    ∷ figure (read_before (printed_line_with "99999" "R")) (printed_case_with 99999)
     ∷ figure (line_text (bytes_of (printed_line then "\t860\t780"))) (bytes_of snow_answer)
-    ∷ figure (read_as (printed_line then "\t1000")) (15 ∷ [])
-    ∷ figure (read_as (printed_line then "\t1000\t1000\t1000")) (15 ∷ [])
-    ∷ figure (read_as (printed_line then "\t0950\t1000")) (15 ∷ [])
     ∷ figure (line_text (bytes_of (printed_line then "\t99999\t1000"))) (bytes_of "X\t19\n")
     ∷ figure (length (bytes_of longest) ∷ read_as longest)
-    (73 ∷ 0 ∷ 77 ∷ 71 ∷ 99999 ∷ 99999 ∷ 99999 ∷ 99999 ∷ 84 ∷ 99999 ∷ 99999 ∷ 99999 ∷ 99999 ∷ 99999 ∷ 76 ∷ 99999 ∷ 99999 ∷ [])
+    (longest_well_formed ∷ 0 ∷ 77 ∷ 71 ∷ 99999 ∷ 99999 ∷ 99999 ∷ 99999 ∷ 84 ∷ 99999 ∷ 99999 ∷ 999999 ∷ 99999 ∷ 99999 ∷ 76 ∷ 99999 ∷ 99999 ∷ [])
     ∷ []
 
 abbrev pub boundary_figures : List Figure

@@ -5,7 +5,7 @@
 --   tries_call line     the same for a line
 --   TriesHandBack       minus 15 where the line is malformed; else the count of the tried demands, from 1 to 80, or minus the refusal
 --                       of its case
---   TriesOfLines        64 for the printed line, and minus 15 for a line of one field
+--   TriesOfLines        67 for the printed line, and minus 15 for a line of one field
 -- Assumes nothing.
 use Rattle.std.specs.Prelude.{◌≡◌, Result, Ok, Err, List, ℕ, ◌≤◌, ◌<◌, ℤ, pos, neg_ℤ, length}
 use Rattle.text.specs.Bytes.{bytes_of}
@@ -41,4 +41,4 @@ TriesHandBack =
     × ((n : ℕ) → refusal case ≡ n → 0 < n → tries_call line ≡ neg_ℤ (pos n)))
 
 abbrev pub TriesOfLines : Type 0
-TriesOfLines = (tries_call (bytes_of printed_line) ≡ pos 64) × (tries_call (bytes_of "F") ≡ neg_ℤ (pos 15))
+TriesOfLines = (tries_call (bytes_of printed_line) ≡ pos 67) × (tries_call (bytes_of "F") ≡ neg_ℤ (pos 15))

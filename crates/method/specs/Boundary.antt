@@ -90,7 +90,7 @@ limit_figures =
     ∷ figure (map (multilane_with Median.Divided) (200 ∷ 201 ∷ [])) (0 ∷ 5 ∷ [])
     ∷ figure (map (λ n. loaded_by Kind.Freeway n 0 1000 0) (1 ∷ 2 ∷ 8 ∷ 9 ∷ [])) (6 ∷ 0 ∷ 0 ∷ 6 ∷ [])
     ∷ figure (map (λ n. loaded_by Kind.Multilane n 0 1000 0) (1 ∷ 2 ∷ 3 ∷ 4 ∷ [])) (6 ∷ 0 ∷ 0 ∷ 6 ∷ [])
-    ∷ figure (map (λ v. loaded_by Kind.Freeway 2 v 1000 0) (99999 ∷ 100000 ∷ [])) (0 ∷ 7 ∷ [])
+    ∷ figure (map (λ v. loaded_by Kind.Freeway 2 v 1000 0) (99999 ∷ 100000 ∷ 999999 ∷ 1000000 ∷ [])) (0 ∷ 0 ∷ 0 ∷ 7 ∷ [])
     ∷ figure (map (λ h. loaded_by Kind.Freeway 2 0 h 0) (249 ∷ 250 ∷ 1000 ∷ 1001 ∷ [])) (8 ∷ 0 ∷ 0 ∷ 8 ∷ [])
     ∷ figure (map (λ p. loaded_by Kind.Freeway 2 0 1000 p) (1000 ∷ 1001 ∷ [])) (0 ∷ 9 ∷ [])
     ∷ []

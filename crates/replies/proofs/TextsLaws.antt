@@ -43,7 +43,7 @@ pub refusal_text-le : (n : ℕ) → length (refusal_text n) ≤ longest_answer
 unfolding refusal_text
 refusal_text-le n = omega (arith, row_text-one (code "X") n)
 
--- figures that keep to their ends have at most 62 bytes
+-- figures that keep to their ends have at most 63 bytes
 figures-le : (number : ℕ) (vs : List ℕ) → AllAtMost vs figure_ends → length (text_of number vs) ≤ longest_answer
 unfolding flat_map decimal_up_to decimal figures_text text_of
 figures-le number [] h = absurd h

@@ -1,4 +1,4 @@
--- Refusals 1 to 9 and 19 in their order (document 01, "Refused, by who can cause it", and document 02, T-03).
+-- Refusals 1 to 9 and 19 in their order (document 01, "Refused, by who can cause it", and document 02, T-03 and T-09).
 --   median_unfit kind m   a median that 4 refuses
 --   most_access kind      the most ramps or access points that 5 lets pass
 --   greatest_demand       the greatest demand that 7 lets pass
@@ -35,9 +35,9 @@ abbrev pub most_access : Kind → ℕ
 most_access Kind.Freeway = 48
 most_access Kind.Multilane = 200
 
--- "The service volume of a letter is the greatest V from 0 to 99,999", "7 V above 99,999"
+-- "V may reach 999,999"; "The service volumes, the lanes question and demand 3 range over the longer interval"
 abbrev pub greatest_demand : ℕ
-greatest_demand = 99999
+greatest_demand = 999999
 
 -- "a factor out of range or below 1,000 on kind M"
 unfoldable pub weather_unfit : Kind → Weather → Bool
@@ -62,7 +62,7 @@ lane_refusals case = refuses 6 (outside (fewest_lanes case.road.kind) (most_lane
 abbrev pub section_refusals : Case → List Condition
 section_refusals case = road_refusals case.road ++ lane_refusals case
 
--- "7 V above 99,999", "8 H not 250 to 1,000; 9 P above 1,000"
+-- "Refusal 7, now for V above 999,999", "8 H not 250 to 1,000; 9 P above 1,000"
 unfoldable pub load_refusals : Case → List Condition
 load_refusals case =
     refuses 7 (ltb greatest_demand case.demand)

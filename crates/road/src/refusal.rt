@@ -17,7 +17,7 @@ use curve::Weather;
 use curve::kind::Kind;
 
 // The greatest demand that refusal 7 lets pass.
-pub const GREATEST_DEMAND: u64 = 99_999;
+pub const GREATEST_DEMAND: u64 = 999_999;
 
 fn median_unfit(kind: Kind, median: Median) -> bool
     ensures { result ≡ median_unfit kind median }

@@ -1,17 +1,24 @@
--- `lines::field::Fields::number` meets its contract: the loop stops at a byte that is no digit or is one too many, or behind the
+-- `lines::field::Fields::number_up_to` meets its contract: the loop stops at a byte that is no digit or is one too many, or behind the
 -- field's last.
 -- Assumes nothing.
 use Rattle.std.proofs.Common.{◌≡◌, ◌<◌, sym, get_or, length, arith, ⊎_elim, inl, inr, ℕ, Bool, true, false, cond, not, Some, None, refl}
 use Rattle.std.specs.Bool.{then_some}
 use Rattle.text.specs.Bytes.{tab}
-use Rattle.lines.proofs.DigitsLaws.{read-more, fits-more, read-stops, read-all, counts-all}
+use Rattle.lines.proofs.DigitsLaws.{read-more, fits-more, room-for-more, read-stops, read-all, counts-all}
 use Rattle.lines.proofs.FieldsLaws.{none-left, reads-none, reads, last, not-last}
-use Rattle.lines.proofs.field.Fields.number.Goals as goal
-use Rattle.lines.proofs.field.Fields.number.Goals.{else-loop-b-test, then-loop-b-test+then-b-eq9}
-use Rattle.lines.proofs.field.Fields.number.Goals.{then-not-is_empty, else-not-is_empty}
+use Rattle.lines.proofs.field.Fields.number_up_to.Goals as goal
+use Rattle.lines.proofs.field.Fields.number_up_to.Goals.{else-loop-b-test, then-loop-b-test+then-b-eq9}
+use Rattle.lines.proofs.field.Fields.number_up_to.Goals.{then-not-is_empty, else-not-is_empty}
 
 pub returns-in_err-line : goal.returns-in_err-line
 returns-in_err-line c = rw (c.from_residual.ensures, sym c.in_err-line.ensures.value) (none-left _ _)
+
+pub overflow_mul-value : goal.overflow_mul-value
+overflow_mul-value c = omega (arith, room-for-more _ _ c.loop-b.invariant.fits (omega arith))
+
+pub overflow_add-value : goal.overflow_add-value
+overflow_add-value c =
+    omega (arith, c.from.ensures, c.if-not-is_ascii_digit.ensures.cases, room-for-more _ _ c.loop-b.invariant.fits (omega arith))
 
 pub loop-b-preserved : goal.loop-b-preserved
 loop-b-preserved c =
@@ -29,7 +36,7 @@ pub returns-then-not-is_ascii_digit : goal.returns-then-not-is_ascii_digit
 returns-then-not-is_ascii_digit c =
     rw (sym c.in_ok-line.ensures.value)
     (reads-none _ _ _
-    (read-stops _ _ _ c.loop-b.invariant.digits c.loop-b-test.true c.if-b-eq9.false 5 _ c.is_ascii_digit.ensures.value
+    (read-stops _ _ _ c.loop-b.invariant.digits c.loop-b-test.true c.if-b-eq9.false _ _ c.is_ascii_digit.ensures.value
     (⊎_elim (λ e. inl e) (λ e. inr (omega arith)) c.then-not-is_ascii_digit.either)))
 
 unless : (b : Bool) (n : ℕ) → then_some (not b) n ≡ cond b None (Some n)
@@ -48,7 +55,7 @@ returns c =
     let count = counts-all _ _ _ l.invariant.digits (omega arith) ended in
     rw (sym c.in_ok-line.ensures.value)
     (reads _ _ _ _
-    (rw (c.then_some.ensures, read-all _ _ _ l.invariant.digits (omega arith) ended 5 l.invariant.few, sym l.invariant.counted)
+    (rw (c.then_some.ensures, read-all _ _ _ l.invariant.digits (omega arith) ended _ l.invariant.few, sym l.invariant.counted)
     (elim c.if-not-is_empty.branch [
       | then-not-is_empty w ↦ rw (w.then_some-is, w.leading_zero.ensures, sym w.if-not-is_empty.ensures) (unless _ _)
       | else-not-is_empty w ↦ rw (w.then_some-is, w.if-not-is_empty.false, sym w.if-not-is_empty.ensures)
