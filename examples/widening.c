@@ -4,8 +4,7 @@
 
    LINE is a section's line (13 or 15 fields parted by tabs), GROWTH the yearly growth of its demand in thousandths, LETTER the target, A
    to E, YEARS how many years to look ahead. For each year, from 0 for the section as given, a row: year, demand, letter, and the lanes that
-   the target needs, or 'none' where no lane count meets it. The rows end before a demand above 999,999, which no
-   line can hold.
+   the target needs, or 'none' where no lane count meets it. The rows end before a demand above 999,999, which no line can hold.
 
    The last lines, each where it holds:
 

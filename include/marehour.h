@@ -45,10 +45,10 @@
    clearances take off a base speed is linear, tenth by tenth, between the feet that the manual's
    tables have; what ramps take off is rounded to the nearest thousandth of mi/h.
 
-   Older readers. A library from before MAREHOUR_GREATEST_DEMAND, when the greatest demand was
-   99,999, refuses a line with a demand of six digits with 15, and reads every other line alike. A
+   Older readers. A library whose greatest demand is 99,999 refuses a line with a demand of six
+   digits with 15. Every other line it reads as this one does, if it takes fields 14 and 15. A
    demand above 99,999 that is handed over as a number, in a day, by a daily traffic or as an end of
-   a forecast, it refuses with 7.
+   a forecast, meets 7 there.
 
    Memory. A call reads line[0] to line[line_length - 1] and demands[0] to
    demands[demand_count - 1], and nothing else, and keeps no pointer. It writes into answer[0] to

@@ -176,7 +176,8 @@ greatest-flow-curve = refl
 
 greatest-flow-volumes : VolumesOf greatest_flow 137 221 296 355 400
 unfolding div_up ends_at heavy_factor_of flow_rate_of fall_share_by speed density meets_limit density_limit keeps ends
-greatest-flow-volumes = five greatest_flow (freeway 75000 240000 100000) greatest-flow-accepted greatest-flow-curve 137 221 296 355 400 tt tt tt tt tt
+greatest-flow-volumes =
+    five greatest_flow (freeway 75000 240000 100000) greatest-flow-accepted greatest-flow-curve 137 221 296 355 400 tt tt tt tt tt
 
 -- ---- the figures
 -- the printed line's eleven, a case that 10 refuses, those of the two in snow, and those at the greatest flow rate

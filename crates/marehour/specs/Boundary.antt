@@ -2,9 +2,9 @@
 -- below with what this layer adds.
 --   printed_line            the line of document 01
 --   printed_line_with v t   the same with another demand and another terrain
---   printed_answer          what `los` prints for it
---   snow_answer             what it prints for the same line with the factors 860 and 780
 --   malformed_lines         lines that are refused with 15
+--   printed_answer          what `los` prints for the printed line
+--   snow_answer             what it prints for the same line with the factors 860 and 780
 --   longest                 a well-formed line of 74 bytes
 --   added_figures           what this layer adds
 --   boundary_figures        the list
@@ -37,15 +37,15 @@ abbrev pub printed_line : String
 printed_line = printed_line_with "2000" "R"
 
 -- the number of the refusal of what was read, 0 for none, and its values
-abbrev shown : Result Case Refusal → List ℕ
-shown r = refusal_number r ∷ values r
+abbrev told : Result Case Refusal → List ℕ
+told r = refusal_number r ∷ values r
 
 abbrev read_as : String → List ℕ
-read_as line = shown (read_line (bytes_of line))
+read_as line = told (read_line (bytes_of line))
 
 -- by a reader before T-09
 abbrev read_before : String → List ℕ
-read_before line = shown (older_read_line (bytes_of line))
+read_before line = told (older_read_line (bytes_of line))
 
 -- what the printed line with another demand is read as
 abbrev printed_case_with : ℕ → List ℕ
