@@ -1,10 +1,8 @@
 -- The points of specs/Distances, worked out by whole powers.
---   distances-shown, farthest-just-below
--- Assumes nothing.
 use Rattle.std.proofs.Common.{refl, arith, not-le_of_lt, lit<, lit≤}
 use Rattle.numbers.specs.Division.{div_up}
-use Rattle.powers.proofs.PowerTable.{power_table}
-use Rattle.powers.proofs.PowerLaws.{power_table-at}
+use Rattle.curve.proofs.PowerTable.{power_table}
+use Rattle.curve.proofs.PowerLaws.{power_table-at}
 use Rattle.curve.specs.Curves.{capacity, breakpoint, curve_at}
 use Rattle.curve.specs.Speed.{fall_share_by, speed, shown_speed}
 use Rattle.accuracy.specs.ManualCurve.{AtMostManualCurve}

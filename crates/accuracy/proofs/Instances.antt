@@ -1,10 +1,8 @@
 -- The cases of specs/Instances with their answers.
---   answer-to-farthest, answer-at-capacity, answer-above-capacity
--- Assumes nothing.
 use Rattle.std.proofs.Common.{◌≡◌, refl, ap, [], ◌∷◌, arith, le_of_eq, not-le_of_lt, lit<, lit≤, get_or}
 use Rattle.numbers.specs.Division.{div_up}
-use Rattle.powers.proofs.PowerTable.{power_table}
-use Rattle.powers.proofs.PowerLaws.{power_table-at}
+use Rattle.curve.proofs.PowerTable.{power_table}
+use Rattle.curve.proofs.PowerLaws.{power_table-at}
 use Rattle.curve.specs.Curves.{capacity, breakpoint}
 use Rattle.curve.specs.Weather.{adjusted_speed, adjusted_capacity, adjusted_breakpoint, curve_under}
 use Rattle.curve.specs.Speed.{fall_share_by, speed, shown_speed}

@@ -1,7 +1,4 @@
 -- The laws that specs/Laws states, proved.
---   lower-speeds-at-most, free-flow-speed-up-to-breakpoint, capacity-speed-at-capacity, no-faster-with-more-flow
---   table-step-at-most-1310, table-step-reaches-1310
--- Assumes nothing.
 use Rattle.std.proofs.Common.{◌≡◌, ℕ, ◌*◌, ◌-◌, ◌^◌, ◌<◌, zero-le, arith, mul-le-mul_left, mul-le-mul_right, mul-zero, le_trans, le_of_mul-le-mul_right}
 use native.Mathlib.Nat.{pow-le-pow_left, one-le-pow}
 use Rattle.curve.specs.declared.kind.Kind.TheVariants as Kind

@@ -1,10 +1,8 @@
 -- The theorem of specs/Promises, proved.
---   shown-speed-just-below, answer-just-below, a-to-e-up-to-capacity, a-to-e-just-below, no-speed-above-capacity
 -- With T(i) at the place i of v, and the fall 9F − 2c, in ninths: S is F − fall × T(i) / 9,000,000, and the shown speed s is S rounded down.
 -- At most the curve: fall × T(i) ≤ 9(F − s) × 1,000,000 is carried up to the powers, by the table's rule at i and 1,000p ≤ i × q.
 -- Not so s + 26: it would be carried down to fall × (T(i) − 1,311) ≤ 9(F − s − 26) × 1,000,000, by the table's rule and step at the place
 -- before i. But fall × 1,311 is below 9 × 25,000,000, and the rounding takes off less than 1.
--- Assumes nothing.
 use Rattle.std.proofs.Common.{◌≡◌, refl, ◌↔◌, ℕ, ◌+◌, ◌*◌, ◌-◌, ◌/◌, ◌^◌, ◌≤◌, ◌<◌, arith, mul-le-mul, mul-le-mul_left, mul_comm, div-mul-le_self, lt_of_not-le, T, leb, lit<, leb→le, le-leb}
 use native.Mathlib.Nat.{mul-sub, lt-div-mul-add, one-le-pow}
 use borrow.Author.Tests.{lt-leb}
@@ -13,9 +11,9 @@ use Rattle.numbers.specs.Fraction.{over, AtMost}
 use Rattle.numbers.proofs.BoolLaws.{and-left}
 use Rattle.numbers.proofs.DivisionLaws.{le-div_up}
 use Rattle.numbers.proofs.FractionLaws.{AtMost-trans, rounded_down-eq}
-use Rattle.powers.specs.Power.{power}
-use Rattle.powers.proofs.PowerLaws.{power-le}
-use Rattle.powers.proofs.Laws.{power-is-least}
+use Rattle.curve.specs.Power.{power}
+use Rattle.curve.proofs.PowerLaws.{power-le}
+use Rattle.curve.proofs.Laws.{power-is-least}
 use Rattle.curve.specs.declared.kind.Kind.{Kind}
 use Rattle.curve.specs.declared.Curve.{Curve}
 use Rattle.curve.specs.declared.Weather.{Weather}

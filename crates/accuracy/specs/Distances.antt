@@ -1,10 +1,4 @@
 -- Points of the manual's curve and how far below it the shown speed is, each worked out by whole powers; proofs/Distances proves them.
---   ShownBelow f v s k   at F and v the shown speed is s, k whole thousandths of mi/h below the manual's curve
---   DistancesShown       the farthest that the comparison finds, and the same flow rate at the highest F; just past the breakpoint, and at
---                        it; halfway from there to capacity; at capacity, with the highest c and with the lowest; and two points at which
---                        the curve is all but a whole number: with the exponent 1.3101 the first would be 8 below, with 1.3099 the second 3
---   FarthestJustBelow    the farthest of them is less than 26 below, worked out without the theorem; less than 22 it is not
--- Assumes nothing.
 use Rattle.std.specs.Prelude.{◌≡◌, ℕ, suc, ◌+◌}
 use Rattle.curve.specs.declared.kind.Kind.TheVariants as Kind
 use Rattle.curve.specs.Curves.{curve_at}
@@ -12,10 +6,15 @@ use Rattle.curve.specs.Speed.{shown_speed}
 use Rattle.accuracy.specs.ManualCurve.{AtMostManualCurve}
 use Rattle.accuracy.specs.Promises.{JustBelowManualCurve}
 
+-- at F and v the shown speed is s, k whole thousandths of mi/h below the manual's curve
 abbrev pub ShownBelow : (f v s k : ℕ) → Type 0
 ShownBelow f v s k =
     (shown_speed (curve_at Kind.Multilane f) v ≡ s) × AtMostManualCurve f v (s + k) × (AtMostManualCurve f v (s + suc k) → ⊥)
 
+-- the farthest that the comparison finds, and the same flow rate at the highest F; just past the breakpoint,
+-- and at it; halfway from there to capacity; at capacity, with the highest c and with the lowest; and two
+-- points at which the curve is all but a whole number: with the exponent 1.3101 the first would be 8 below,
+-- with 1.3099 the second 3
 abbrev pub DistancesShown : Type 0
 DistancesShown =
     ShownBelow 69923 2292 51307 22
@@ -28,5 +27,6 @@ DistancesShown =
     × ShownBelow 63462 1822 58396 7
     × ShownBelow 64634 1714 61148 4
 
+-- the farthest of them is less than 26 below, worked out without the theorem; less than 22 it is not
 abbrev pub FarthestJustBelow : Type 0
 FarthestJustBelow = JustBelowManualCurve 69923 2292 51307

@@ -1,11 +1,8 @@
 -- What it is to be at most the manual's curve, said without powers where that can be: for lower speeds, at the curve's two ends, and with
 -- more flow; and the step of the table of powers. proofs/Laws proves each.
---   LowerSpeedsAtMost, FreeFlowSpeedUpToBreakpoint, CapacitySpeedAtCapacity, NoFasterWithMoreFlow
---   TableStepAtMost1310, TableStepReaches1310
--- Assumes nothing.
 use Rattle.std.specs.Prelude.{◌≡◌, ◌↔◌, ℕ, suc, ◌+◌, ◌*◌, ◌≤◌}
 use Rattle.numbers.specs.Fraction.{over, whole, AtMost}
-use Rattle.powers.specs.Power.{power}
+use Rattle.curve.specs.Power.{power}
 use Rattle.curve.specs.declared.kind.Kind.TheVariants as Kind
 use Rattle.curve.specs.Kinds.{lowest_speed, highest_speed}
 use Rattle.curve.specs.Curves.{capacity, breakpoint}

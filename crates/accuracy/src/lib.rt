@@ -1,2 +1,3 @@
-// Accuracy: how far the shown multilane speed is below the manual's curve. A theorem and no code: specs/ states it, proofs/ proves it.
+//! Accuracy: how far the shown multilane speed is below the manual's curve. A theorem and no code: specs/ states it, proofs/ proves it.
+
 #![tactic(auto)]

@@ -1,12 +1,7 @@
 -- The answer to a case (specs/Answers).
---   answer_to-accepted   an accepted case gets its grade
---   answer_to-refused    a refused one gets its refusal
---   answer_to-number     its number is the case's refusal
---   Meets-iff            an answer meets a letter exactly when the case does
--- Assumes nothing.
 use Rattle.std.proofs.Common.{◌≡◌, sym, ◌∙◌, ◌↔◌, ℕ, ◌<◌, T, leb→le, le→leb, Ok, Err, lit≤, le_trans}
-use Rattle.checks.specs.Numbers.{refusal_of, refusal_number}
-use Rattle.checks.proofs.NumberLaws.{ok_unless-none, ok_unless-some, refusal_number-ok_unless}
+use Rattle.refusals.specs.Numbers.{refusal_of, refusal_number}
+use Rattle.refusals.proofs.NumberLaws.{ok_unless-none, ok_unless-some, refusal_number-ok_unless}
 use Rattle.curve.specs.Service.{letter_number}
 use Rattle.road.specs.declared.Case.{Case}
 use Rattle.method.specs.Refusals.{refusal, Accepted}
@@ -18,15 +13,19 @@ use Rattle.answer.specs.Answers.{graded, answer_to}
 use Rattle.answer.proofs.VolumeLaws.{meets-only-accepted}
 
 module _ (case : Case) where
+  -- an accepted case gets its grade
   pub answer_to-accepted : Accepted case → answer_to case ≡ Ok (graded case)
   answer_to-accepted a = ok_unless-none (refusal case) (graded case) a
 
+  -- a refused one gets its refusal
   pub answer_to-refused : (n : ℕ) → refusal case ≡ n → 0 < n → answer_to case ≡ Err (refusal_of n)
   answer_to-refused n e p = rw e (ok_unless-some n (graded case) p)
 
+  -- its number is the case's refusal
   pub answer_to-number : refusal_number (answer_to case) ≡ refusal case
   answer_to-number = refusal_number-ok_unless (refusal case) (graded case) (le_trans (refusal-le case) (lit≤ tt))
 
+  -- an answer meets a letter exactly when the case does
   pub Meets-iff : (n : ℕ) → Meets case n ↔ T (meets case n)
   unfolding meets graded
   Meets-iff n = (λ m. to (sym answer_to-number ∙ m.0) m, λ t. from (meets-only-accepted case n t) t)

@@ -1,24 +1,13 @@
 -- The boundary sections (specs/Boundary), shown, with those of the layer below.
---   example-speeds, estimated-speeds   F of the printed case and of the one that 10 refuses, by the lanes
---   example-accepted   the printed case is accepted
---   snow-accepted      so are the two cases in snow
---   volumes, snow-volumes   the service volumes of the printed case, and of it in snow
---   example-answer, example-figures   the printed line's answer: its number and its eleven figures; the figures
---   estimated-answer   the answer to the case that 10 refuses
---   snow-answer, example-in-snow   the answers to the two cases in snow
---   eight-lanes-accepted, eight-lanes-volumes   a case with 8 lanes, and its service volumes
---   none-at-999999     with V = 999,999 no count of the printed case meets C
---   boundary-shown     each figure of the list is what is to be shown
--- Assumes nothing.
 use Rattle.std.proofs.Common.{◌≡◌, refl, ap, ◌∙◌, Bool, false, ◌&&◌, [], ◌∷◌, ◌++◌, ℕ, ◌≤◌, arith, T, leb, leb→le, drop, get_or}
 use Rattle.numbers.specs.Division.{div_up}
 use Rattle.numbers.specs.Search.{least_from, least, ends_at}
 use Rattle.numbers.proofs.SearchLaws.{greatest-last}
 use Rattle.numbers.proofs.BoolLaws.{and-left, and-right}
-use Rattle.checks.specs.Refusals.{refuses}
-use Rattle.checks.specs.Figures.{Shown}
-use Rattle.checks.specs.Numbers.{in_order, refusal_of, refusal_number}
-use Rattle.checks.proofs.FigureLaws.{Shown-append}
+use Rattle.refusals.specs.Refusals.{refuses}
+use Rattle.refusals.specs.Figures.{Shown}
+use Rattle.refusals.specs.Numbers.{in_order, refusal_of, refusal_number}
+use Rattle.refusals.proofs.FigureLaws.{Shown-append}
 use Rattle.curve.specs.declared.kind.Kind.TheVariants as Kind
 use Rattle.curve.specs.declared.Curve.{Curve}
 use Rattle.curve.specs.Curves.{capacity, breakpoint}
@@ -64,10 +53,12 @@ unfolding div_up entry_before entry_after weighted_sum interpolated lane_width_a
     right_clearance_adjustment estimated_by uncapped_by free_flow_speed_of
 estimated-speeds = (simp ramp-6, simp ramp-6, simp ramp-6)
 
+-- the printed case is accepted
 pub example-accepted : Accepted example
 unfolding weather_unfit road_refusals load_refusals field_refusals adjusted_speed speed_refusals refusals
 example-accepted = simp example-speeds.0
 
+-- so are the two cases in snow
 pub snow-accepted : Accepted (given_in_snow 2 3000) × Accepted (example_in_snow 2000)
 unfolding uncapped_by free_flow_speed_of weather_unfit road_refusals load_refusals field_refusals adjusted_speed speed_refusals refusals
 snow-accepted = (refl, simp example-speeds.0)
@@ -135,6 +126,7 @@ module _ (case : Case) (curve : Curve) (a : Accepted case) (own : case_curve cas
     volume 5 s₅ (omega arith) (omega arith) t₅,
   )
 
+-- volumes, snow-volumes: the service volumes of the printed case, and of it in snow
 pub volumes : VolumesOf example 1117 1829 2642 3360 3858
 unfolding div_up ends_at heavy_factor_of flow_rate_of fall_share_by speed density meets_limit density_limit keeps ends
 volumes = five example (freeway 60782 230782 156872) example-accepted example-curves.0.0 1117 1829 2642 3360 3858 tt tt tt tt tt
@@ -200,12 +192,15 @@ answers-shown =
       simp (most.0, most.1, most.2, most.3, most.4),
     )
 
+-- example-answer, example-figures: the printed line's answer: its number and its eleven figures; the figures
 pub example-answer : answered example ≡ 0 ∷ 3 ∷ 60782 ∷ 230782 ∷ 1196 ∷ 60782 ∷ 197 ∷ 1117 ∷ 1829 ∷ 2642 ∷ 3360 ∷ 3858 ∷ []
 example-answer = answers-shown.0
 
+-- the answer to the case that 10 refuses
 pub estimated-answer : answered estimated ≡ 10 ∷ []
 estimated-answer = answers-shown.1
 
+-- snow-answer, example-in-snow: the answers to the two cases in snow
 pub snow-answer : answered (given_in_snow 2 3000)
     ≡ 0 ∷ 3 ∷ 71250 ∷ 216000 ∷ 1500 ∷ 66271 ∷ 227 ∷ 1566 ∷ 2506 ∷ 3294 ∷ 3884 ∷ 4320 ∷ []
 snow-answer = answers-shown.2
@@ -257,6 +252,7 @@ unfolding in_order refusal_of div_up least_from least weather_unfit road_refusal
     shown_density density_limit density_letter letter_at performance measures meets lanes_found lanes_refusals
 estimated-shown = simp (estimated-speeds.0, estimated-speeds.1, estimated-speeds.2)
 
+-- with V = 999,999 no count of the printed case meets C
 pub none-at-999999 : refusal_number (lanes_answer (example_with 999999) 3) ≡ 14
 none-at-999999 = ap (λ ns. get_or ns 0 0) lanes-shown.2
 
@@ -266,5 +262,6 @@ added-shown =
     let a = answers-shown in
     let l = lanes-shown in (a.0, (l.0, (l.1, (l.2, (l.3, (a.1, (estimated-shown, (a.2, (a.3, (l.4, (l.5, (a.4, tt))))))))))))
 
+-- each figure of the list is what is to be shown
 pub boundary-shown : Shown boundary_figures
 boundary-shown = Shown-append specs-method.boundary_figures added_figures method.boundary-shown added-shown

@@ -1,12 +1,7 @@
 -- Instances of each part of demand 3 (specs/Instances), proved by the part.
---   no-better-letter-under-more-load, no-better-letter-under-more-demand, no-better-letter-on-a-multilane
---   no-better-letter-in-snow-with-fewer-lanes, no-better-letter-in-snow-on-an-estimate
---   service-volume-of-the-example, service-volume-in-snow, first-and-last-service-volume
---   four-lanes-for-every-letter, no-lanes-for-the-greatest-demand, three-lanes-on-a-multilane, three-lanes-in-snow
--- Assumes nothing.
 use Rattle.std.proofs.Common.{◌≡◌, refl, ap, ◌∙◌, inl, inr, [], ◌∷◌, ℕ, zero, suc, ◌≤◌, ◌<◌, arith, T, leb, le→leb, get_or}
 use Rattle.numbers.specs.Division.{div_up}
-use Rattle.checks.specs.Numbers.{refusal_number}
+use Rattle.refusals.specs.Numbers.{refusal_number}
 use Rattle.curve.specs.Curves.{capacity, breakpoint}
 use Rattle.curve.specs.Weather.{adjusted_speed, adjusted_capacity, adjusted_breakpoint, curve_under}
 use Rattle.curve.specs.Speed.{fall_share_by, speed, shown_speed}

@@ -1,20 +1,14 @@
 -- The laws of specs/Laws, proved.
---   service_volume-le   no service volume is above 19,200
---   lanes_answer-number   the number of the answer to the lanes question is the first of its list
---   figures-within-ends, volumes-up-to-any-end, refusals-within-ends, refusals-reach-ends, lanes-refusals-in-order, lanes-refused-as-the-case,
---   counts-are-digits
---   found-digit          the same of a count that is answered
--- Assumes nothing.
 use Rattle.std.proofs.Common.{lit≤, Ok, Bool, le_trans, ◌≡◌, refl, sym, ap, ◌∙◌, ⊎_elim, [], ◌∷◌, ℕ, suc, ◌*◌, ◌≤◌, arith, eq-zero-or-pos}
 use Rattle.std.proofs.Common.{mul-le-mul, mul-le-mul_left, T, leb, leb→le, length, get_or, zero-le}
 use Rattle.numbers.specs.Search.{greatest}
 use Rattle.numbers.proofs.DivisionLaws.{div_up-le-iff, le-div_up}
 use Rattle.numbers.proofs.SearchLaws.{greatest-passes, greatest-within, least-le}
 use Rattle.numbers.proofs.BoolLaws.{and-left}
-use Rattle.checks.specs.Refusals.{first_refusal}
-use Rattle.checks.proofs.RefusalLaws.{first_refusal-some, first_refusal-le, first_refusal-ge, inside}
-use Rattle.checks.specs.Numbers.{in_order, refusal_of, refusal_number}
-use Rattle.checks.proofs.NumberLaws.{refusal_number-ok_unless, ok_unless-by}
+use Rattle.refusals.specs.Refusals.{first_refusal}
+use Rattle.refusals.proofs.RefusalLaws.{first_refusal-some, first_refusal-le, first_refusal-ge, inside}
+use Rattle.refusals.specs.Numbers.{in_order, refusal_of, refusal_number}
+use Rattle.refusals.proofs.NumberLaws.{refusal_number-ok_unless, ok_unless-by}
 use Rattle.curve.specs.declared.Curve.{Curve}
 use Rattle.curve.specs.Kinds.{most_lanes}
 use Rattle.curve.specs.Service.{density, meets_limit, density_limit, performance}
@@ -59,6 +53,7 @@ demand_meets-le case limit demand a t =
     let least : demand * 1000 ≤ demand * load.heavy_factor = mul-le-mul_left demand fits.heavy-ge in
     omega arith
 
+-- no service volume is above 19,200
 pub service_volume-le : (case : Case) (n : ℕ) → Accepted case → 1 ≤ n → n ≤ 5 → service_volume case n ≤ 19200
 service_volume-le case n a h k =
     let test : ℕ → Bool = case_meets case (density_limit n) in
@@ -125,6 +120,7 @@ lanes_refusals-le : (case : Case) (n : ℕ) → first_refusal (lanes_refusals ca
 unfolding road_refusals load_refusals field_refusals lanes_refusals
 lanes_refusals-le case n = first_refusal-le 19 (lanes_refusals case n) tt
 
+-- the number of the answer to the lanes question is the first of its list
 pub lanes_answer-number : (case : Case) (n : ℕ) → refusal_number (lanes_answer case n) ≡ first_refusal (lanes_refusals case n)
 lanes_answer-number case n =
     refusal_number-ok_unless (first_refusal (lanes_refusals case n)) (lanes_found case n) (le_trans (lanes_refusals-le case n) (lit≤ tt))
@@ -179,5 +175,6 @@ counts-are-digits case n count e =
     (λ p l. absurd (omega (arith, ap length l)))
     e
 
+-- the same of a count that is answered
 pub found-digit : (case : Case) (n count : ℕ) → lanes_answer case n ≡ Ok count → count ≤ 9
 found-digit case n count e = counts-are-digits case n count (ap values e)

@@ -1,15 +1,8 @@
 -- Demand 3, proved.
---   no-better-under-more-load        part 1
---   no-better-in-clear-weather       what it says of clear weather
---   meets-up-to-the-service-volume   part 2
---   least-accepted-count             part 3
---   demand-three                     the three together
---   volume_in-accepted               the volume in an accepted case's answer is its service volume
--- Assumes nothing.
 use Rattle.std.proofs.Common.{◌≡◌, refl, sym, ap, ◌∙◌, ◌↔◌, ⊎_elim, inl, [], ◌∷◌, ℕ, zero, suc, ◌≤◌, ◌<◌, arith, T, length, get_or, Ok, Err}
 use Rattle.std.proofs.Math.Decide.{dec_le}
-use Rattle.checks.specs.declared.Refusal.{Refusal}
-use Rattle.checks.specs.Numbers.{refusal_number}
+use Rattle.refusals.specs.declared.Refusal.{Refusal}
+use Rattle.refusals.specs.Numbers.{refusal_number}
 use Rattle.curve.specs.Kinds.{most_lanes}
 use Rattle.curve.specs.Curves.{curve_at}
 use Rattle.curve.specs.Weather.{clear}
@@ -80,6 +73,7 @@ module _ (c d : Case) (ac : Accepted c) (ad : Accepted d) (same : SameRoad c d) 
       (case_flow_rate d)
       (accepted-speed d ad) (free_flow_speed_of-mono d.road d.lanes c.lanes hn) (free_flow_speed_of-le d.road c.lanes) flow)
 
+-- part 1
 pub no-better-under-more-load : NoBetterUnderMoreLoad
 no-better-under-more-load c d ac ad same weather comparable hd hs ht hf hn =
     let flow : case_flow_rate c ≤ case_flow_rate d =
@@ -90,6 +84,7 @@ no-better-under-more-load c d ac ad same weather comparable hd hs ht hf hn =
     (λ equal. at-one-speed c d ac ad same weather flow (ap (free_flow_speed_of d.road) equal)))
     comparable
 
+-- what it says of clear weather
 pub no-better-in-clear-weather : NoBetterInClearWeather
 no-better-in-clear-weather c d ac ad same zc zd = no-better-under-more-load c d ac ad same (zc ∙ sym zd) (inl zc)
 
@@ -108,6 +103,7 @@ volume_in-accepted case n a h k = ap (λ answer. volume_in answer n) (answer_to-
     by (suc (suc (suc (suc (suc zero))))) h k = refl
     by (suc (suc (suc (suc (suc (suc n)))))) h k = absurd (omega arith)
 
+-- part 2
 pub meets-up-to-the-service-volume : MeetsUpToTheServiceVolume
 meets-up-to-the-service-volume c a n h k demand d =
     let met = Meets-iff (with_demand c demand) n in
@@ -179,8 +175,10 @@ module _ (case : Case) (n : ℕ) (h : 1 ≤ n) (k : n ≤ 5) (z : FieldsFit case
           lanes_found-none case n (λ count l t. nothing count (counted case n count t) ((Meets-iff (with_lanes case count) n).1 t)) in
           ap refusal_number (none (λ l. omega arith))
 
+-- part 3
 pub least-accepted-count : LeastAcceptedCount
 least-accepted-count case n h k z = (answers case n h k z, refuses-14 case n h k z)
 
+-- the three together
 pub demand-three : DemandThree
 demand-three = (no-better-under-more-load, meets-up-to-the-service-volume, least-accepted-count)

@@ -1,14 +1,10 @@
 -- The order of the searches (specs/SearchOrder), proved.
---   no-volume-above-the-next, example-volumes-rise, tries-of-a-letter, at-most-80-tried
---   tries-le   80 are counted at most, for any case
---   example-tried, eight-lanes-tried, refused-tried
--- Assumes nothing.
 use Rattle.std.proofs.Common.{◌≡◌, refl, sym, ap, ◌∙◌, List, [], ◌++◌, ℕ, zero, suc, ◌*◌, ◌≤◌, zero-le, arith, le_trans, leb, length}
 use Rattle.std.proofs.Common.{get_or, lt-ltb}
 use Rattle.numbers.specs.Halving.{middle, tried_between, tried_up_to}
 use Rattle.numbers.proofs.BoolLaws.{leb-test}
 use Rattle.numbers.proofs.HalvingLaws.{tried_up_to-doublings, tried_up_to-some, tried_up_to-cong}
-use Rattle.checks.proofs.RefusalLaws.{unless_refused-by}
+use Rattle.refusals.proofs.RefusalLaws.{unless_refused-by}
 use Rattle.road.specs.declared.Case.{Case}
 use Rattle.road.specs.Refusals.{greatest_demand}
 use Rattle.method.specs.Refusals.{refusal, Accepted}
@@ -68,6 +64,7 @@ at-most-80-tried case a =
     )
 
 -- ---- the count
+-- 80 are counted at most, for any case
 pub tries-le : (case : Case) → (counted_answer case).tries ≤ 80
 tries-le case =
     unless_refused-by (refusal case) (length (demands_tried case)) (λ number. 0) (λ n. n ≤ 80) (λ a. (at-most-80-tried case a).1)

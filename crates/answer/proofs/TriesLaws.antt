@@ -1,14 +1,4 @@
 -- The order of the searches for the service volumes, and the demands that they try (specs/Tries).
---   volume-next          no volume is above that of the next worse letter
---   search_end-le        no search goes past the greatest demand
---   tried_from-suc       how many demands are tried, letter by letter
---   Done, done-start, done-next   the searches so far: none, one more
---   done-volumes         all five: the volumes are found
---   done-end-le, done-tries-le    64 bits hold the end and the count
---   found_volumes-case   on the curve of an accepted case, with its load, these are its service volumes, and what is tried is the case's
---   found_laws           for tactics: the last
---   tries-accepted, tries-refused   the count of an accepted case, and of a refused one
--- Assumes nothing.
 use Rattle.std.proofs.Common.{◌≡◌, refl, sym, ap, ◌∙◌, Bool, List, [], ◌∷◌, ℕ, zero, suc, ◌+◌, ◌-◌, ◌*◌, ◌≤◌, ◌<◌, zero-le, arith, le_refl}
 use Rattle.std.proofs.Common.{le_trans, T, ltb, length, length-append, set, length-set, get_or, get_or-set_same, get_or-set_other, lt-ltb}
 use Rattle.std.proofs.Common.{le-ltb}
@@ -18,7 +8,7 @@ use Rattle.numbers.specs.Halving.{tried_up_to}
 use Rattle.numbers.proofs.SearchLaws.{greatest-le, greatest-mono, greatest-cong, greatest-within}
 use Rattle.numbers.proofs.HalvingLaws.{tried_up_to-steps, tried_up_to-cong}
 use Rattle.numbers.proofs.BoolLaws.{cond-le}
-use Rattle.checks.proofs.RefusalLaws.{unless_refused-none, unless_refused-some}
+use Rattle.refusals.proofs.RefusalLaws.{unless_refused-none, unless_refused-some}
 use Rattle.curve.specs.declared.Curve.{Curve}
 use Rattle.curve.specs.Curves.{WellFormed}
 use Rattle.curve.specs.Service.{density_limit}
@@ -43,12 +33,14 @@ demand_meets-worse curve load n demand h k t =
     let v : ℕ = flow_rate_of load demand in
     (letter_at-le-iff curve v (suc n) (omega arith) (omega arith)).0 (omega (arith, (letter_at-le-iff curve v n h (omega arith)).1 t))
 
+-- no volume is above that of the next worse letter
 pub volume-next : (curve : Curve) (load : Load) (n : ℕ) → 1 ≤ n → n ≤ 4 → searched_volume curve load n ≤ searched_volume curve load (suc n)
 volume-next curve load n h k =
     greatest-mono (tests_of curve load n) (tests_of curve load (suc n)) greatest_demand
     (λ demand. demand_meets-worse curve load n demand h k)
 
 -- ---- the searches in turn
+-- no search goes past the greatest demand
 pub search_end-le : (test : ℕ → ℕ → Bool) (n : ℕ) → search_end test n ≤ greatest_demand
 unfolding search_end
 search_end-le test n = cond-le (ltb n 5) (greatest-le (test (suc n)) greatest_demand) (le_refl greatest_demand)
@@ -61,6 +53,7 @@ search_end-last : (test : ℕ → ℕ → Bool) (n : ℕ) → 5 ≤ n → search
 unfolding search_end
 search_end-last test n h = simp (le-ltb n 5 h)
 
+-- how many demands are tried, letter by letter
 pub tried_from-suc : (test : ℕ → ℕ → Bool) (n : ℕ)
     → length (tried_from test (suc n)) ≡ length (tried_for test (suc n)) + length (tried_from test n)
 unfolding tried_from
@@ -90,6 +83,7 @@ module _ (curve : Curve) (load : Load) (volumes : List ℕ) (end tries n : ℕ) 
   abbrev tests : ℕ → ℕ → Bool
   tests = tests_of curve load
 
+  -- done-end-le, done-tries-le: 64 bits hold the end and the count
   pub done-end-le : end ≤ greatest_demand
   done-end-le = omega (arith, d.end-is, search_end-le tests n)
 
@@ -189,6 +183,8 @@ module _ (t u : ℕ → ℕ → Bool) (same : (n demand : ℕ) → 1 ≤ n → n
   tried_from-cong zero k = refl
   tried_from-cong (suc n) k = simp (tried_for-cong (suc n) (omega arith) k, tried_from-cong n (omega arith))
 
+-- on the curve of an accepted case, with its load, these are its service volumes, and what is tried is the
+-- case's
 pub found_volumes-case : (case : Case) → Accepted case
     → found_volumes (case_curve case) (load_of case case.lanes)
     ≡ record { value = service_volumes case; tries = length (demands_tried case) }
@@ -199,10 +195,12 @@ found_volumes-case case a =
           (λ n demand h k l. sym (meets-demand case n a h k demand l)) 5 (omega arith),
     )
 
+-- for tactics: the last
 pub ruleset found_laws = (found_volumes-case)
 
 -- ---- the count of an answer
 module _ (case : Case) where
+  -- tries-accepted, tries-refused: the count of an accepted case, and of a refused one
   pub tries-accepted : Accepted case → (counted_answer case).tries ≡ length (demands_tried case)
   tries-accepted a = unless_refused-none (refusal case) (length (demands_tried case)) (λ number. 0) a
 

@@ -1,15 +1,4 @@
 -- Meeting a letter and service volumes (specs/Volumes), and what the search tries (specs/Search).
---   meets-accepted       an accepted case meets a letter exactly when its flow rate keeps to the letter's density
---   meets-refused, meets-only-accepted   a refused case meets no letter
---   demand_meets-zero, demand_meets-down   no demand keeps to every density; less demand keeps to what more keeps to
---   case_meets, case_meets-zero, case_meets-down   what the search tries of a case; the two of an accepted case
---   meets-demand          what the search tries at a demand is meeting the letter with that demand
---   service_volume-eq     the service volume of an accepted case is the greatest demand that the search's test passes
---   service_volumes-with_demand   they are the same whatever the case's own demand is
---   service_volume-iff    a demand meets a letter exactly when it is at most the service volume
---   searched_volumes-case   what is searched for on the curve of an accepted case, with its load, are its service volumes
---   volume_laws          for tactics: the last
--- Assumes nothing.
 use Rattle.std.proofs.Common.{◌≡◌, refl, Bool, false, ◌↔◌, ℕ, ◌*◌, ◌≤◌, ◌<◌, T, leb, eqb, eqb→eq, arith, le_refl, ne_eqb}
 use Rattle.numbers.specs.Search.{greatest, DownwardClosed}
 use Rattle.numbers.proofs.SearchLaws.{greatest-iff, greatest-cong}
@@ -33,6 +22,7 @@ use Rattle.answer.specs.Volumes.{meets, service_volume, service_volumes}
 use Rattle.answer.specs.Search.{demand_meets, searched_volumes}
 
 -- ---- meeting a letter
+-- an accepted case meets a letter exactly when its flow rate keeps to the letter's density
 pub meets-accepted : (case : Case) (l : ℕ) → Accepted case → 1 ≤ l → l ≤ 5
     → meets case l ≡ meets_limit (case_curve case) (case_flow_rate case) (density_limit l)
 unfolding meets measures performance
@@ -40,6 +30,7 @@ meets-accepted case l a h k =
     rw a (leb-test (letter_number (letter_at (case_curve case) (case_flow_rate case))) l _
     (letter_at-le-iff (case_curve case) (case_flow_rate case) l h k))
 
+-- meets-refused, meets-only-accepted: a refused case meets no letter
 pub meets-refused : (case : Case) (l : ℕ) → 0 < refusal case → meets case l ≡ false
 unfolding meets
 meets-refused case l p = simp (ne_eqb (refusal case) 0 (λ e. omega arith))
@@ -52,6 +43,8 @@ meets-only-accepted case l t = eqb→eq (refusal case) 0
 
 -- ---- what the search tries
 module _ (curve : Curve) (load : Load) (limit : ℕ) (ok : WellFormed curve) (pos : 0 < load.divisor) where
+  -- demand_meets-zero, demand_meets-down: no demand keeps to every density; less demand keeps to what more
+  -- keeps to
   pub demand_meets-zero : T (demand_meets curve load limit 0)
   unfolding demand_meets
   demand_meets-zero = rw (flow_rate_of-zero load 0 pos refl) (meets_limit-zero curve limit ok)
@@ -62,6 +55,7 @@ module _ (curve : Curve) (load : Load) (limit : ℕ) (ok : WellFormed curve) (po
       meets_limit-down curve (flow_rate_of load m) (flow_rate_of load n) limit ok
       (flow_rate_of-mono load load m n pos h (le_refl load.heavy_factor) (le_refl load.divisor)) t
 
+-- case_meets, case_meets-zero, case_meets-down: what the search tries of a case; the two of an accepted case
 abbrev pub case_meets : Case → ℕ → ℕ → Bool
 case_meets case limit = demand_meets (case_curve case) (load_of case case.lanes) limit
 
@@ -76,15 +70,18 @@ module _ (case : Case) (limit : ℕ) (a : Accepted case) where
   case_meets-down = demand_meets-down (case_curve case) (load_of case case.lanes) limit (case_curve-well_formed case a) pos
 
 -- ---- the service volume
+-- they are the same whatever the case's own demand is
 pub service_volumes-with_demand : (case : Case) (demand : ℕ) → service_volumes (with_demand case demand) ≡ service_volumes case
 unfolding service_volume
 service_volumes-with_demand case demand = refl
 
 module _ (case : Case) (l : ℕ) (a : Accepted case) (h : 1 ≤ l) (k : l ≤ 5) where
+  -- what the search tries at a demand is meeting the letter with that demand
   pub meets-demand : (demand : ℕ) → demand ≤ greatest_demand → meets (with_demand case demand) l ≡ case_meets case (density_limit l) demand
   unfolding demand_meets heavy_factor_of
   meets-demand demand d = meets-accepted (with_demand case demand) l (accepted-with_demand case demand a d) h k
 
+  -- the service volume of an accepted case is the greatest demand that the search's test passes
   pub service_volume-eq : service_volume case l ≡ greatest (case_meets case (density_limit l)) greatest_demand
   unfolding service_volume
   service_volume-eq =
@@ -97,6 +94,7 @@ module _ (case : Case) (l : ℕ) (a : Accepted case) (h : 1 ≤ l) (k : l ≤ 5)
       (greatest-iff (case_meets case (density_limit l)) greatest_demand demand (case_meets-zero case (density_limit l) a)
       (case_meets-down case (density_limit l) a) d)
 
+-- what is searched for on the curve of an accepted case, with its load, are its service volumes
 pub searched_volumes-case : (case : Case) → Accepted case → searched_volumes (case_curve case) (load_of case case.lanes) ≡ service_volumes case
 searched_volumes-case case a =
     simp (
@@ -107,4 +105,5 @@ searched_volumes-case case a =
       service_volume-eq case 5 a (omega arith) (omega arith),
     )
 
+-- for tactics: the last
 pub ruleset volume_laws = (searched_volumes-case)

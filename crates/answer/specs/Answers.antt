@@ -1,12 +1,7 @@
 -- The answer to a case (document 01, "Lines": letter, F, c, v, speed, density, service volumes A to E).
---   grade_of m volumes  the grade of what a case gets and its service volumes
---   graded case         the grade of a case
---   answer_to case      its grade, or the first of 1 to 9, 19 and 10 that refuses it
---   values a            the eleven figures as a list, the letter by its number; of a refusal no value
--- Assumes nothing.
 use Rattle.std.specs.Prelude.{ℕ, List, [], ◌∷◌, Result, Ok, Err}
-use Rattle.checks.specs.declared.Refusal.{Refusal}
-use Rattle.checks.specs.Numbers.{ok_unless}
+use Rattle.refusals.specs.declared.Refusal.{Refusal}
+use Rattle.refusals.specs.Numbers.{ok_unless}
 use Rattle.road.specs.declared.Case.{Case}
 use Rattle.method.specs.Refusals.{refusal}
 use Rattle.curve.specs.Service.{letter_number}
@@ -16,6 +11,7 @@ use Rattle.answer.specs.declared.evaluate.Volumes.{Volumes}
 use Rattle.answer.specs.declared.evaluate.Grade.{Grade}
 use Rattle.answer.specs.Volumes.{service_volumes}
 
+-- the grade of what a case gets and its service volumes
 abbrev pub grade_of : Measures → Volumes → Grade
 grade_of measures volumes =
     record {
@@ -28,12 +24,15 @@ grade_of measures volumes =
       volumes = volumes;
     }
 
+-- the grade of a case
 unfoldable pub graded : Case → Grade
 graded case = grade_of (measures case) (service_volumes case)
 
+-- its grade, or the first of 1 to 9, 19 and 10 that refuses it
 abbrev pub answer_to : Case → Result Grade Refusal
 answer_to case = ok_unless (refusal case) (graded case)
 
+-- the eleven figures as a list, the letter by its number; of a refusal no value
 abbrev pub values : Result Grade Refusal → List ℕ
 values (Ok g) =
     letter_number g.letter ∷ g.free_flow_speed ∷ g.capacity ∷ g.flow_rate ∷ g.speed ∷ g.density

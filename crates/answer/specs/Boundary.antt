@@ -1,16 +1,5 @@
 -- The boundary sections of document 01, with the ramp term of T-08, and of T-03 and T-09 of document 02, that this layer adds to those
 -- of method/specs/Boundary.
---   example_with demand   the printed line's case with another demand
---   example_in_snow demand   the same with speed factor 860 and capacity factor 780
---   estimated            F E 60000 120 0 0 D 6 2 2000 1000 0 L: refused with 10, and 4 lanes are the least for every letter
---   given_in_snow n demand   F G 75000 120 60 60 D 0 N V 1000 0 L 950 900
---   refused_by19          F G 75000 120 60 60 D 0 2 0 1000 0 L 499 1000
---   greatest_flow        F G 75000 120 60 60 D 0 2 999999 250 1000 R: the greatest flow rate
---   answered case         the number of its answer's refusal, 0 for none, and the answer's values
---   counted case n        the same of the lanes question with letter number n
---   added_figures         what this layer adds
---   boundary_figures      the longer list
--- Assumes nothing.
 use Rattle.std.specs.Prelude.{List, [], ◌∷◌, ◌++◌, ℕ}
 use Rattle.curve.specs.declared.kind.Kind.TheVariants as Kind
 use Rattle.curve.specs.Weather.{factors, clear}
@@ -19,8 +8,8 @@ use Rattle.road.specs.declared.Median.TheVariants as Median
 use Rattle.road.specs.declared.Terrain.TheVariants as Terrain
 use Rattle.road.specs.declared.Case.{Case}
 use Rattle.method.specs.Boundary as method
-use Rattle.checks.specs.Figures.{Figure, figure}
-use Rattle.checks.specs.Numbers.{refusal_number}
+use Rattle.refusals.specs.Figures.{Figure, figure}
+use Rattle.refusals.specs.Numbers.{refusal_number}
 use Rattle.method.specs.Boundary.{example, given, two_lanes_under, refused_by_all}
 use Rattle.road.specs.Cases.{road, loaded, with_demand, with_lanes, with_weather}
 use Rattle.answer.specs.Answers as answers
@@ -28,30 +17,39 @@ use Rattle.answer.specs.Answers.{answer_to}
 use Rattle.answer.specs.Lanes as lanes
 use Rattle.answer.specs.Lanes.{lanes_answer}
 
+-- the printed line's case with another demand
 abbrev pub example_with : ℕ → Case
 example_with demand = with_demand example demand
 
+-- F E 60000 120 0 0 D 6 2 2000 1000 0 L: refused with 10, and 4 lanes are the least for every letter
 abbrev pub estimated : Case
 estimated = loaded (road Kind.Freeway Way.Estimated 60000 120 0 0 Median.Divided 6) 2 2000 1000 0 Terrain.Level clear
 
+-- the same with speed factor 860 and capacity factor 780
 abbrev pub example_in_snow : ℕ → Case
 example_in_snow demand = with_weather (example_with demand) (factors 860 780)
 
+-- F G 75000 120 60 60 D 0 N V 1000 0 L 950 900
 abbrev pub given_in_snow : ℕ → ℕ → Case
 given_in_snow n demand = with_lanes (two_lanes_under (factors 950 900) (given Kind.Freeway 75000 120) demand) n
 
+-- F G 75000 120 60 60 D 0 2 0 1000 0 L 499 1000
 abbrev pub refused_by19 : Case
 refused_by19 = two_lanes_under (factors 499 1000) (given Kind.Freeway 75000 120) 0
 
+-- F G 75000 120 60 60 D 0 2 999999 250 1000 R: the greatest flow rate
 abbrev pub greatest_flow : Case
 greatest_flow = loaded (given Kind.Freeway 75000 120) 2 999999 250 1000 Terrain.Rolling clear
 
+-- the number of its answer's refusal, 0 for none, and the answer's values
 abbrev pub answered : Case → List ℕ
 answered case = refusal_number (answer_to case) ∷ answers.values (answer_to case)
 
+-- the same of the lanes question with letter number n
 abbrev pub counted : Case → ℕ → List ℕ
 counted case n = refusal_number (lanes_answer case n) ∷ lanes.values (lanes_answer case n)
 
+-- what this layer adds
 -- Of what is accepted 0 and its values, of what is refused its number. Starred: the printed line. Not starred: the lanes question at the
 -- printed case with letter C, with V = 2,643, with 999,999 and with 99,999; a letter number past E; a case that 10 refuses, and its lanes;
 -- answers in snow, at a given and at an estimated speed; the lanes of the latter; the order 16, 1, 19 in the lanes question; the greatest
@@ -73,5 +71,6 @@ added_figures =
     ∷ figure (answered greatest_flow) (0 ∷ 6 ∷ 75000 ∷ 240000 ∷ 5999994 ∷ 0 ∷ 0 ∷ 137 ∷ 221 ∷ 296 ∷ 355 ∷ 400 ∷ [])
     ∷ []
 
+-- the longer list
 abbrev pub boundary_figures : List Figure
 boundary_figures = method.boundary_figures ++ added_figures

@@ -1,18 +1,8 @@
 -- Laws of the answers, stated; proofs/Laws proves them.
---   figure_ends          the most that each figure of an answer can be
---   FiguresWithinEnds    no figure of an answer is above its end; the room for an answer rests on it
---   VolumesUpToAnyEnd    searched for up to any end from 19,200 on, the service volumes are the same
---   last_refusal         19, the greatest number with which a case or a lanes question is refused
---   RefusalsWithinEnds   no refusal has a greater number
---   RefusalsReachEnds    a case that 19 refuses, and its lanes question
---   LanesRefusalsInOrder   the lanes question's list has 16, 1 to 9, 19 and 14, in this order, for every case and letter number
---   LanesRefusedAsTheCase   what refuses a case, 10 aside, refuses its lanes question with the same number, for A to E
---   CountsAreDigits      a lane count is one digit
--- Assumes nothing.
 use Rattle.std.specs.Prelude.{◌≡◌, List, [], ◌∷◌, map, ℕ, ◌*◌, ◌≤◌}
 use Rattle.numbers.specs.Bounds.{AllAtMost}
 use Rattle.numbers.specs.Search.{greatest}
-use Rattle.checks.specs.Numbers.{refusal_number}
+use Rattle.refusals.specs.Numbers.{refusal_number}
 use Rattle.road.specs.declared.Case.{Case}
 use Rattle.road.specs.Refusals.{greatest_demand}
 use Rattle.road.specs.Cases.{with_demand}
@@ -24,38 +14,46 @@ use Rattle.answer.specs.Lanes as lanes
 use Rattle.answer.specs.Lanes.{lanes_refusals, lanes_answer}
 use Rattle.answer.specs.Boundary.{refused_by19}
 
+-- the most that each figure of an answer can be
 -- letter, F, c, v, speed, density, service volumes A to E. A service volume keeps to capacity, 2,400 passenger cars on each of 8 lanes,
 -- whatever the greatest demand is
 abbrev pub figure_ends : List ℕ
 figure_ends =
     6 ∷ 75000 ∷ 240000 ∷ 6 * greatest_demand ∷ 75000 ∷ 450 ∷ 19200 ∷ 19200 ∷ 19200 ∷ 19200 ∷ 19200 ∷ []
 
+-- no figure of an answer is above its end; the room for an answer rests on it
 abbrev pub FiguresWithinEnds : Type 0
 FiguresWithinEnds = (case : Case) → Accepted case → AllAtMost (answers.values (answer_to case)) figure_ends
 
+-- searched for up to any end from 19,200 on, the service volumes are the same
 -- so they are the same searched for up to 99,999, the greatest demand before T-09
 abbrev pub VolumesUpToAnyEnd : Type 0
 VolumesUpToAnyEnd =
     (case : Case) (n end : ℕ) → Accepted case → 1 ≤ n → n ≤ 5 → 19200 ≤ end → end ≤ greatest_demand
     → greatest (λ demand. meets (with_demand case demand) n) end ≡ service_volume case n
 
+-- 19, the greatest number with which a case or a lanes question is refused
 abbrev pub last_refusal : ℕ
 last_refusal = 19
 
+-- no refusal has a greater number
 abbrev pub RefusalsWithinEnds : Type 0
 RefusalsWithinEnds =
     (case : Case) (n : ℕ)
     → (refusal_number (answer_to case) ≤ last_refusal) × (refusal_number (lanes_answer case n) ≤ last_refusal)
 
+-- a case that 19 refuses, and its lanes question
 abbrev pub RefusalsReachEnds : Type 0
 RefusalsReachEnds =
     (refusal_number (answer_to refused_by19) ≡ last_refusal) × (refusal_number (lanes_answer refused_by19 1) ≡ last_refusal)
 
+-- the lanes question's list has 16, 1 to 9, 19 and 14, in this order, for every case and letter number
 abbrev pub LanesRefusalsInOrder : Type 0
 LanesRefusalsInOrder =
     (case : Case) (n : ℕ)
     → map (λ r. r.number) (lanes_refusals case n) ≡ 16 ∷ 1 ∷ 2 ∷ 3 ∷ 4 ∷ 5 ∷ 6 ∷ 7 ∷ 8 ∷ 9 ∷ 19 ∷ 14 ∷ []
 
+-- what refuses a case, 10 aside, refuses its lanes question with the same number, for A to E
 -- "It checks 1 to 9, not 10", "19 .. in the lanes question too"
 abbrev pub LanesRefusedAsTheCase : Type 0
 LanesRefusedAsTheCase =
@@ -63,5 +61,6 @@ LanesRefusedAsTheCase =
     → let number = refusal_number (answer_to case) in
     (number ≡ 0 → ⊥) → (number ≡ 10 → ⊥) → refusal_number (lanes_answer case n) ≡ number
 
+-- a lane count is one digit
 abbrev pub CountsAreDigits : Type 0
 CountsAreDigits = (case : Case) (n count : ℕ) → lanes.values (lanes_answer case n) ≡ count ∷ [] → count ≤ 9

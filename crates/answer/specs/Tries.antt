@@ -1,20 +1,10 @@
 -- Which demands the searches for the five service volumes try, and how many (document 02, T-04). It is no part of the method.
 -- Letter numbers: A is 1.
---   meets_with case n demand   the case with that demand meets letter number n
---   tests_of curve load n demand   what is tried of it
---   search_end test n     up to where letter number n is searched for, if test n tells whether a demand meets it
---   tried_for test n      the demands that are tried for it
---   tried_from test n     those for letter number n and then for each better one
---   demands_tried case    those for E, D, C, B and A, of a case
---   found p end           what the search for the greatest demand up to an end hands back: the demand, and how many were tried
---   found_volumes curve load   what the five searches hand back together
---   counted_answer case   the answer to a case, and how many demands were tried for it: none for a refused one
--- Assumes nothing.
-use Rattle.std.specs.Prelude.{ℕ, zero, suc, Bool, cond, List, [], ◌++◌, ltb, length, Result}
+use Rattle.std.specs.Prelude.{ℕ, zero, suc, Bool, if◌then◌else◌, List, [], ◌++◌, nat_lt, length, Result}
 use Rattle.numbers.specs.Search.{greatest}
 use Rattle.numbers.specs.Halving.{tried_up_to}
-use Rattle.checks.specs.declared.Refusal.{Refusal}
-use Rattle.checks.specs.Refusals.{unless_refused}
+use Rattle.refusals.specs.declared.Refusal.{Refusal}
+use Rattle.refusals.specs.Refusals.{unless_refused}
 use Rattle.curve.specs.declared.Curve.{Curve}
 use Rattle.curve.specs.Service.{density_limit}
 use Rattle.road.specs.declared.Case.{Case}
@@ -29,34 +19,43 @@ use Rattle.answer.specs.Volumes.{meets}
 use Rattle.answer.specs.Answers.{answer_to}
 use Rattle.answer.specs.Search.{demand_meets, searched_volumes}
 
+-- the case with that demand meets letter number n
 -- "A demand meets a letter when the case with that demand, all other fields kept, gets it or a better one"
 abbrev pub meets_with : Case → ℕ → ℕ → Bool
 meets_with case n demand = meets (with_demand case demand) n
 
+-- what is tried of it
 abbrev pub tests_of : Curve → Load → ℕ → ℕ → Bool
 tests_of curve load n = demand_meets curve load (density_limit n)
 
+-- up to where letter number n is searched for, if test n tells whether a demand meets it
 -- "E first, then each letter from zero up to the volume found for the one before": what is found for it is the greatest demand of all that
 -- meets it, by proofs/TriesLaws
 unfoldable pub search_end : (ℕ → ℕ → Bool) → ℕ → ℕ
-search_end test n = cond (ltb n 5) (greatest (test (suc n)) greatest_demand) greatest_demand
+search_end test n = if nat_lt n 5 then greatest (test (suc n)) greatest_demand else greatest_demand
 
+-- the demands that are tried for it
 abbrev pub tried_for : (ℕ → ℕ → Bool) → ℕ → List ℕ
 tried_for test n = tried_up_to (test n) (search_end test n)
 
+-- those for letter number n and then for each better one
 unfoldable pub tried_from : (ℕ → ℕ → Bool) → ℕ → List ℕ
 tried_from test zero = []
 tried_from test (suc n) = tried_for test (suc n) ++ tried_from test n
 
+-- those for E, D, C, B and A, of a case
 abbrev pub demands_tried : Case → List ℕ
 demands_tried case = tried_from (meets_with case) 5
 
+-- what the search for the greatest demand up to an end hands back: the demand, and how many were tried
 abbrev pub found : (ℕ → Bool) → ℕ → Counted ℕ
 found p end = record { value = greatest p end; tries = length (tried_up_to p end) }
 
+-- what the five searches hand back together
 abbrev pub found_volumes : Curve → Load → Counted Volumes
 found_volumes curve load = record { value = searched_volumes curve load; tries = length (tried_from (tests_of curve load) 5) }
 
+-- the answer to a case, and how many demands were tried for it: none for a refused one
 abbrev pub counted_answer : Case → Counted (Result Grade Refusal)
 counted_answer case =
     record { value = answer_to case; tries = unless_refused (refusal case) (length (demands_tried case)) (λ number. 0) }

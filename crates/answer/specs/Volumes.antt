@@ -1,9 +1,5 @@
 -- Meeting a letter, and the service volumes (document 01, "Flow, letter, service volume, lanes"). Letter numbers: A is 1.
---   meets case n             the case is accepted and gets letter number n or a better one
---   service_volume case n    the service volume of letter number n
---   service_volumes case     those of A to E
--- Assumes nothing.
-use Rattle.std.specs.Prelude.{ℕ, Bool, ◌&&◌, leb, eqb}
+use Rattle.std.specs.Prelude.{ℕ, Bool, ◌&&◌, nat_le, ◌==◌}
 use Rattle.numbers.specs.Search.{greatest}
 use Rattle.curve.specs.Service.{letter_number}
 use Rattle.road.specs.declared.Case.{Case}
@@ -13,14 +9,17 @@ use Rattle.method.specs.Refusals.{refusal}
 use Rattle.method.specs.Assess.{measures}
 use Rattle.answer.specs.declared.evaluate.Volumes.{Volumes}
 
+-- the case is accepted and gets letter number n or a better one
 -- "meets it, that is, gets it or a better one"; a case that is refused gets no letter
 unfoldable pub meets : Case → ℕ → Bool
-meets case n = eqb (refusal case) 0 && leb (letter_number (measures case).performance.letter) n
+meets case n = refusal case == 0 && nat_le (letter_number (measures case).performance.letter) n
 
+-- the service volume of letter number n
 -- "The service volume of a letter is the greatest V from 0 to 99,999 that gets that letter or a better one", now to 999,999
 unfoldable pub service_volume : Case → ℕ → ℕ
 service_volume case n = greatest (λ demand. meets (with_demand case demand) n) greatest_demand
 
+-- those of A to E
 abbrev pub service_volumes : Case → Volumes
 service_volumes case =
     record {

@@ -1,13 +1,5 @@
-// The answer to a case.
-//   Volumes        the service volumes A to E
-//   Grade          letter, F, c, v, speed, density and the service volumes
-//   Grade::new     the grade of what a case gets and its service volumes
-//   values         the eleven figures of a grade, the letter by its number
-//   Counted        what is found, and how many demands were tried for it
-//   searched_volumes   the volumes on any curve, with any load that fits
-//   service_volumes   those of an accepted case
-//   evaluate_counted   the grade of any case at all, or its refusal, with how many demands were tried
-//   evaluate       without the count
+//! The answer to a case.
+
 ghost use Rattle.std.specs.Prelude.{◌≡◌, ◌≤◌};
 ghost use Rattle.road.specs.Refusals.{greatest_demand};
 ghost use Rattle.answer.specs.Volumes.{service_volumes};
@@ -15,13 +7,14 @@ ghost use Rattle.answer.specs.Search.{demand_meets, searched_volumes};
 ghost use Rattle.answer.specs.Answers.{grade_of, answer_to, values};
 ghost use Rattle.answer.specs.Tries.{found, found_volumes, counted_answer};
 
-use checks::Refusal;
+use refusals::Refusal;
 use curve::service::{self, Letter};
 use method::assess::{AcceptedCase, CaseTerms, Measures};
 use method::checked;
 use road::Case;
 use road::refusal::GREATEST_DEMAND;
 
+/// The service volumes A to E.
 #[derive(Clone, Copy, PartialEq, Eq)]
 pub struct Volumes {
     pub a: u64,
@@ -31,6 +24,7 @@ pub struct Volumes {
     pub e: u64,
 }
 
+/// Letter, F, c, v, speed, density and the service volumes.
 #[derive(Clone, Copy, PartialEq, Eq)]
 pub struct Grade {
     pub letter: Letter,
@@ -42,6 +36,7 @@ pub struct Grade {
     pub volumes: Volumes,
 }
 
+/// What is found, and how many demands were tried for it.
 #[derive(Clone, Copy)]
 pub struct Counted<T> {
     pub value: T,
@@ -49,6 +44,7 @@ pub struct Counted<T> {
 }
 
 impl Grade {
+    /// The grade of what a case gets and its service volumes.
     pub fn new(measures: Measures, volumes: Volumes) -> Grade
         ensures { result ≡ grade_of measures volumes }
     {
@@ -64,6 +60,7 @@ impl Grade {
         }
     }
 
+    /// The eleven figures of a grade, the letter by its number.
     pub fn values(&self) -> [u64; 11]
         ensures { result ≡ values (Ok self.now) }
     {
@@ -84,7 +81,7 @@ impl Grade {
     }
 }
 
-// Whether a demand keeps to capacity and to a density.
+/// Whether a demand keeps to capacity and to a density.
 #[tactic(auto, unfolding(crate::specs::Search::demand_meets))]
 fn demand_meets(terms: &CaseTerms, limit: u64, demand: u64) -> bool
     requires limit_high { limit ≤ 450 }
@@ -95,7 +92,7 @@ fn demand_meets(terms: &CaseTerms, limit: u64, demand: u64) -> bool
     terms.curve_terms.meets_limit(flow_rate, limit)
 }
 
-// The greatest demand up to the end that keeps to a density, by halving; 0 is known to.
+/// The greatest demand up to the end that keeps to a density, by halving; 0 is known to.
 fn greatest_meeting(terms: &CaseTerms, limit: u64, end: u64) -> Counted<u64>
     requires limit_high { limit ≤ 450 }
     requires end_high { end ≤ greatest_demand }
@@ -116,7 +113,7 @@ fn greatest_meeting(terms: &CaseTerms, limit: u64, end: u64) -> Counted<u64>
     Counted { value: low, tries }
 }
 
-// E first, then each better letter up to the volume found before: no volume is above that of the next worse letter.
+/// E first, then each better letter up to the volume found before: no volume is above that of the next worse letter.
 fn found_volumes(terms: &CaseTerms) -> Counted<Volumes>
     ensures { result ≡ found_volumes terms.now.curve_terms.curve terms.now.load }
 {
@@ -137,12 +134,14 @@ fn found_volumes(terms: &CaseTerms) -> Counted<Volumes>
     }
 }
 
+/// The volumes on any curve, with any load that fits.
 pub fn searched_volumes(terms: &CaseTerms) -> Volumes
     ensures { result ≡ searched_volumes terms.now.curve_terms.curve terms.now.load }
 {
     found_volumes(terms).value
 }
 
+/// Those of an accepted case.
 #[tactic(auto, using(crate::proofs::VolumeLaws::volume_laws))]
 pub fn service_volumes(accepted: &AcceptedCase) -> Volumes
     ensures { result ≡ service_volumes accepted.now.case }
@@ -161,7 +160,7 @@ fn graded(accepted: &AcceptedCase) -> Counted<Result<Grade, Refusal>>
     }
 }
 
-// No demand is tried for a case that is refused.
+/// No demand is tried for a case that is refused.
 pub fn evaluate_counted(case: Case) -> Counted<Result<Grade, Refusal>>
     ensures { result ≡ counted_answer case }
 {
@@ -174,6 +173,7 @@ pub fn evaluate_counted(case: Case) -> Counted<Result<Grade, Refusal>>
     }
 }
 
+/// Without the count.
 pub fn evaluate(case: Case) -> Result<Grade, Refusal>
     ensures { result ≡ answer_to case }
 {

@@ -1,11 +1,11 @@
-// The lanes question: how many lanes meet a letter.
-//   lanes_needed   for any case and any letter number
+//! The lanes question: how many lanes meet a letter.
+
 ghost use Rattle.std.specs.Prelude.{◌≡◌};
 ghost use Rattle.road.specs.Cases.{with_lanes};
 ghost use Rattle.answer.specs.Search.{Asking};
 ghost use Rattle.answer.specs.Lanes.{lanes_meet, lanes_answer};
 
-use checks::Refusal;
+use refusals::Refusal;
 use curve::service;
 use curve::speed::CurveTerms;
 use method::checked;
@@ -13,7 +13,7 @@ use method::flow::Load;
 use road::Case;
 use road::free_flow::FitRoad;
 
-// Whether the case with a lane count of the kind meets a letter; its road is handed on as one that fits.
+/// Whether the case with a lane count of the kind meets a letter; its road is handed on as one that fits.
 fn lanes_meet(case: &Case, fit: &FitRoad, letter: u64, lanes: u64) -> bool
     requires asking { Asking (with_lanes case.now lanes) letter }
     requires own_road { fit.now.road ≡ case.now.road }
@@ -28,7 +28,7 @@ fn lanes_meet(case: &Case, fit: &FitRoad, letter: u64, lanes: u64) -> bool
     }
 }
 
-// The least lane count of the kind that meets a letter, or 14.
+/// The least lane count of the kind that meets a letter, or 14.
 pub fn lanes_needed(case: Case, letter: u64) -> Result<u64, Refusal>
     ensures { result ≡ lanes_answer case letter }
 {

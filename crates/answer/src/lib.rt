@@ -1,6 +1,5 @@
-// Answer: what a case gets, with its service volumes, and the lanes question.
-//   evaluate   the answer to a case
-//   lanes      the lanes question
+//! Answer: what a case gets, with its service volumes, and the lanes question.
+
 #![tactic(auto)]
 
 pub mod evaluate;

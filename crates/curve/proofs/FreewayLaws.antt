@@ -2,9 +2,6 @@
 -- The breakpoint falls as F rises, so the proof is not term by term. With p = 100v − b (0 up to b), d what is left of c − b, q the
 -- rise of F and a = 9F − 2c: c − b rises by 4q and a by 9q from F = 70,000 up, and by 5q and 7q up to it. Each half is one
 -- polynomial inequality; they join at 70,000.
---   lift                 the order of two speeds from that of their polynomials, of either kind
---   freeway_speed-mono   AtMost (speed at f) (speed at g) for f ≤ g
--- Assumes nothing.
 use Rattle.std.proofs.Common.{◌≡◌, ℕ, ◌+◌, ◌*◌, ◌-◌, ◌≤◌, arith, mul-le-mul, mul-le-mul_left, mul-le-mul_right, mul_comm, le_trans}
 use Rattle.std.proofs.Common.{add-sub_of_le}
 use Rattle.std.proofs.Math.Nat.{mul-sub}
@@ -115,6 +112,7 @@ faster : (v f g : ℕ) → Faster (100 * v) f g → AtMost (reduced_speed (curve
 unfolding reduced_speed curve_at fall_share_by
 faster v f g h = nine (numerator (100 * v) f) (numerator (100 * v) g) (span g * span g) (span f * span f) h
 
+-- AtMost (speed at f) (speed at g) for f ≤ g
 pub freeway_speed-mono : (f g v : ℕ) → 55000 ≤ f → f ≤ g → g ≤ 75000 → 100 * v ≤ capacity Kind.Freeway f
     → AtMost (speed (curve_at Kind.Freeway f) v) (speed (curve_at Kind.Freeway g) v)
 freeway_speed-mono f g v h k e hu =

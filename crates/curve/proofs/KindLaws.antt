@@ -1,10 +1,9 @@
 -- What each kind carries (specs/Kinds): bounds that hold for both.
---   KindEnds, kind-ends   the ends of F and of the lane count
--- Assumes nothing.
 use Rattle.std.proofs.Common.{◌≤◌, arith}
 use Rattle.curve.specs.declared.kind.Kind.{Kind}
 use Rattle.curve.specs.Kinds.{lowest_speed, highest_speed, fewest_lanes, most_lanes}
 
+-- KindEnds, kind-ends: the ends of F and of the lane count
 pub record KindEnds (kind : Kind) : Type 0 where
   pub speed-order : lowest_speed kind ≤ highest_speed kind
   pub speed-le : highest_speed kind ≤ 75000

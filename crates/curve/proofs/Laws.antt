@@ -1,20 +1,40 @@
 -- The laws that specs/Laws states, proved: each by the law of the file beside its definition.
---   capacity-within-ends, capacity-reaches-ends, clear-weather-changes-nothing, curve-under-is-well-formed, speed-is-above-zero,
---   speed-never-below-capacity-speed, speed-never-rises-with-flow, density-never-falls-with-flow,
---   speed-never-falls-with-free-flow-speed, density-meets-limit-by-exact-speed, density-at-most-450, letter-never-better-with-flow,
---   letter-never-better
--- Assumes nothing.
-use Rattle.std.proofs.Common.{refl, arith}
+use Rattle.std.proofs.Common.{refl, sym, ℕ, ◌*◌, ◌^◌, ◌≤◌, arith, leb→le, le→leb}
+use Rattle.std.proofs.Math.Decide.{dec_le}
+use Rattle.numbers.proofs.SearchLaws.{least-passes, least-le-of}
 use Rattle.curve.specs.declared.kind.Kind.TheVariants as Kind
 use Rattle.curve.specs.Curves.{capacity}
+use Rattle.curve.specs.Power.{reaches_power, power}
+use Rattle.curve.specs.Laws.{PowerIsLeast, PowerNeverFalls, TableHoldsPowers}
 use Rattle.curve.specs.Laws.{CapacityWithinEnds, CapacityReachesEnds, ClearWeatherChangesNothing, CurveUnderIsWellFormed, SpeedIsAboveZero}
 use Rattle.curve.specs.Laws.{SpeedNeverBelowCapacitySpeed, SpeedNeverRisesWithFlow, DensityNeverFallsWithFlow}
 use Rattle.curve.specs.Laws.{SpeedNeverFallsWithFreeFlowSpeed, DensityMeetsLimitByExactSpeed, DensityAtMost450, LetterNeverBetterWithFlow}
 use Rattle.curve.specs.Laws.{LetterNeverBetter}
+use Rattle.curve.proofs.PowerTable.{power_table}
+use Rattle.curve.proofs.PowerLaws.{power_table-at, power-le, power-mono}
 use Rattle.curve.proofs.CurveLaws.{capacity-within}
 use Rattle.curve.proofs.WeatherLaws.{curve_under-clear, curve_under-fits}
 use Rattle.curve.proofs.SpeedLaws.{speed-numerator-pos, speed-denominator-pos, speed-antitone, capacity_speed-le}
 use Rattle.curve.proofs.ServiceLaws.{density-le-iff, shown_density-eq, density-mono, density-le, letter_at-flow, letter_at-mono, speed-mono}
+
+pub power-is-least : PowerIsLeast
+unfolding power reaches_power
+power-is-least i h =
+    (leb→le (i ^ 131 * 10 ^ 207) (power i ^ 100) (least-passes (reaches_power i) 1000001 (omega (arith, power-le i h))), no-less)
+  where
+    go : (t : ℕ) → i ^ 131 * 10 ^ 207 ≤ t ^ 100 → Dec (t ≤ 1000000) → power i ≤ t
+    go t e (yes l) = least-le-of (reaches_power i) 1000001 t (le→leb (i ^ 131 * 10 ^ 207) (t ^ 100) e) (omega arith)
+    go t e (no l) = omega (arith, power-le i h)
+
+    no-less : (t : ℕ) → i ^ 131 * 10 ^ 207 ≤ t ^ 100 → power i ≤ t
+    no-less t e = go t e (dec_le t 1000000)
+
+pub power-never-falls : PowerNeverFalls
+power-never-falls i j h k = (power-mono i j h k, power-le j k)
+
+pub table-holds-powers : TableHoldsPowers
+unfolding power_table
+table-holds-powers = (refl, λ i h. sym (power_table-at i h))
 
 pub capacity-within-ends : CapacityWithinEnds
 capacity-within-ends = capacity-within

@@ -1,12 +1,10 @@
 -- Kind M: with a higher free-flow speed the speed never falls: the place in the table of powers comes earlier, and the fall to
 -- the speed at capacity grows by no more than F does.
---   multilane_speed-mono   AtMost (speed at f) (speed at g) for f ≤ g
--- Assumes nothing.
 use Rattle.std.proofs.Common.{ℕ, ◌+◌, ◌*◌, ◌-◌, ◌≤◌, arith, mul-le-mul_left, mul-le-mul_right, add-sub_of_le}
 use Rattle.numbers.specs.Fraction.{AtMost}
 use Rattle.numbers.proofs.DivisionLaws.{div_up-mono}
-use Rattle.powers.specs.Power.{power}
-use Rattle.powers.proofs.PowerLaws.{power-le, power-mono}
+use Rattle.curve.specs.Power.{power}
+use Rattle.curve.proofs.PowerLaws.{power-le, power-mono}
 use Rattle.curve.specs.declared.kind.Kind.TheVariants as Kind
 use Rattle.curve.specs.Curves.{capacity, breakpoint, curve_at}
 use Rattle.curve.specs.Speed.{beyond_breakpoint, span_to_capacity, fall_share_by, speed}
@@ -41,6 +39,7 @@ rise f q t s h top =
           )),
     )
 
+-- AtMost (speed at f) (speed at g) for f ≤ g
 pub multilane_speed-mono : (f g v : ℕ) → 45000 ≤ f → f ≤ g → g ≤ 70000 → 100 * v ≤ capacity Kind.Multilane f
     → AtMost (speed (curve_at Kind.Multilane f) v) (speed (curve_at Kind.Multilane g) v)
 unfolding reduced_speed curve_at fall_share_by

@@ -1,24 +1,4 @@
 -- Density and letter (specs/Service).
---   density-le-iff      the density meets a limit exactly when 10,000v is at most the limit times S
---   shown_density-eq    up to capacity it is the shown density
---   density-exact       it may be worked from any fraction of the value of S
---   limit-exact         the test of a limit may be worked from any such fraction too
---   performance-exact, performance-beyond   so may the three that are shown; beyond capacity they are 0, 0 and F
---   density-mono        more flow at no higher speed: no less density
---   density-le          up to capacity the density is at most 450
---   shown_density-le, shown_speed-le   what is shown is at most 450, and at most F
---   density-zero       without flow it is 0
---   density_letter-mono, letter_number-le   a greater density gets no better letter; none is past F
---   density_limit-le    no letter's density is above 450
---   letter_at-le-iff    it is letter l or better exactly when the flow keeps to capacity and to the letter's density
---   meets_limit-beyond   beyond capacity no limit is met
---   meets_limit-zero, meets_limit-down   no flow meets every limit; less flow meets what more meets
---   letter_at-worse     more flow at no less density: no better letter
---   letter_at-flow      more flow on one curve: no better letter
---   letter_at-mono      more flow, or a lower free-flow speed: no better letter
---   letter_at-zero      without flow the letter is A
---   speed-mono          with a higher free-flow speed the speed never falls, of either kind
--- Assumes nothing.
 use Rattle.std.proofs.Common.{◌≡◌, refl, ap, Bool, true, false, cond, ◌↔◌, ℕ, ◌*◌, ◌/◌, ◌≤◌, ◌<◌, arith, le_trans, le_of_eq, zero-mul}
 use Rattle.std.proofs.Common.{mul-le-mul_right, div-one, le-leb, T, leb, leb→le, le→leb}
 use Rattle.std.proofs.Math.Decide.{dec_le}
@@ -44,15 +24,18 @@ use Rattle.curve.proofs.FreewayLaws.{freeway_speed-mono}
 use Rattle.curve.proofs.MultilaneLaws.{multilane_speed-mono}
 
 -- ---- density
+-- the density meets a limit exactly when 10,000v is at most the limit times S
 pub density-le-iff : (curve : Curve) (v limit : ℕ) → WellFormed curve → 100 * v ≤ curve.capacity
     → (density curve v ≤ limit) ↔ AtMost (whole (10000 * v)) (times (whole limit) (speed curve v))
 unfolding density
 density-le-iff curve v limit ok h = quotient-le-iff (10000 * v) limit (speed curve v) (speed-numerator-pos curve v ok h)
 
+-- up to capacity it is the shown density
 pub shown_density-eq : (curve : Curve) (v : ℕ) → 100 * v ≤ curve.capacity → shown_density curve v ≡ density curve v
 unfolding shown_density
 shown_density-eq curve v h = simp (le-leb (100 * v) curve.capacity h)
 
+-- it may be worked from any fraction of the value of S
 pub density-exact : (curve : Curve) (v : ℕ) (s : Fraction) → WellFormed curve → 100 * v ≤ curve.capacity → ExactSpeed curve v s
     → div_up (10000 * v * s.denominator) s.numerator ≡ density curve v
 unfolding density
@@ -64,6 +47,7 @@ density-exact curve v s ok h exact =
     crossed : (m a b x y : ℕ) → a * y ≡ x * b → m * b * (1 * x) ≡ m * y * a
     crossed m a b x y e = omega (arith, ap (λ n. m * n) e)
 
+-- the test of a limit may be worked from any such fraction too
 pub limit-exact : (curve : Curve) (v limit : ℕ) (s : Fraction) → WellFormed curve → 100 * v ≤ curve.capacity → ExactSpeed curve v s
     → leb (10000 * v * s.denominator) (limit * s.numerator) ≡ meets_limit curve v limit
 unfolding meets_limit
@@ -90,6 +74,7 @@ pub performance-beyond : (curve : Curve) (v : ℕ) → curve.capacity < 100 * v
 unfolding performance shown_speed shown_density letter_at
 performance-beyond curve v h = simp (lt-leb (100 * v) curve.capacity h)
 
+-- more flow at no higher speed: no less density
 pub density-mono : (curve₁ curve₂ : Curve) (v w : ℕ) → WellFormed curve₁ → WellFormed curve₂
     → 100 * v ≤ curve₁.capacity → 100 * w ≤ curve₂.capacity → v ≤ w → AtMost (speed curve₂ w) (speed curve₁ v)
     → density curve₁ v ≤ density curve₂ w
@@ -99,11 +84,13 @@ density-mono curve₁ curve₂ v w ok₁ ok₂ h k l s =
     (omega (arith, speed-numerator-pos curve₁ v ok₁ h)) (omega (arith, speed-numerator-pos curve₂ w ok₂ k))
     (divided_by-mono (10000 * v) (10000 * w) (speed curve₁ v) (speed curve₂ w) (omega arith) s)
 
+-- up to capacity the density is at most 450
 pub density-le : (curve : Curve) (v : ℕ) → WellFormed curve → 100 * v ≤ curve.capacity → density curve v ≤ 450
 density-le curve v ok h =
     (density-le-iff curve v 450 ok h).1
     (omega (arith, capacity_speed-le curve v ok h, mul-le-mul_right (speed curve v).denominator h))
 
+-- shown_density-le, shown_speed-le: what is shown is at most 450, and at most F
 pub shown_density-le : (curve : Curve) (v : ℕ) → WellFormed curve → shown_density curve v ≤ 450
 unfolding shown_density
 shown_density-le curve v ok = go (dec_le (100 * v) curve.capacity)
@@ -128,6 +115,7 @@ shown_speed-le curve v ok = go (dec_le (100 * v) curve.capacity)
         (le_of_eq free))
     go (no h) = rw (lt-leb (100 * v) curve.capacity (omega arith)) (omega arith)
 
+-- without flow it is 0
 pub density-zero : (curve : Curve) → WellFormed curve → density curve 0 ≡ 0
 unfolding density
 density-zero curve ok =
@@ -154,6 +142,7 @@ grade_number-mono : (d e : ℕ) → d ≤ e → grade_number d ≤ grade_number 
 unfolding grade_number
 grade_number-mono d e h = grind (arith, nat_tests)
 
+-- density_letter-mono, letter_number-le: a greater density gets no better letter; none is past F
 pub density_letter-mono : (d e : ℕ) → d ≤ e → letter_number (density_letter d) ≤ letter_number (density_letter e)
 density_letter-mono d e h = rw (density_letter-number d, density_letter-number e) (grade_number-mono d e h)
 
@@ -165,6 +154,7 @@ letter_number-le Letter.D = omega arith
 letter_number-le Letter.E = omega arith
 letter_number-le Letter.F = omega arith
 
+-- without flow the letter is A
 pub letter_at-zero : (curve : Curve) → WellFormed curve → letter_at curve 0 ≡ Letter.A
 unfolding letter_at density_letter density_limit
 letter_at-zero curve ok = simp (le-leb (100 * 0) curve.capacity (omega arith), density-zero curve ok)
@@ -174,10 +164,12 @@ limit-iff : (d l : ℕ) → 1 ≤ l → l ≤ 5 → (grade_number d ≤ l) ↔ (
 unfolding grade_number density_limit
 limit-iff d l h k = (λ e. grind (arith, nat_tests), λ e. grind (arith, nat_tests))
 
+-- no letter's density is above 450
 pub density_limit-le : (l : ℕ) → density_limit l ≤ 450
 unfolding density_limit
 density_limit-le l = grind (arith, nat_tests)
 
+-- it is letter l or better exactly when the flow keeps to capacity and to the letter's density
 pub letter_at-le-iff : (curve : Curve) (v l : ℕ) → 1 ≤ l → l ≤ 5
     → (letter_number (letter_at curve v) ≤ l) ↔ T (meets_limit curve v (density_limit l))
 unfolding letter_at meets_limit
@@ -190,10 +182,12 @@ letter_at-le-iff curve v l h k = go (dec_le (100 * v) curve.capacity)
         (λ e. le→leb (density curve v) (density_limit l) (iff.0 e), λ e. iff.1 (leb→le (density curve v) (density_limit l) e))
     go (no c) = simp (lt-leb (100 * v) curve.capacity (omega arith)) (λ e. absurd (omega arith), λ e. absurd e)
 
+-- beyond capacity no limit is met
 pub meets_limit-beyond : (curve : Curve) (v limit : ℕ) → curve.capacity < 100 * v → false ≡ meets_limit curve v limit
 unfolding meets_limit
 meets_limit-beyond curve v limit h = simp (lt-leb (100 * v) curve.capacity h)
 
+-- meets_limit-zero, meets_limit-down: no flow meets every limit; less flow meets what more meets
 pub meets_limit-zero : (curve : Curve) (limit : ℕ) → WellFormed curve → T (meets_limit curve 0 limit)
 unfolding meets_limit
 meets_limit-zero curve limit ok = simp
@@ -222,6 +216,7 @@ letter_at-worse curve₁ curve₂ v w h = go (dec_le (100 * w) curve₂.capacity
         simp (le-leb (100 * w) curve₂.capacity c, le-leb (100 * v) curve₁.capacity (h c).0) (density_letter-mono _ _ (h c).1)
     go (no c) = simp (lt-leb (100 * w) curve₂.capacity (omega arith)) (letter_number-le (letter_at curve₁ v))
 
+-- more flow on one curve: no better letter
 pub letter_at-flow : (curve : Curve) (v w : ℕ) → WellFormed curve → v ≤ w
     → letter_number (letter_at curve v) ≤ letter_number (letter_at curve w)
 letter_at-flow curve v w ok l =
@@ -230,6 +225,7 @@ letter_at-flow curve v w ok l =
     (d, density-mono curve curve v w ok ok d c l (speed-antitone curve v w ok l c)))
 
 -- ---- either kind, at two free-flow speeds
+-- with a higher free-flow speed the speed never falls, of either kind
 pub speed-mono : (kind : Kind) (f g v : ℕ) → lowest_speed kind ≤ f → f ≤ g → g ≤ highest_speed kind → 100 * v ≤ capacity kind f
     → AtMost (speed (curve_at kind f) v) (speed (curve_at kind g) v)
 speed-mono Kind.Freeway f g v h l k c = freeway_speed-mono f g v h l k c
@@ -247,6 +243,7 @@ density_at-mono kind f g v w h l k s c =
     (speed-denominator-pos (curve_at kind g) w okg)
     (speed-mono kind f g w h l k c) (speed-antitone (curve_at kind g) v w okg s (omega arith)))
 
+-- more flow, or a lower free-flow speed: no better letter
 pub letter_at-mono : (kind : Kind) (f g v w : ℕ) → lowest_speed kind ≤ f → f ≤ g → g ≤ highest_speed kind → v ≤ w
     → letter_number (letter_at (curve_at kind g) v) ≤ letter_number (letter_at (curve_at kind f) w)
 unfolding curve_at

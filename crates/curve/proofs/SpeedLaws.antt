@@ -1,16 +1,4 @@
 -- Speed on a curve (specs/Speed): laws in the flow rate v, on any well-formed curve, up to capacity.
---   place-le              the place in the table of powers is at most 1,000
---   share-pos             the denominator of w is above 0
---   share-le              w is at most 1
---   reduced_numerator, reduced_speed   S with 9 in the place of 45: the numbers that 64 bits hold
---   reduced_speed-denominator-pos, reduced_speed-pos   it is a fraction, above 0
---   speed-reduced         it has the value of S
---   speed-denominator-pos, speed-numerator-pos   S is a fraction, above 0
---   share-denominator-le, reduced_speed-exact    what 64 bits hold of w and of S
---   speed-le               two speeds compare as their reduced forms do
---   speed-antitone         with more flow S never rises
---   capacity_speed-le      S is at least the speed at capacity, 10c/45
--- Assumes nothing.
 use Rattle.std.proofs.Common.{◌≡◌, refl, sym, ℕ, ◌*◌, ◌-◌, ◌≤◌, ◌<◌, arith, mul-le-mul, mul-le-mul_left, mul-le-mul_right, mul-pos}
 use Rattle.std.proofs.Common.{mul_comm, mul-zero, le_refl, le_of_eq, le_trans, sub-le, lt_of_lt_of_le, le-leb}
 use Rattle.std.proofs.Math.Nat.{mul-sub}
@@ -21,7 +9,7 @@ use Rattle.numbers.specs.Division.{div_up}
 use Rattle.numbers.specs.Fraction.{over, whole, AtMost, SameValue}
 use Rattle.numbers.proofs.DivisionLaws.{div_up-le-iff, div_up-mono, div_up-zero}
 use Rattle.numbers.proofs.FractionLaws.{AtMost-trans, SameValue-pos}
-use Rattle.powers.proofs.PowerLaws.{power-zero, power-le, power-mono}
+use Rattle.curve.proofs.PowerLaws.{power-zero, power-le, power-mono}
 use Rattle.curve.specs.declared.kind.Kind.{Kind}
 use Rattle.curve.specs.declared.Curve.{Curve}
 use Rattle.curve.specs.Curves.{WellFormed, Sized}
@@ -35,6 +23,7 @@ place curve v = div_up (1000 * beyond_breakpoint curve v) (span_to_capacity curv
 span-pos : (curve : Curve) → WellFormed curve → 0 < span_to_capacity curve
 span-pos curve ok = omega (arith, ok.breakpoint-below)
 
+-- the place in the table of powers is at most 1,000
 pub place-le : (curve : Curve) (v : ℕ) → WellFormed curve → 100 * v ≤ curve.capacity → place curve v ≤ 1000
 place-le curve v ok h =
     (div_up-le-iff (1000 * beyond_breakpoint curve v) (span_to_capacity curve) 1000 (span-pos curve ok)).1 (omega arith)
@@ -70,9 +59,11 @@ module _ (curve : Curve) (ok : WellFormed curve) where
       let part : 1000 * beyond_breakpoint curve v ≡ 0 = omega arith in
       rw (part, div_up-zero (span_to_capacity curve) (span-pos curve ok)) power-zero
 
+-- the denominator of w is above 0
 pub share-pos : (curve : Curve) (v : ℕ) → WellFormed curve → 0 < (fall_share curve v).denominator
 share-pos curve v ok = share-pos-by curve ok curve.kind v
 
+-- w is at most 1
 pub share-le : (curve : Curve) (v : ℕ) → WellFormed curve → 100 * v ≤ curve.capacity
     → (fall_share curve v).numerator ≤ (fall_share curve v).denominator
 share-le curve v ok h = share-le-by curve ok curve.kind v h
@@ -118,6 +109,7 @@ same-free : (f c q : ℕ) → SameValue (whole f) (over (reduced_numerator f c 0
 unfolding reduced_numerator
 same-free f c q = rw (mul-zero (9 * f - 2 * c)) (omega arith)
 
+-- it has the value of S
 pub speed-reduced : (curve : Curve) (v : ℕ) → WellFormed curve → SameValue (speed curve v) (reduced_speed curve v)
 unfolding speed reduced_speed
 speed-reduced curve v ok = go (dec_le (100 * v) curve.breakpoint)
@@ -142,6 +134,7 @@ reduced_numerator-antitone : (f c p r q : ℕ) → p ≤ r → reduced_numerator
 unfolding reduced_numerator
 reduced_numerator-antitone f c p r q h = omega (arith, mul-le-mul_left (9 * f - 2 * c) h)
 
+-- reduced_speed-denominator-pos, reduced_speed-pos: it is a fraction, above 0
 pub reduced_speed-denominator-pos : (curve : Curve) (v : ℕ) → WellFormed curve → 0 < (reduced_speed curve v).denominator
 unfolding reduced_speed
 reduced_speed-denominator-pos curve v ok = omega (arith, share-pos curve v ok)
@@ -154,6 +147,7 @@ reduced_speed-pos curve v ok h =
     (fall_share curve v).denominator (falls curve ok)
     (share-le curve v ok h))
 
+-- speed-denominator-pos, speed-numerator-pos: S is a fraction, above 0
 pub speed-denominator-pos : (curve : Curve) (v : ℕ) → WellFormed curve → 0 < (speed curve v).denominator
 unfolding speed
 speed-denominator-pos curve v ok = go (dec_le (100 * v) curve.breakpoint)
@@ -176,6 +170,7 @@ speed-le curve₁ curve₂ v w ok₁ ok₂ h =
     (AtMost-trans (reduced_speed curve₁ v) (reduced_speed curve₂ w) (speed curve₂ w) (reduced_speed-denominator-pos curve₂ w ok₂) h
     (le_of_eq (sym (speed-reduced curve₂ w ok₂))))
 
+-- with more flow S never rises
 pub speed-antitone : (curve : Curve) (v w : ℕ) → WellFormed curve → v ≤ w → 100 * w ≤ curve.capacity
     → AtMost (speed curve w) (speed curve v)
 unfolding reduced_speed
@@ -186,6 +181,7 @@ speed-antitone curve v w ok l h =
     (reduced_numerator-antitone curve.free_flow_speed curve.capacity (fall_share curve v).numerator (fall_share curve w).numerator
     (fall_share curve v).denominator (share-mono-by curve ok curve.kind v w l h))))
 
+-- S is at least the speed at capacity, 10c/45
 pub capacity_speed-le : (curve : Curve) (v : ℕ) → WellFormed curve → 100 * v ≤ curve.capacity
     → AtMost (over (10 * curve.capacity) 45) (speed curve v)
 unfolding reduced_speed
@@ -204,6 +200,7 @@ unfolding fall_share_by
 share-denominator-le-by Kind.Freeway curve v sized = mul-le-mul {n₂ = 140000} {m₂ = 140000} sized.span-le sized.span-le
 share-denominator-le-by Kind.Multilane curve v sized = omega arith
 
+-- share-denominator-le, reduced_speed-exact: what 64 bits hold of w and of S
 pub share-denominator-le : (curve : Curve) (v : ℕ) → Sized curve → (fall_share curve v).denominator ≤ 140000 * 140000
 share-denominator-le curve v sized = share-denominator-le-by curve.kind curve v sized
 

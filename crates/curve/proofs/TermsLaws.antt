@@ -1,9 +1,4 @@
 -- The terms of a curve (src/speed.rt, specs/Terms).
---   flow-within, flow-beyond   a flow rate by the greatest that keeps to capacity
---   fall-within                what is taken from the free-flow term is at most that term
---   terms-exact                the speed worked from the terms
---   terms_fit, performance_laws, limit_laws   for tactics: what src wants of a speed, of what is shown and of a limit
--- Assumes nothing.
 use Rattle.std.proofs.Common.{◌≡◌, refl, sym, ap, ◌∙◌, ℕ, ◌*◌, ◌-◌, ◌≤◌, ◌<◌, arith, mul-le-mul}
 use Rattle.numbers.specs.Fraction.{over}
 use Rattle.numbers.proofs.DivisionLaws.{div_ceil-eq}
@@ -25,6 +20,7 @@ share-denominator-eq : (curve : Curve) (v : ℕ) → (fall_share curve v).denomi
 share-denominator-eq curve v = denominator-by curve.kind curve v
 
 module _ (terms : CurveTerms) (v : ℕ) where
+  -- flow-within, flow-beyond: a flow rate by the greatest that keeps to capacity
   pub flow-within : v ≤ terms.most_flow → (100 * v ≤ terms.curve.capacity) × (10000 * v ≤ 24000000)
   flow-within h = (omega (arith, terms.own_most_flow), omega (arith, terms.own_most_flow, terms.sized.capacity-le))
 
@@ -36,17 +32,21 @@ module _ (terms : CurveTerms) (v : ℕ) where
       terms.own_denominator ∙ ap (share_denominator_of terms.curve.kind) terms.own_span ∙ sym (share-denominator-eq terms.curve v)
 
   module _ (n : ℕ) (h : 100 * v ≤ terms.curve.capacity) (own : n ≡ (fall_share terms.curve v).numerator) where
+    -- what is taken from the free-flow term is at most that term
     pub fall-within : terms.fall_term * n ≤ terms.free_flow_term
     fall-within =
         rw (own, terms.own_free_flow_term)
         (mul-le-mul (omega (arith, terms.own_fall_term)) (rw denominator-eq (share-le terms.curve v terms.well_formed h)))
 
+    -- the speed worked from the terms
     pub terms-exact : ExactSpeed terms.curve v (over (terms.free_flow_term - terms.fall_term * n) (9 * terms.share_denominator))
     unfolding reduced_speed reduced_numerator
     terms-exact =
         rw (own, terms.own_free_flow_term, terms.own_fall_term, denominator-eq)
         (reduced_speed-exact terms.curve v terms.well_formed terms.sized h)
 
+-- terms_fit, performance_laws, limit_laws: for tactics: what src wants of a speed, of what is shown and of a
+-- limit
 pub ruleset terms_fit = (flow-within, flow-beyond, fall-within)
 
 pub ruleset performance_laws = (flow-within, flow-beyond, performance-exact, performance-beyond, div_ceil-eq)

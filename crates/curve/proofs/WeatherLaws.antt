@@ -1,11 +1,4 @@
 -- The curve under weather (specs/Weather).
---   adjusted_speed-le       the factor raises no speed
---   adjusted_speed-clear, curve_under-clear   in clear weather F is kept, and the curve is the one at that F
---   multilane-clear         factors that fit kind M are those of clear weather
---   curve_under-fits        with factors and speeds between their ends it is well formed and within the sizes
---   curve_under-worked      it as src works it out
---   curve_laws              for tactics: what src wants of it
--- Assumes nothing.
 use Rattle.std.proofs.Common.{◌≡◌, refl, ap, sym, subst, ◌∙◌, ℕ, ◌+◌, ◌*◌, ◌-◌, ◌/◌, ◌≤◌, arith, mul-le-mul_left, mul-le-mul_right}
 use Rattle.std.proofs.Common.{le_trans}
 use Rattle.curve.specs.declared.kind.Kind.{Kind}
@@ -16,11 +9,13 @@ use Rattle.curve.specs.Weather.{factors, clear, FactorsFit, adjusted_speed, adju
 use Rattle.curve.proofs.KindLaws.{kind-ends}
 use Rattle.curve.proofs.CurveLaws.{capacity-le, breakpoint-le, curve_at-well_formed, curve_at-sized}
 
+-- the factor raises no speed
 pub adjusted_speed-le : (weather : Weather) (f : ℕ) → weather.speed_factor ≤ 1000 → adjusted_speed weather f ≤ f
 unfolding adjusted_speed
 adjusted_speed-le weather f h = omega (arith, mul-le-mul_left f h)
 
 -- ---- clear weather
+-- adjusted_speed-clear, curve_under-clear: in clear weather F is kept, and the curve is the one at that F
 pub adjusted_speed-clear : (f : ℕ) → adjusted_speed clear f ≡ f
 unfolding adjusted_speed
 adjusted_speed-clear f = omega arith
@@ -38,6 +33,7 @@ unfolding curve_under curve_at
 curve_under-clear kind f = simp (adjusted_speed-clear f, adjusted_capacity-clear, adjusted_breakpoint-clear)
 
 -- ---- kind M
+-- factors that fit kind M are those of clear weather
 pub multilane-clear : (weather : Weather) → FactorsFit Kind.Multilane weather → weather ≡ clear
 multilane-clear weather fit =
     let s : weather.speed_factor ≡ 1000 = omega (arith, fit.speed-low, fit.speed-high) in
@@ -110,6 +106,7 @@ curve_under-fits Kind.Multilane weather f fit slow fast =
     (curve_at-well_formed Kind.Multilane f same.1 fast, curve_at-sized Kind.Multilane f same.1 fast)
 
 -- ---- what src works out
+-- it as src works it out
 pub curve_under-worked : (weather : Weather) (kind : Kind) (f : ℕ)
     → curve_under weather kind f
     ≡ (let g = adjusted_speed weather f in
@@ -123,4 +120,5 @@ pub curve_under-worked : (weather : Weather) (kind : Kind) (f : ℕ)
 unfolding curve_under adjusted_capacity adjusted_breakpoint
 curve_under-worked weather kind f = refl
 
+-- for tactics: what src wants of it
 pub ruleset curve_laws = (kind-ends, adjusted_speed-le, capacity-le, breakpoint-le, curve_under-worked)

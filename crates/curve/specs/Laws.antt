@@ -1,20 +1,33 @@
 -- The laws of the curve, stated over the definitions that the contracts cite; proofs/Laws proves each.
---   CapacityWithinEnds, CapacityReachesEnds, ClearWeatherChangesNothing, CurveUnderIsWellFormed, SpeedIsAboveZero,
---   SpeedNeverBelowCapacitySpeed, SpeedNeverRisesWithFlow, DensityNeverFallsWithFlow, SpeedNeverFallsWithFreeFlowSpeed,
---   DensityMeetsLimitByExactSpeed, DensityAtMost450, LetterNeverBetterWithFlow, LetterNeverBetter
 -- Under weather the laws in v hold, on one curve. Those in F are for clear weather: with a capacity factor of 501 to 506 the speed may fall
 -- as F rises, by the rounding of b.
--- Assumes nothing.
-use Rattle.std.specs.Prelude.{◌≡◌, ◌↔◌, ℕ, ◌*◌, ◌≤◌, ◌<◌}
+use Rattle.std.specs.Prelude.{◌≡◌, ◌↔◌, ℕ, ◌*◌, ◌^◌, ◌≤◌, ◌<◌}
 use Rattle.numbers.specs.Fraction.{over, whole, times, AtMost}
 use Rattle.curve.specs.declared.kind.Kind.{Kind}
+use Rattle.curve.specs.declared.power_table.TheConstants.{POWERS}
 use Rattle.curve.specs.declared.Curve.{Curve}
 use Rattle.curve.specs.declared.Weather.{Weather}
 use Rattle.curve.specs.Kinds.{lowest_speed, highest_speed, lowest_adjusted_speed, lowest_capacity, highest_capacity}
 use Rattle.curve.specs.Curves.{capacity, curve_at, WellFormed, Sized}
+use Rattle.curve.specs.Power.{power, PowerTable}
 use Rattle.curve.specs.Weather.{clear, FactorsFit, adjusted_speed, curve_under}
 use Rattle.curve.specs.Speed.{speed}
 use Rattle.curve.specs.Service.{density, shown_density, letter_at, letter_number}
+
+-- ---- powers
+-- T(i) reaches the power 1.31 of i, and no smaller number does, for i from 0 to 1,000.
+abbrev pub PowerIsLeast : Type 0
+PowerIsLeast =
+    (i : ℕ) → i ≤ 1000
+    → (i ^ 131 * 10 ^ 207 ≤ power i ^ 100) × ((t : ℕ) → i ^ 131 * 10 ^ 207 ≤ t ^ 100 → power i ≤ t)
+
+-- T never falls, and is at most 1,000,000 millionths.
+abbrev pub PowerNeverFalls : Type 0
+PowerNeverFalls = (i j : ℕ) → i ≤ j → j ≤ 1000 → (power i ≤ power j) × (power j ≤ 1000000)
+
+-- "The table of 1,001 powers is constant": the code's constant is that table.
+abbrev pub TableHoldsPowers : Type 0
+TableHoldsPowers = PowerTable POWERS
 
 -- ---- capacity
 -- Capacity lies between the kind's ends, for every F between its ends.

@@ -1,33 +1,32 @@
-// The two kinds of road and what each carries.
-//   Figures               the ends of F, of the weather's factors, of the lane count and of capacity
-//   Freeway, Multilane    the two kinds, each with its figures as an associated constant
-//   Kind                  one of the two; figures: what it carries
+//! The two kinds of road and what each carries.
+
 ghost use Rattle.std.specs.Prelude.{◌≡◌};
 ghost use Rattle.curve.specs.Kinds.{lowest_speed, highest_speed, lowest_adjusted_speed, lowest_factor, fewest_lanes, most_lanes};
 ghost use Rattle.curve.specs.Kinds.{lowest_capacity, highest_capacity};
 
+/// The ends of F, of the weather's factors, of the lane count and of capacity.
 #[derive(Clone, Copy)]
 pub struct Figures {
-    // the ends of F, thousandths of mi/h
+    /// the ends of F, thousandths of mi/h
     pub lowest_speed: u64,
     pub highest_speed: u64,
-    // the lower end of F after the speed factor
+    /// the lower end of F after the speed factor
     pub lowest_adjusted_speed: u64,
-    // the lower end of the weather's factors, thousandths
+    /// the lower end of the weather's factors, thousandths
     pub lowest_factor: u64,
-    // the ends of the lane count
+    /// the ends of the lane count
     pub fewest_lanes: u64,
     pub most_lanes: u64,
-    // capacity in clear weather at the ends of F, hundredths of passenger cars per hour per lane
+    /// capacity in clear weather at the ends of F, hundredths of passenger cars per hour per lane
     pub lowest_capacity: u64,
     pub highest_capacity: u64,
 }
 
-// Kind F: a basic freeway segment.
+/// Kind F: a basic freeway segment.
 #[derive(Clone, Copy)]
 pub struct Freeway;
 
-// Kind M: a multilane highway.
+/// Kind M: a multilane highway.
 #[derive(Clone, Copy)]
 pub struct Multilane;
 
@@ -57,6 +56,7 @@ impl Multilane {
     };
 }
 
+/// One of the two; figures: what it carries.
 #[derive(Clone, Copy, PartialEq, Eq)]
 pub enum Kind {
     Freeway,

@@ -1,12 +1,10 @@
-// Curve: the two kinds of road, and the speed-flow curve of a kind at a free-flow speed, under weather.
-//   kind         Kind, and what each kind carries: Freeway, Multilane
-//   Curve        free-flow speed, capacity and breakpoint; Curve::under: of a kind at a free-flow speed under weather
-//   Weather      the factors on them
-//   speed        the terms of a curve, and speed as an exact fraction
-//   service      speed and density as they are shown, and the letter
+//! Curve: the two kinds of road, and the speed-flow curve of a kind at a free-flow speed, under weather.
+
 #![tactic(auto)]
 
 pub mod kind;
+mod power;
+mod power_table;
 pub mod service;
 pub mod speed;
 
@@ -17,23 +15,24 @@ ghost use Rattle.curve.specs.Weather.{FactorsFit, adjusted_speed, curve_under};
 
 use crate::kind::Kind;
 
+/// Free-flow speed, capacity and breakpoint; Curve::under: of a kind at a free-flow speed under weather.
 #[derive(Clone, Copy, PartialEq, Eq)]
 pub struct Curve {
     pub kind: Kind,
-    // thousandths of mi/h
+    /// thousandths of mi/h
     pub free_flow_speed: u64,
-    // hundredths of passenger cars per hour per lane
+    /// hundredths of passenger cars per hour per lane
     pub capacity: u64,
-    // the same
+    /// the same
     pub breakpoint: u64,
 }
 
-// Snow or rain. Any number may stand in a field; refusal 19 says which are fit.
+/// Snow or rain. Any number may stand in a field; refusal 19 says which are fit.
 #[derive(Clone, Copy, PartialEq, Eq)]
 pub struct Weather {
-    // thousandths, on the free-flow speed
+    /// thousandths, on the free-flow speed
     pub speed_factor: u64,
-    // thousandths, on capacity, and squared on the breakpoint
+    /// thousandths, on capacity, and squared on the breakpoint
     pub capacity_factor: u64,
 }
 
@@ -75,7 +74,7 @@ impl Weather {
 }
 
 impl Curve {
-    // From a free-flow speed before its factor. Capacity and breakpoint are worked from the one after it.
+    /// From a free-flow speed before its factor. Capacity and breakpoint are worked from the one after it.
     #[tactic(auto, using(crate::proofs::WeatherLaws::curve_laws))]
     pub fn under(weather: Weather, kind: Kind, speed: u64) -> Curve
         requires speed_high { speed ≤ highest_speed kind }

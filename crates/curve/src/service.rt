@@ -1,14 +1,11 @@
-// What a flow rate gets on a curve.
-//   Letter          A to F; number: A is 1, F is 6
-//   Performance     speed and density as they are shown, and the letter
-//   performance_at  the three at a flow rate
-//   meets_limit     whether a flow rate keeps to capacity and to a density
-//   density_limit   the greatest density of a letter
+//! What a flow rate gets on a curve.
+
 ghost use Rattle.std.specs.Prelude.{◌≡◌, ◌≤◌};
 ghost use Rattle.curve.specs.Service.{letter_number, density_letter, performance, meets_limit, density_limit};
 
 use crate::speed::CurveTerms;
 
+/// A to F; number: A is 1, F is 6.
 #[derive(Clone, Copy, PartialEq, Eq)]
 pub enum Letter {
     A = 1,
@@ -19,11 +16,12 @@ pub enum Letter {
     F = 6,
 }
 
+/// Speed and density as they are shown, and the letter.
 #[derive(Clone, Copy, PartialEq, Eq)]
 pub struct Performance {
-    // thousandths of mi/h, 0 above capacity
+    /// thousandths of mi/h, 0 above capacity
     pub speed: u64,
-    // tenths of a passenger car per mile per lane, 0 above capacity
+    /// tenths of a passenger car per mile per lane, 0 above capacity
     pub density: u64,
     pub letter: Letter,
 }
@@ -51,7 +49,7 @@ impl Letter {
 }
 
 impl CurveTerms {
-    // At any flow rate v.
+    /// At any flow rate v.
     #[tactic(auto, using(crate::proofs::TermsLaws::performance_laws))]
     pub fn performance_at(&self, v: u64) -> Performance
         ensures { result ≡ performance self.now.curve v }
@@ -72,7 +70,7 @@ impl CurveTerms {
         }
     }
 
-    // The same question as a letter's, with no division on kind F.
+    /// The same question as a letter's, with no division on kind F.
     #[tactic(auto, using(crate::proofs::TermsLaws::limit_laws))]
     pub fn meets_limit(&self, v: u64, limit: u64) -> bool
         requires { limit ≤ 450 }
@@ -86,7 +84,7 @@ impl CurveTerms {
     }
 }
 
-// A to D by their numbers 1 to 4; any other number has E's.
+/// A to D by their numbers 1 to 4; any other number has E's.
 #[tactic(auto, unfolding(crate::specs::Service::density_limit))]
 pub fn density_limit(letter: u64) -> u64
     ensures { result ≡ density_limit letter }

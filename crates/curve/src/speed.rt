@@ -1,6 +1,5 @@
-// Speed on a curve, as an exact fraction of thousandths of mi/h.
-//   CurveTerms    a curve with what its speeds have in common, worked out once; CurveTerms::new: of a well-formed curve
-//   exact_speed   S at a flow rate up to capacity, in the form that 64 bits hold
+//! Speed on a curve, as an exact fraction of thousandths of mi/h.
+
 ghost use Rattle.std.specs.Prelude.{◌≡◌, ◌*◌, ◌-◌, ◌/◌, ◌≤◌};
 ghost use Rattle.curve.specs.Curves.{WellFormed, Sized};
 ghost use Rattle.curve.specs.Speed.{beyond_breakpoint, span_to_capacity, fall_share, ExactSpeed};
@@ -8,20 +7,22 @@ ghost use Rattle.curve.specs.Terms.{share_denominator_of};
 
 use crate::Curve;
 use crate::kind::Kind;
+use crate::power;
 use numbers::Fraction;
 
+/// A curve with what its speeds have in common, worked out once; CurveTerms::new: of a well-formed curve.
 #[derive(Clone, Copy)]
 pub struct CurveTerms {
     pub curve: Curve,
-    // the greatest flow rate up to capacity
+    /// the greatest flow rate up to capacity
     pub most_flow: u64,
-    // c - b
+    /// c - b
     pub span: u64,
-    // the denominator of w
+    /// the denominator of w
     pub share_denominator: u64,
-    // 9F times that
+    /// 9F times that
     pub free_flow_term: u64,
-    // 9F - 2c
+    /// 9F - 2c
     pub fall_term: u64,
     pub ghost well_formed: { WellFormed curve },
     pub ghost sized: { Sized curve },
@@ -72,7 +73,7 @@ impl CurveTerms {
         }
     }
 
-    // The numerator of w, its denominator being in the terms.
+    /// The numerator of w, its denominator being in the terms.
     #[tactic(auto, using(numbers::proofs::DivisionLaws::divisions), unfolding(crate::specs::Speed::fall_share_by))]
     fn share_numerator(&self, v: u64) -> u64
         requires { 100 * v ≤ self.now.curve.capacity }
@@ -81,11 +82,11 @@ impl CurveTerms {
         let beyond = self.curve.beyond_breakpoint(v);
         match self.curve.kind {
             Kind::Freeway => beyond * beyond,
-            Kind::Multilane => powers::power((1_000 * beyond).div_ceil(self.span)),
+            Kind::Multilane => power::power((1_000 * beyond).div_ceil(self.span)),
         }
     }
 
-    // F - (F - 2c/9) x w, over 9 times the denominator of w.
+    /// F - (F - 2c/9) x w, over 9 times the denominator of w.
     #[tactic(auto, using(crate::proofs::TermsLaws::terms_fit))]
     pub(crate) fn exact_speed(&self, v: u64) -> Fraction
         requires { 100 * v ≤ self.now.curve.capacity }

@@ -1,20 +1,19 @@
 -- Instances that are worked out with no law (specs/Instances), shown.
---   hourly-shown     hourly demands
---   refusals-shown   the order of the refusals
--- Assumes nothing.
 use Rattle.std.proofs.Common.{refl}
 use Rattle.numbers.specs.Division.{div_up}
-use Rattle.checks.specs.Figures.{Shown}
-use Rattle.checks.specs.Numbers.{in_order, refusal_of}
+use Rattle.refusals.specs.Figures.{Shown}
+use Rattle.refusals.specs.Numbers.{in_order, refusal_of}
 use Rattle.road.specs.Refusals.{weather_unfit, road_refusals, load_refusals, field_refusals}
 use Rattle.method.specs.Refusals.{refusals}
 use Rattle.daily.specs.Daily.{shares_unfit, traffic_refusals, hourly_demand}
 use Rattle.daily.specs.Instances.{hourly_instances, refusal_instances}
 
+-- hourly demands
 pub hourly-shown : Shown hourly_instances
 unfolding div_up hourly_demand hourly_instances
 hourly-shown = (refl, (refl, (refl, tt)))
 
+-- the order of the refusals
 pub refusals-shown : Shown refusal_instances
 unfolding in_order refusal_of div_up weather_unfit road_refusals load_refusals field_refusals refusals shares_unfit traffic_refusals hourly_demand refusal_instances
 refusals-shown = (refl, (refl, (refl, (refl, (refl, (refl, (refl, (refl, (refl, (refl, (refl, (refl, tt))))))))))))

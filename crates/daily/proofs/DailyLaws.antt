@@ -1,31 +1,14 @@
 -- The answer by its refusals (specs/Daily), and the daily service volumes by those in the engine's answer.
---   in-order           the refusals as one list
---   number-le          no refusal has a number above 21
---   number-fits        where 20 and 21 do not refuse: the engine's refusal decides
---   accepted-parts, accepted-of   what is accepted: neither 20 nor 21 nor the engine refuses it
---   answer-accepted    what is accepted gets the engine's grade and the daily service volumes
---   letter-accepted    its letter is that of the engine's answer
---   meets-hour         where 20 and 21 do not refuse: a daily traffic meets a letter exactly when its hourly demand does
---   refused-values     a refusal has no value
---   by-letter          what holds of 1 to 5 by number
---   volumes-fit        no service volume is above the greatest demand
---   meets-iff          a demand of any size meets a letter exactly when it is at most the service volume in the engine's answer
---   daily_volume-eq    a daily service volume is the greatest daily traffic within the service volume in the engine's answer
---   volumes-eq         the five of them
---   graded-fits        the service volumes of a grade that the engine answers
---   answer-stopped, answer-graded   what is answered where 20 or 21 refuses, and where the engine has a grade
---   by_engine          what a grade of the engine's asks and gives, for tactics
--- Assumes nothing.
 use Rattle.std.proofs.Common.{◌≡◌, refl, sym, ap, ◌∙◌, ◌↔◌, ℕ, zero, suc, ◌≤◌, ◌<◌, [], ◌++◌, T, leb, Result, Ok, Err, arith, rules, le_trans, lit≤}
 use Rattle.std.proofs.Common.{⊎_elim, eq-zero-or-pos}
 use native.Mathlib.Decide.{dec_le}
 use Rattle.numbers.proofs.BoolLaws.{leb-test}
 use Rattle.numbers.proofs.SearchLaws.{greatest-le, greatest-cong}
-use Rattle.checks.specs.declared.Refusal.{Refusal}
-use Rattle.checks.specs.Refusals.{first_refusal}
-use Rattle.checks.specs.Numbers.{number, refusal_number, refusal_of}
-use Rattle.checks.proofs.RefusalLaws.{numbered, first_refusal-none, first_refusal-join, unless_refused-none, unless_refused-some}
-use Rattle.checks.proofs.NumberLaws.{number-above, number-refusal_of, refusal_of-number, ok_unless-found, first_refusal-err}
+use Rattle.refusals.specs.declared.Refusal.{Refusal}
+use Rattle.refusals.specs.Refusals.{first_refusal}
+use Rattle.refusals.specs.Numbers.{number, refusal_number, refusal_of}
+use Rattle.refusals.proofs.RefusalLaws.{numbered, first_refusal-none, first_refusal-join, unless_refused-none, unless_refused-some}
+use Rattle.refusals.proofs.NumberLaws.{number-above, number-refusal_of, refusal_of-number, ok_unless-found, first_refusal-err}
 use Rattle.road.specs.declared.Case.{Case}
 use Rattle.road.specs.Cases.{with_demand}
 use Rattle.road.specs.Refusals.{greatest_demand}
@@ -78,6 +61,7 @@ module _ (case : Case) (shares : Shares) (daily : ℕ) where
   unfolding traffic_refusals
   asked-le = search rules
 
+  -- where 20 and 21 do not refuse: the engine's refusal decides
   pub number-fits : TrafficFits shares daily → refused ≡ refusal hourly
   number-fits fits = first_refusal-none (traffic_refusals shares daily) (refusals hourly) traffic-numbered fits
 
@@ -88,6 +72,7 @@ module _ (case : Case) (shares : Shares) (daily : ℕ) where
   stopped : 0 < asked → daily_answer case shares daily ≡ Err (refusal_of asked)
   stopped p = unless_refused-some asked answered (λ n. Err (refusal_of n)) p
 
+  -- the refusals as one list
   pub in-order : refusal_number (daily_answer case shares daily) ≡ refused
   in-order =
       ⊎_elim
@@ -98,35 +83,42 @@ module _ (case : Case) (shares : Shares) (daily : ℕ) where
       ap refusal_number (stopped p) ∙ first_refusal-err (traffic_refusals shares daily) (refusals hourly) (refusal_of asked) own)
       (eq-zero-or-pos asked)
 
+  -- no refusal has a number above 21
   pub number-le : refusal_number (daily_answer case shares daily) ≤ 21
   number-le = omega (arith, in-order, refused-le)
 
+  -- accepted-parts, accepted-of: what is accepted: neither 20 nor 21 nor the engine refuses it
   pub accepted-parts : AcceptedTraffic case shares daily → TrafficFits shares daily × Accepted hourly
   accepted-parts z = first_refusal-join (traffic_refusals shares daily) (refusals hourly) traffic-numbered (sym in-order ∙ z)
 
   pub accepted-of : TrafficFits shares daily → Accepted hourly → AcceptedTraffic case shares daily
   accepted-of fits a = in-order ∙ number-fits fits ∙ a
 
+  -- what is accepted gets the engine's grade and the daily service volumes
   pub answer-accepted : AcceptedTraffic case shares daily
       → daily_answer case shares daily ≡ Ok (record { grade = graded hourly; volumes = daily_volumes case shares })
   answer-accepted z =
       let parts = accepted-parts z in
       fitting parts.0 ∙ ap (λ a. with_volumes a (daily_volumes case shares)) (answer_to-accepted hourly parts.1)
 
+  -- its letter is that of the engine's answer
   pub letter-accepted : AcceptedTraffic case shares daily → letter_in (daily_answer case shares daily) ≡ engine.letter_in (answer_to hourly)
   letter-accepted z = rw (answer-accepted z, answer_to-accepted hourly (accepted-parts z).1) refl
 
+  -- where 20 and 21 do not refuse: a daily traffic meets a letter exactly when its hourly demand does
   pub meets-hour : TrafficFits shares daily → (n : ℕ) → MeetsByDay case shares daily n ↔ Meets hourly n
   meets-hour fits n = (
     λ m. (answer_to-number hourly ∙ (accepted-parts m.0).1, rw (letter-accepted m.0) at m.1),
     λ m. let z = accepted-of fits (sym (answer_to-number hourly) ∙ m.0) in (z, rw (letter-accepted z) m.1),
   )
 
+-- a refusal has no value
 pub refused-values : (a : Result DailyGrade Refusal) → 0 < refusal_number a → values a ≡ []
 refused-values (Ok daily) p = absurd (omega arith)
 refused-values (Err r) p = refl
 
 -- ---- letters and volumes by number
+-- what holds of 1 to 5 by number
 pub by-letter : (P : ℕ → Type 0) → P 1 → P 2 → P 3 → P 4 → P 5 → (n : ℕ) → 1 ≤ n → n ≤ 5 → P n
 by-letter P a b c d e zero h k = absurd (omega arith)
 by-letter P a b c d e (suc zero) h k = a
@@ -136,6 +128,7 @@ by-letter P a b c d e (suc (suc (suc (suc zero)))) h k = d
 by-letter P a b c d e (suc (suc (suc (suc (suc zero))))) h k = e
 by-letter P a b c d e (suc (suc (suc (suc (suc (suc n)))))) h k = absurd (omega arith)
 
+-- no service volume is above the greatest demand
 pub volumes-fit : (c : Case) → VolumesFit (service_volumes c)
 unfolding service_volume
 volumes-fit c =
@@ -152,6 +145,7 @@ module _ (c : Case) (a : Accepted c) where
       rw (answer_to-accepted c a)
       (by-letter (λ i. volume_in (Ok (graded c)) i ≤ greatest_demand) fit.fits-a fit.fits-b fit.fits-c fit.fits-d fit.fits-e n h k)
 
+  -- a demand of any size meets a letter exactly when it is at most the service volume in the engine's answer
   pub meets-iff : (n : ℕ) → 1 ≤ n → n ≤ 5 → (demand : ℕ) → Meets (with_demand c demand) n ↔ (demand ≤ volume_in (answer_to c) n)
   meets-iff n h k demand = go (dec_le demand greatest_demand)
     where
@@ -167,6 +161,7 @@ module _ (c : Case) (a : Accepted c) where
 
 -- ---- daily service volumes
 module _ (case : Case) (shares : Shares) (asked : ℕ) (a : Accepted (hourly_case case shares asked)) where
+  -- a daily service volume is the greatest daily traffic within the service volume in the engine's answer
   pub daily_volume-eq : (n : ℕ) → 1 ≤ n → n ≤ 5
       → daily_volume case shares n ≡ traffic_within shares (volume_in (answer_to (hourly_case case shares asked)) n)
   unfolding daily_volume traffic_within
@@ -179,6 +174,7 @@ module _ (case : Case) (shares : Shares) (asked : ℕ) (a : Accepted (hourly_cas
       sym (leb-test (hourly_demand shares daily) volume (meets (hourly_case case shares daily) n)
       (λ l. met.0 (within.1 l), λ t. within.0 (met.1 t))))
 
+  -- the five of them
   pub volumes-eq : volumes_within shares (service_volumes (hourly_case case shares asked)) ≡ daily_volumes case shares
   unfolding graded
   volumes-eq =
@@ -194,11 +190,13 @@ module _ (case : Case) (shares : Shares) (asked : ℕ) (a : Accepted (hourly_cas
       ) refl
 
 -- ---- what is answered
+-- the service volumes of a grade that the engine answers
 pub graded-fits : (c : Case) (grade : Grade) → Ok grade ≡ answer_to c → VolumesFit grade.volumes
 unfolding graded
 graded-fits c grade e = rw (ok_unless-found (refusal c) (graded c) grade (sym e)).1 (volumes-fit c)
 
 module _ (case : Case) (shares : Shares) (daily : ℕ) where
+  -- answer-stopped, answer-graded: what is answered where 20 or 21 refuses, and where the engine has a grade
   pub answer-stopped : (r : Refusal) → number r ≡ first_refusal (traffic_refusals shares daily) → Err r ≡ daily_answer case shares daily
   answer-stopped r e =
       sym (stopped case shares daily (omega (arith, e, number-above r)) ∙ ap (λ n. Err (refusal_of n)) (sym e) ∙ ap Err (refusal_of-number r))
@@ -213,4 +211,5 @@ module _ (case : Case) (shares : Shares) (daily : ℕ) where
         sym (fitting case shares daily fits ∙ ap (λ a. with_volumes a (daily_volumes case shares)) (sym e)
         ∙ ap (λ vs. Ok (record { grade = grade; volumes = vs })) (sym volumes))
 
+-- what a grade of the engine's asks and gives, for tactics
 pub ruleset by_engine = (fits-ends, graded-fits, answer-graded)

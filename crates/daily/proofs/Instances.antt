@@ -1,15 +1,11 @@
 -- Instances of the promises (specs/Instances), shown by the promises.
---   printed-accepted, printed-figures   the printed road with 40,404 a day
---   no-traffic-meets-a  the printed road with no traffic
---   instances-shown    each is what is to be shown
--- Assumes nothing.
 use Rattle.std.proofs.Common.{◌≡◌, refl, ap, ◌↔◌, Bool, not, ◌&&◌, List, [], ◌∷◌, ◌++◌, map, ℕ, suc, ◌≤◌, ◌<◌, zero-le, arith, rules, lt_of_not-le, T, T_not, leb, eqb, leb→le, lit≤, lit<, drop, Result}
 use Rattle.numbers.specs.Division.{div_up}
 use Rattle.numbers.specs.Search.{ends_at}
 use Rattle.numbers.proofs.BoolLaws.{and-left, and-right}
-use Rattle.checks.specs.declared.Refusal.{Refusal}
-use Rattle.checks.specs.Numbers.{in_order, refusal_of, refusal_number}
-use Rattle.checks.specs.Figures.{Shown}
+use Rattle.refusals.specs.declared.Refusal.{Refusal}
+use Rattle.refusals.specs.Numbers.{in_order, refusal_of, refusal_number}
+use Rattle.refusals.specs.Figures.{Shown}
 use Rattle.curve.specs.Curves.{capacity, breakpoint}
 use Rattle.curve.specs.Weather.{adjusted_speed, adjusted_capacity, adjusted_breakpoint, curve_under}
 use Rattle.curve.specs.Speed.{fall_share_by, speed, shown_speed}
@@ -64,6 +60,7 @@ accepted = (
   accepted-of (example_in_snow 0) urban 40404 refl snow-accepted.1,
 )
 
+-- printed-accepted, printed-figures: the printed road with 40,404 a day
 pub printed-accepted : AcceptedTraffic example urban 40404
 printed-accepted = accepted.0
 
@@ -93,6 +90,7 @@ letters =
           (rw rural-figures (lit≤ tt)) (rw rural-figures (lit< tt))),
     )
 
+-- the printed road with no traffic
 pub no-traffic-meets-a : NoTrafficMeetsA
 no-traffic-meets-a = (meets-up-to-the-daily-volume example urban 40404 printed-accepted 1 (omega arith) (omega arith) 0).1 zero-le
 
@@ -153,6 +151,7 @@ worked-out = (
   five (shares_of 1000 1000) refl 6600 10624 14208 17040 19200 tt tt tt tt tt,
 )
 
+-- each is what is to be shown
 pub instances-shown : Shown daily_instances
 unfolding daily_instances
 instances-shown =

@@ -1,8 +1,5 @@
 -- The promises of specs/Promises, proved. MeetsUpToTheServiceVolume and NoBetterUnderMoreLoad, demand 3's parts 2 and 1, carry the two
 -- about letters.
---   meets-up-to-the-daily-volume, no-better-with-more-traffic, figures-of-the-hour, rounded-up-once,
---   own-demand-is-not-read, refused-in-order, refused-exactly
--- Assumes nothing.
 use Rattle.std.proofs.Common.{◌≡◌, refl, sym, ap, ◌∙◌, ◌↔◌, inr, ◌++◌, map, ℕ, ◌+◌, ◌≤◌, arith, rules, le_refl, drop, get_or, Ok}
 use Rattle.road.specs.declared.Case.{Case}
 use Rattle.method.proofs.RefusalLaws.{refusal-le}

@@ -1,21 +1,8 @@
 -- Instances of the promises, with every hypothesis met; proofs/Computed and proofs/Instances show them.
---   urban, rural     K and D of source document 001 for urban and for rural roads
---   eight_lanes      F G 75000 120 60 60 D 0 8 V 1000 0 L
---   narrow           F G 75000 99 60 60 D 0 2 V 1000 0 L, which 2 refuses
---   peaked           F G 75000 120 60 60 D 0 2 1000000 1 0 L, which 8 refuses; its own demand, which 7 would refuse, is not read
---   told a           the number of an answer's refusal, 0 for none, and its values
---   letters_at case shares dailies   the letters of a case with some daily traffics
---   volumes_in a      its daily service volumes A to E
---   hour_figures      the eleven figures of the printed road with an hourly demand of 2,000
---   printed_figures, rural_figures   with them its daily service volumes on an urban and on a rural road
---   snow_figures     all sixteen on an urban road in snow
---   NoTrafficMeetsA  the printed road meets A with no traffic
---   hourly_instances, refusal_instances, daily_instances   what is worked out, and what is to be shown
--- Assumes nothing.
 use Rattle.std.specs.Prelude.{List, [], ◌∷◌, ◌++◌, map, ℕ, suc, Result}
-use Rattle.checks.specs.declared.Refusal.{Refusal}
-use Rattle.checks.specs.Numbers.{refusal_number}
-use Rattle.checks.specs.Figures.{Figure, figure}
+use Rattle.refusals.specs.declared.Refusal.{Refusal}
+use Rattle.refusals.specs.Numbers.{refusal_number}
+use Rattle.refusals.specs.Figures.{Figure, figure}
 use Rattle.curve.specs.declared.kind.Kind.TheVariants as Kind
 use Rattle.curve.specs.Weather.{clear}
 use Rattle.road.specs.declared.Terrain.TheVariants as Terrain
@@ -30,46 +17,58 @@ use Rattle.daily.specs.declared.DailyGrade.{DailyGrade}
 use Rattle.daily.specs.Daily.{shares_of, hourly_demand, daily_answer, values}
 use Rattle.daily.specs.Promises.{letter_in, daily_volume_in, MeetsByDay}
 
+-- urban, rural: K and D of source document 001 for urban and for rural roads
 abbrev pub urban : Shares
 urban = shares_of 90 550
 
 abbrev pub rural : Shares
 rural = shares_of 110 550
 
+-- F G 75000 120 60 60 D 0 8 V 1000 0 L
 abbrev pub eight_lanes : Case
 eight_lanes = with_lanes (two_lanes (given Kind.Freeway 75000 120) 0) 8
 
+-- F G 75000 99 60 60 D 0 2 V 1000 0 L, which 2 refuses
 abbrev pub narrow : Case
 narrow = two_lanes (given Kind.Freeway 75000 99) 0
 
+-- F G 75000 120 60 60 D 0 2 1000000 1 0 L, which 8 refuses; its own demand, which 7 would refuse, is not read
 abbrev pub peaked : Case
 peaked = loaded (given Kind.Freeway 75000 120) 2 1000000 1 0 Terrain.Level clear
 
+-- the number of an answer's refusal, 0 for none, and its values
 abbrev pub told : Result DailyGrade Refusal → List ℕ
 told a = refusal_number a ∷ values a
 
+-- the letters of a case with some daily traffics
 abbrev pub letters_at : Case → Shares → List ℕ → List ℕ
 letters_at case shares dailies = map (λ daily. letter_in (daily_answer case shares daily)) dailies
 
+-- its daily service volumes A to E
 abbrev pub volumes_in : Result DailyGrade Refusal → List ℕ
 volumes_in a = map (daily_volume_in a) (1 ∷ 2 ∷ 3 ∷ 4 ∷ 5 ∷ [])
 
+-- the eleven figures of the printed road with an hourly demand of 2,000
 abbrev pub hour_figures : List ℕ
 hour_figures = 3 ∷ 60782 ∷ 230782 ∷ 1196 ∷ 60782 ∷ 197 ∷ 1117 ∷ 1829 ∷ 2642 ∷ 3360 ∷ 3858 ∷ []
 
+-- printed_figures, rural_figures: with them its daily service volumes on an urban and on a rural road
 abbrev pub printed_figures : List ℕ
 printed_figures = hour_figures ++ (22565 ∷ 36949 ∷ 53373 ∷ 67878 ∷ 77939 ∷ [])
 
 abbrev pub rural_figures : List ℕ
 rural_figures = hour_figures ++ (18462 ∷ 30231 ∷ 43669 ∷ 55537 ∷ 63768 ∷ [])
 
+-- all sixteen on an urban road in snow
 abbrev pub snow_figures : List ℕ
 snow_figures =
     3 ∷ 52272 ∷ 173372 ∷ 1196 ∷ 52222 ∷ 230 ∷ 960 ∷ 1572 ∷ 2221 ∷ 2636 ∷ 2898 ∷ 19393 ∷ 31757 ∷ 44868 ∷ 53252 ∷ 58545 ∷ []
 
+-- the printed road meets A with no traffic
 abbrev pub NoTrafficMeetsA : Type 0
 NoTrafficMeetsA = MeetsByDay example urban 0 1
 
+-- hourly_instances, refusal_instances, daily_instances: what is worked out, and what is to be shown
 -- Rounded up once: 12 × 0.0495 = 0.594, 20 × 0.0495 = 0.99, 21 × 0.0495 = 1.0395; exactly 1 at 1,000,000 with K = D = 1.
 unfoldable pub hourly_instances : List Figure
 hourly_instances =

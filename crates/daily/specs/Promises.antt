@@ -1,21 +1,9 @@
 -- What a reader of an answer is promised (document 02, T-06), over the definitions that the contract of `evaluate_daily` cites;
 -- proofs/Promises proves each.
---   AcceptedTraffic case shares daily   neither 20 nor 21 nor the engine refuses the case with the daily traffic
---   letter_in a, daily_volume_in a n  the letter's number, and the daily service volume of letter number n from 1 to 5, in an answer
---   MeetsByDay case shares daily n    the answer has letter number n or a better one; what is refused meets nothing
---   MeetsUpToTheDailyVolume       a daily traffic meets a letter exactly when it is at most the daily service volume in the answer
---   NoBetterWithMoreTraffic       more daily traffic, or a larger share, never gets a better letter
---   by_the_day shares volume      a service volume by the day, by division
---   FiguresOfTheHour              the sixteen figures, by the eleven of the engine's answer for the hourly demand
---   RoundedUpOnce                 the hourly demand is at most a number exactly when daily traffic × K × D is at most as many millions
---   OwnDemandIsNotRead            whatever demand the case carries, the answer is the same
---   RefusedInOrder                the refusals as one list: 20, 21, and those of the case with the hourly demand
---   RefusedExactly                20 exactly by a share out of range, 21 exactly by the traffic, else what the engine says
--- Assumes nothing.
 use Rattle.std.specs.Prelude.{◌≡◌, ◌↔◌, ◌++◌, map, ℕ, ◌+◌, ◌*◌, ◌/◌, ◌≤◌, ◌<◌, min, length, drop, get_or, Result}
-use Rattle.checks.specs.declared.Refusal.{Refusal}
-use Rattle.checks.specs.Refusals.{first_refusal}
-use Rattle.checks.specs.Numbers.{refusal_number}
+use Rattle.refusals.specs.declared.Refusal.{Refusal}
+use Rattle.refusals.specs.Refusals.{first_refusal}
+use Rattle.refusals.specs.Numbers.{refusal_number}
 use Rattle.road.specs.declared.Case.{Case}
 use Rattle.road.specs.Cases.{with_demand}
 use Rattle.method.specs.Refusals.{refusals}
@@ -26,9 +14,12 @@ use Rattle.daily.specs.declared.DailyGrade.{DailyGrade}
 use Rattle.daily.specs.Daily.{greatest_daily_traffic, SharesInRange, traffic_refusals, hourly_demand, daily_answer}
 use Rattle.daily.specs.Daily.{figure_count, values}
 
+-- neither 20 nor 21 nor the engine refuses the case with the daily traffic
 abbrev pub AcceptedTraffic : Case → Shares → ℕ → Type 0
 AcceptedTraffic case shares daily = refusal_number (daily_answer case shares daily) ≡ 0
 
+-- letter_in a, daily_volume_in a n: the letter's number, and the daily service volume of letter number n from
+-- 1 to 5, in an answer
 -- of the sixteen figures the first is the letter, and the last five are the daily service volumes A to E
 abbrev pub letter_in : Result DailyGrade Refusal → ℕ
 letter_in answer = get_or (values answer) 0 0
@@ -36,9 +27,11 @@ letter_in answer = get_or (values answer) 0 0
 abbrev pub daily_volume_in : Result DailyGrade Refusal → ℕ → ℕ
 daily_volume_in answer n = get_or (values answer) (10 + n) 0
 
+-- the answer has letter number n or a better one; what is refused meets nothing
 abbrev pub MeetsByDay : Case → Shares → ℕ → ℕ → Type 0
 MeetsByDay case shares daily n = AcceptedTraffic case shares daily × (letter_in (daily_answer case shares daily) ≤ n)
 
+-- a daily traffic meets a letter exactly when it is at most the daily service volume in the answer
 -- The planner's corollary: one answer on a road tells for every daily traffic and every letter, A to E, whether it is met. Above
 -- 4,000,000,000 none is, and no daily service volume is greater.
 abbrev pub MeetsUpToTheDailyVolume : Type 0
@@ -46,16 +39,19 @@ MeetsUpToTheDailyVolume =
     (case : Case) (shares : Shares) (asked : ℕ) → AcceptedTraffic case shares asked → (n : ℕ) → 1 ≤ n → n ≤ 5
     → (daily : ℕ) → MeetsByDay case shares daily n ↔ (daily ≤ daily_volume_in (daily_answer case shares asked) n)
 
+-- more daily traffic, or a larger share, never gets a better letter
 abbrev pub NoBetterWithMoreTraffic : Type 0
 NoBetterWithMoreTraffic =
     (case : Case) (less more : Shares) (daily greater : ℕ) → AcceptedTraffic case less daily → AcceptedTraffic case more greater
     → daily ≤ greater → less.peak ≤ more.peak → less.direction ≤ more.direction
     → letter_in (daily_answer case less daily) ≤ letter_in (daily_answer case more greater)
 
+-- a service volume by the day, by division
 -- a service volume in vehicles a day: rounded down, and at most 4,000,000,000
 abbrev pub by_the_day : Shares → ℕ → ℕ
 by_the_day shares volume = min (volume * 1000000 / (shares.peak * shares.direction)) greatest_daily_traffic
 
+-- the sixteen figures, by the eleven of the engine's answer for the hourly demand
 -- the eleven figures of the engine's answer, and the last five of them once more, by the day
 abbrev pub FiguresOfTheHour : Type 0
 FiguresOfTheHour =
@@ -64,22 +60,26 @@ FiguresOfTheHour =
     (values (daily_answer case shares daily) ≡ figures ++ map (by_the_day shares) (drop 6 figures))
     × (length (values (daily_answer case shares daily)) ≡ figure_count)
 
+-- the hourly demand is at most a number exactly when daily traffic × K × D is at most as many millions
 abbrev pub RoundedUpOnce : Type 0
 RoundedUpOnce =
     (shares : Shares) (daily hourly : ℕ)
     → (hourly_demand shares daily ≤ hourly) ↔ (daily * shares.peak * shares.direction ≤ hourly * 1000000)
 
+-- whatever demand the case carries, the answer is the same
 abbrev pub OwnDemandIsNotRead : Type 0
 OwnDemandIsNotRead =
     (case : Case) (demand : ℕ) (shares : Shares) (daily : ℕ)
     → daily_answer (with_demand case demand) shares daily ≡ daily_answer case shares daily
 
+-- the refusals as one list: 20, 21, and those of the case with the hourly demand
 abbrev pub RefusedInOrder : Type 0
 RefusedInOrder =
     (case : Case) (shares : Shares) (daily : ℕ)
     → refusal_number (daily_answer case shares daily)
     ≡ first_refusal (traffic_refusals shares daily ++ refusals (with_demand case (hourly_demand shares daily)))
 
+-- 20 exactly by a share out of range, 21 exactly by the traffic, else what the engine says
 abbrev pub RefusedExactly : Type 0
 RefusedExactly =
     (case : Case) (shares : Shares) (daily : ℕ)

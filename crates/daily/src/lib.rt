@@ -1,14 +1,10 @@
-// Daily: the answer to a case with the hourly demand of a daily traffic in the place of its own, and its daily service volumes.
-//   GREATEST_DAILY_TRAFFIC   the greatest daily traffic that 21 lets pass
-//   FIGURES           how many numbers an answer has
-//   Shares            K and D in thousandths: the peak hour's share of the daily traffic, and the direction's share of the peak hour
-//   DailyGrade        a grade with daily service volumes; put_figures: its sixteen numbers, at the start of lent numbers
-//   evaluate_daily    for any case, any shares and any daily traffic, or its refusal
+//! Daily: the answer to a case with the hourly demand of a daily traffic in the place of its own, and its daily service volumes.
+
 #![tactic(auto)]
 
 ghost use Rattle.std.specs.Prelude.{◌≡◌, ◌≤◌, length};
-ghost use Rattle.checks.specs.Refusals.{first_refusal};
-ghost use Rattle.checks.specs.Numbers.{refusal_number};
+ghost use Rattle.refusals.specs.Refusals.{first_refusal};
+ghost use Rattle.refusals.specs.Numbers.{refusal_number};
 ghost use Rattle.text.specs.Buffer.{Wrote};
 ghost use Rattle.road.specs.Refusals.{greatest_demand};
 ghost use Rattle.daily.specs.Daily.{SharesInRange, traffic_refusals, TrafficFits, hourly_demand, daily_answer};
@@ -17,23 +13,27 @@ ghost use Rattle.daily.specs.Within.{traffic_within, VolumesFit, volumes_within}
 
 use answer::evaluate;
 use answer::evaluate::{Grade, Volumes};
-use checks::Refusal;
+use refusals::Refusal;
 use road::Case;
 use text::buffer;
 
+/// The greatest daily traffic that 21 lets pass.
 pub const GREATEST_DAILY_TRAFFIC: u64 = 4_000_000_000;
 
-// What one is in millionths, the unit of K × D.
+/// What one is in millionths, the unit of K × D.
 const MILLION: u64 = 1_000_000;
 
+/// How many numbers an answer has.
 pub const FIGURES: usize = 16;
 
+/// K and D in thousandths: the peak hour's share of the daily traffic, and the direction's share of the peak hour.
 #[derive(Clone, Copy, PartialEq, Eq)]
 pub struct Shares {
     pub peak: u64,
     pub direction: u64,
 }
 
+/// A grade with daily service volumes; put_figures: its sixteen numbers, at the start of lent numbers.
 #[derive(Clone, Copy, PartialEq, Eq)]
 pub struct DailyGrade {
     pub grade: Grade,
@@ -41,7 +41,7 @@ pub struct DailyGrade {
 }
 
 impl Shares {
-    // 20 and 21.
+    /// 20 and 21.
     #[tactic(auto, unfolding(crate::specs::Daily::shares_unfit, crate::specs::Daily::traffic_refusals))]
     fn check_traffic(self, daily_traffic: u64) -> Result<(), Refusal>
         ensures { refusal_number result ≡ first_refusal (traffic_refusals self daily_traffic) }
@@ -56,7 +56,7 @@ impl Shares {
         Ok(())
     }
 
-    // Rounded up once, behind both shares.
+    /// Rounded up once, behind both shares.
     #[tactic(auto, using(crate::proofs::WithinLaws::rounded_up), unfolding(crate::specs::Daily::hourly_demand))]
     fn hourly_demand(self, daily_traffic: u64) -> u64
         requires { TrafficFits self daily_traffic }
@@ -65,7 +65,7 @@ impl Shares {
         (daily_traffic * self.peak * self.direction).div_ceil(MILLION)
     }
 
-    // The greatest daily traffic whose hourly demand is at most a volume.
+    /// The greatest daily traffic whose hourly demand is at most a volume.
     #[tactic(auto, using(crate::proofs::WithinLaws::by_division))]
     fn traffic_within(self, volume: u64) -> u64
         requires { SharesInRange self × (volume ≤ greatest_demand) }
@@ -74,7 +74,7 @@ impl Shares {
         (volume * MILLION / (self.peak * self.direction)).min(GREATEST_DAILY_TRAFFIC)
     }
 
-    // No search: what the engine promises of its service volumes carries over to the daily traffic.
+    /// No search: what the engine promises of its service volumes carries over to the daily traffic.
     fn volumes_within(self, volumes: Volumes) -> Volumes
         requires { SharesInRange self × VolumesFit volumes }
         ensures { result ≡ volumes_within self volumes }
@@ -100,7 +100,7 @@ impl DailyGrade {
     }
 }
 
-// Nothing is multiplied before 20 and 21 are asked.
+/// Nothing is multiplied before 20 and 21 are asked.
 #[tactic(auto, using(crate::proofs::DailyLaws::by_engine))]
 pub fn evaluate_daily(case: Case, shares: Shares, daily_traffic: u64) -> Result<DailyGrade, Refusal>
     ensures { result ≡ daily_answer case shares daily_traffic }

@@ -1,13 +1,4 @@
 -- The numbers of a day (specs/Days).
---   answer_figures-length         an answer has twelve numbers
---   number-first, letter-second   the first is its refusal's number, the second its letter's
---   day_figures-length            a day has twelve for each demand
---   day_figures-next, day_figures-at   those of one demand more; those of one of the demands
---   day_figures-count             as many answers as demands
---   lent-room                     where 18 does not refuse there is room for every answer
---   day-refused, day-answered     the lent numbers where 18 refuses, and where it does not
---   next-answer                   a turn of put_day: an answer more is written
--- Assumes nothing.
 use Rattle.std.proofs.Common.{Result, Ok, Err}
 use mathlib.Core.Path.{◌≡◌, refl, sym}
 use mathlib.Core.List.{List, ◌++◌}
@@ -18,24 +9,26 @@ use lib.Dec.{ltb}
 use lib.ListN.{length, take, drop, get_or}
 use Rattle.std.proofs.lemmas.Bool.{or_parts}
 use Rattle.numbers.proofs.RowsLaws.{rows-next, rows-length, rows-at}
-use Rattle.checks.specs.Refusals.{first_refusal, outside}
-use Rattle.checks.proofs.RefusalLaws.{none-met, unless_refused-none, unless_refused-some}
+use Rattle.refusals.specs.Refusals.{first_refusal, outside}
+use Rattle.refusals.proofs.RefusalLaws.{none-met, unless_refused-none, unless_refused-some}
 use Rattle.text.specs.Buffer.{Wrote}
 use Rattle.text.proofs.BufferLaws.{rest_of, put_rest, then}
 use Rattle.road.specs.declared.Case.{Case}
 use Rattle.road.specs.Cases.{with_demand}
-use Rattle.checks.specs.declared.Refusal.{Refusal}
-use Rattle.checks.specs.Numbers.{refusal_number}
+use Rattle.refusals.specs.declared.Refusal.{Refusal}
+use Rattle.refusals.specs.Numbers.{refusal_number}
 use Rattle.answer.specs.declared.evaluate.Grade.{Grade}
 use Rattle.answer.specs.Answers.{answer_to}
 use Rattle.answer.specs.Promises.{letter_in}
 use Rattle.day.specs.Days.{most_demands, figure_count, answer_figures, day_figures, day_written, lent_unfit, lent_refusals, LentFits}
 use Rattle.day.specs.Days.{day_content}
 
+-- an answer has twelve numbers
 pub answer_figures-length : (a : Result Grade Refusal) → length (answer_figures a) ≡ figure_count
 answer_figures-length (Ok g) = refl
 answer_figures-length (Err r) = refl
 
+-- number-first, letter-second: the first is its refusal's number, the second its letter's
 pub number-first : (a : Result Grade Refusal) → get_or (answer_figures a) 0 0 ≡ refusal_number a
 number-first (Ok g) = refl
 number-first (Err r) = refl
@@ -44,6 +37,7 @@ pub letter-second : (a : Result Grade Refusal) → get_or (answer_figures a) 1 0
 letter-second (Ok g) = refl
 letter-second (Err r) = refl
 
+-- where 18 does not refuse there is room for every answer
 pub lent-room : (n room : ℕ) → LentFits n room → figure_count * n ≤ room
 unfolding lent_unfit lent_refusals
 lent-room n room z =
@@ -53,6 +47,7 @@ lent-room n room z =
 
 -- 18 leaves the numbers as they were, and else the answers are written
 module _ (case : Case) (demands old : List ℕ) where
+  -- day-refused, day-answered: the lent numbers where 18 refuses, and where it does not
   pub day-refused : 0 < first_refusal (lent_refusals (length demands) (length old)) → old ≡ day_content case demands old
   unfolding day_content
   day-refused p = sym (unless_refused-some _ (day_written case demands old) (λ number. old) p)
@@ -62,14 +57,17 @@ module _ (case : Case) (demands old : List ℕ) where
   day-answered z = sym (unless_refused-none _ (day_written case demands old) (λ number. old) z)
 
 -- ---- the answers one after the other
+-- a day has twelve for each demand
 pub day_figures-length : (case : Case) (demands : List ℕ) → length (day_figures case demands) ≡ figure_count * length demands
 unfolding day_figures
 day_figures-length case demands = rows-length _ figure_count (λ d. answer_figures-length (answer_to (with_demand case d))) demands
 
+-- as many answers as demands
 pub day_figures-count : (case : Case) (demands : List ℕ) → length (day_figures case demands) / figure_count ≡ length demands
 day_figures-count case demands = omega (arith, day_figures-length case demands)
 
 module _ (case : Case) (demands : List ℕ) where
+  -- day_figures-next, day_figures-at: those of one demand more; those of one of the demands
   pub day_figures-at : (rest : List ℕ) (i : ℕ) → i < length demands
       → take figure_count (drop (figure_count * i) (day_figures case demands ++ rest))
       ≡ answer_figures (answer_to (with_demand case (get_or demands i 0)))
@@ -82,6 +80,7 @@ module _ (case : Case) (demands : List ℕ) where
   unfolding day_figures
   day_figures-next i h = rows-next _ demands i 0 h
 
+  -- a turn of put_day: an answer more is written
   pub next-answer : {old out new : List ℕ} {at n : ℕ} (i : ℕ) → i < length demands → Wrote (day_figures case (take i demands)) old out at
       → Wrote (answer_figures (answer_to (with_demand case (get_or demands i 0)))) (rest_of at out) new n
       → Wrote (day_figures case (take (i + 1) demands)) old (put_rest at out new) (at + n)

@@ -1,13 +1,10 @@
 -- Instances of a day (specs/Instances), shown.
---   example-day       the printed road's day
---   instances-shown   each instance is what is to be shown
--- Assumes nothing.
 use mathlib.Core.Path.{◌≡◌, refl, ap, ◌∙◌}
 use mathlib.Core.List.{[], ◌∷◌, flat_map}
 use lib.ListN.{drop, get_or, replicate}
 use Rattle.numbers.specs.Division.{div_up}
-use Rattle.checks.specs.Figures.{Shown}
-use Rattle.checks.specs.Numbers.{in_order, refusal_of}
+use Rattle.refusals.specs.Figures.{Shown}
+use Rattle.refusals.specs.Numbers.{in_order, refusal_of}
 use Rattle.curve.specs.Curves.{capacity, breakpoint}
 use Rattle.curve.specs.Weather.{adjusted_speed, adjusted_capacity, adjusted_breakpoint, curve_under}
 use Rattle.curve.specs.Speed.{fall_share_by, speed, shown_speed}
@@ -48,6 +45,7 @@ shown-2643 =
       ap (λ x. x.e) same ∙ v.4,
     )
 
+-- the printed road's day
 pub example-day : day_content example example_demands (replicate 38 9) ≡ example_day
 unfolding in_order refusal_of flat_map weather_unfit road_refusals load_refusals field_refusals refusals lent_unfit lent_refusals day_figures
 example-day = day-is-the-single-calls example example_demands (replicate 38 9) refl ∙ rw (shown-2000, shown-2643)
@@ -59,6 +57,7 @@ snow-day =
     day-is-the-single-calls (given_in_snow 2 0) snow_demands (replicate 24 9) refl
     ∙ rw (ap (λ l. figures_of (get_or l 0 0) (drop 1 l)) snow-answer)
 
+-- each instance is what is to be shown
 pub instances-shown : Shown day_instances
 unfolding in_order refusal_of flat_map uncapped_by free_flow_speed_of weather_unfit road_refusals load_refusals field_refusals adjusted_speed speed_refusals refusals
     lent_unfit lent_refusals day_figures day_content day_instances

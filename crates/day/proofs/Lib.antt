@@ -1,9 +1,9 @@
 -- The laws of the definitions in specs/.
---   DayLaws      the numbers of a day
---   SharedLaws   what the demands on a case share
---   Promises     what a reader of the lent answers is promised
---   Instances    instances of a day
+-- the numbers of a day
 pub mod DayLaws
+-- what the demands on a case share
 pub mod SharedLaws
+-- what a reader of the lent answers is promised
 pub mod Promises
+-- instances of a day
 pub mod Instances

@@ -1,7 +1,4 @@
 -- What a reader of the lent answers is promised (specs/Promises), proved.
---   day-is-the-single-calls, position-holds-the-answer, figures-tell-the-answer, position-numbers, no-better-with-more-demand
---   past-the-demands-kept, refused-day-changes-nothing, lent-fits-exactly
--- Assumes nothing.
 use Rattle.std.proofs.Common.{Result, Ok, Err}
 use mathlib.Core.Path.{◌≡◌, refl, sym, ap, ◌∙◌}
 use mathlib.Core.Logic.{◌⊎◌, ⊎_elim, inr}
@@ -16,11 +13,11 @@ use lib.Dec.{ltb, eqb}
 use lib.ListN.{length, drop, get_or, length-append, length-drop}
 use lib.Seq.{drop_at}
 use Rattle.std.proofs.lemmas.Bool.{or_parts}
-use Rattle.checks.specs.declared.Refusal.{Refusal}
-use Rattle.checks.specs.Numbers.{refusal_of}
-use Rattle.checks.proofs.NumberLaws.{refusal_of-number}
-use Rattle.checks.specs.Refusals.{first_refusal, unless_refused, outside}
-use Rattle.checks.proofs.RefusalLaws.{none-met, none-of, within, inside, unless_refused-some}
+use Rattle.refusals.specs.declared.Refusal.{Refusal}
+use Rattle.refusals.specs.Numbers.{refusal_of}
+use Rattle.refusals.proofs.NumberLaws.{refusal_of-number}
+use Rattle.refusals.specs.Refusals.{first_refusal, unless_refused, outside}
+use Rattle.refusals.proofs.RefusalLaws.{none-met, none-of, within, inside, unless_refused-some}
 use Rattle.text.specs.Buffer.{written}
 use Rattle.curve.specs.declared.service.Letter.{Letter}
 use Rattle.curve.specs.Service.{letter_number}

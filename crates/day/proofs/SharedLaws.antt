@@ -1,16 +1,12 @@
 -- What the demands on a case share (specs/Shared).
---   refused-number    the number of a case that was checked and refused
---   accepted-within, accepted-above   a case that is accepted with no demand: with one up to the greatest it gets its grade, with a greater one 7
---   refused-with      one that is not: with any demand it gets the same refusal, or 7 where that comes before it
--- Assumes nothing.
 use Rattle.std.proofs.Common.{◌≡◌, ap, lit≤, sym, ◌∙◌, ◌≤◌, ◌<◌, min, Ok, Err, arith}
 use Rattle.std.proofs.lemmas.Bool.{lt-ltb, le-ltb}
 use Rattle.std.proofs.Math.Nat.{le_trans}
 use native.Mathlib.Decide.{dec_le}
-use Rattle.checks.specs.declared.Refusal.{Refusal}
-use Rattle.checks.specs.Numbers.{number, refusal_number}
-use Rattle.checks.proofs.RefusalLaws.{unless_refused-some}
-use Rattle.checks.proofs.NumberLaws.{number-above, refusal_number-ok_unless, ok_unless-ok, ok_unless-err}
+use Rattle.refusals.specs.declared.Refusal.{Refusal}
+use Rattle.refusals.specs.Numbers.{number, refusal_number}
+use Rattle.refusals.proofs.RefusalLaws.{unless_refused-some}
+use Rattle.refusals.proofs.NumberLaws.{number-above, refusal_number-ok_unless, ok_unless-ok, ok_unless-err}
 use Rattle.road.specs.declared.Case.{Case}
 use Rattle.road.specs.Cases.{with_demand}
 use Rattle.road.specs.Refusals.{greatest_demand}
@@ -21,18 +17,22 @@ use Rattle.answer.specs.declared.evaluate.Grade.{Grade}
 use Rattle.answer.specs.Answers.{graded, answer_to}
 use Rattle.day.specs.Refused.{number_with}
 
+-- the number of a case that was checked and refused
 pub refused-number : (case : Case) (r : Refusal) → checked case ≡ Err r → number r ≡ refusal case
 refused-number case r e =
     sym (ap refusal_number e) ∙ refusal_number-ok_unless (refusal case) (case_curve case) (le_trans (refusal-le case) (lit≤ tt))
 
 module _ (case : Case) where
   module _ (a : Accepted (with_demand case 0)) where
+    -- accepted-within, accepted-above: a case that is accepted with no demand: with one up to the greatest it
+    -- gets its grade, with a greater one 7
     pub accepted-within : (grade : Grade) → grade ≡ graded case → case.demand ≤ greatest_demand → Ok grade ≡ answer_to case
     accepted-within grade e h = ok_unless-ok (refusal case) grade (graded case) (refusal-within case h ∙ a) e
 
     pub accepted-above : greatest_demand < case.demand → Err Refusal.DemandTooLarge ≡ answer_to case
     accepted-above h = ok_unless-err Refusal.DemandTooLarge (refusal case) (graded case) (sym (rw a at (refusal-above case h)))
 
+  -- one that is not: with any demand it gets the same refusal, or 7 where that comes before it
   pub refused-with : (r s : Refusal) → number r ≡ refusal (with_demand case 0) → number s ≡ number_with (number r) case.demand
       → Err s ≡ answer_to case
   refused-with r s e f = ok_unless-err s (refusal case) (graded case) (f ∙ by (dec_le case.demand greatest_demand))

@@ -1,16 +1,6 @@
 -- Instances of a day, with every hypothesis of its promises met; proofs/Instances shows each.
---   at2000, at2643      the numbers of the printed road of document 01 with these demands
---   refused_with n      the numbers of a position that n refuses
---   example_demands, example_day   these demands on it with one that 7 refuses between, and what 38 nines then are: three positions, and
---                       two numbers kept
---   refused_by8          F G 75000 120 60 60 D 0 2 V 249 0 L
---   refused_by10         F G 54999 120 60 60 D 0 2 V 1000 0 L
---   refused_by6          F G 75000 120 60 60 D 0 1 V 1000 0 L
---   snow_demands, snow_day   demands on F G 75000 120 60 60 D 0 2 V 1000 0 L 950 900, and its day
---   day_instances        what is worked out, and what is to be shown
--- Assumes nothing.
 use Rattle.std.specs.Prelude.{List, [], ◌∷◌, ◌++◌, ℕ, replicate}
-use Rattle.checks.specs.Figures.{Figure, figure}
+use Rattle.refusals.specs.Figures.{Figure, figure}
 use Rattle.curve.specs.declared.kind.Kind.TheVariants as Kind
 use Rattle.curve.specs.Weather.{clear}
 use Rattle.road.specs.declared.Terrain.TheVariants as Terrain
@@ -18,33 +8,41 @@ use Rattle.road.specs.declared.Case.{Case}
 use Rattle.road.specs.Cases.{loaded, with_lanes}
 use Rattle.method.specs.Boundary.{example, given, two_lanes}
 use Rattle.answer.specs.Boundary.{given_in_snow, refused_by19}
-use Rattle.checks.specs.Numbers.{refusal_number}
+use Rattle.refusals.specs.Numbers.{refusal_number}
 use Rattle.day.specs.Days.{day_answer, day_content, values}
 
+-- at2000, at2643: the numbers of the printed road of document 01 with these demands
 abbrev pub at2000 : List ℕ
 at2000 = 0 ∷ 3 ∷ 60782 ∷ 230782 ∷ 1196 ∷ 60782 ∷ 197 ∷ 1117 ∷ 1829 ∷ 2642 ∷ 3360 ∷ 3858 ∷ []
 
 abbrev pub at2643 : List ℕ
 at2643 = 0 ∷ 4 ∷ 60782 ∷ 230782 ∷ 1581 ∷ 60779 ∷ 261 ∷ 1117 ∷ 1829 ∷ 2642 ∷ 3360 ∷ 3858 ∷ []
 
+-- the numbers of a position that n refuses
 abbrev pub refused_with : ℕ → List ℕ
 refused_with n = n ∷ 0 ∷ 0 ∷ 0 ∷ 0 ∷ 0 ∷ 0 ∷ 0 ∷ 0 ∷ 0 ∷ 0 ∷ 0 ∷ []
 
+-- example_demands, example_day: these demands on it with one that 7 refuses between, and what 38 nines then
+-- are: three positions, and two numbers kept
 abbrev pub example_demands : List ℕ
 example_demands = 2000 ∷ 1000000 ∷ 2643 ∷ []
 
 abbrev pub example_day : List ℕ
 example_day = at2000 ++ (refused_with 7 ++ (at2643 ++ (9 ∷ 9 ∷ [])))
 
+-- F G 75000 120 60 60 D 0 2 V 249 0 L
 abbrev pub refused_by8 : Case
 refused_by8 = loaded (given Kind.Freeway 75000 120) 2 0 249 0 Terrain.Level clear
 
+-- F G 54999 120 60 60 D 0 2 V 1000 0 L
 abbrev pub refused_by10 : Case
 refused_by10 = two_lanes (given Kind.Freeway 54999 120) 0
 
+-- F G 75000 120 60 60 D 0 1 V 1000 0 L
 abbrev pub refused_by6 : Case
 refused_by6 = with_lanes (two_lanes (given Kind.Freeway 75000 120) 0) 1
 
+-- snow_demands, snow_day: demands on F G 75000 120 60 60 D 0 2 V 1000 0 L 950 900, and its day
 abbrev pub snow_demands : List ℕ
 snow_demands = 3000 ∷ 1000000 ∷ []
 
@@ -55,6 +53,7 @@ snow_day = (0 ∷ 3 ∷ 71250 ∷ 216000 ∷ 1500 ∷ 66271 ∷ 227 ∷ 1566 ∷
 abbrev called : ℕ → ℕ → List ℕ
 called n room = refusal_number (day_answer n room) ∷ values (day_answer n room)
 
+-- what is worked out, and what is to be shown
 -- Three demands on the printed road, of which 7 refuses the second; the same with one number too few; a road that 8 refuses, one that 10
 -- does, one that 6 does and one that 19 does, each with demands that 7 refuses and one that it lets pass, and the first with 100,000 too; a
 -- day in snow; no demand, 1, 24 and 25 with room for all, 3 with room for two and eleven numbers more, and for three.

@@ -1,26 +1,24 @@
-// Day: the answers to up to 24 demands on one road, with its lanes, peak-hour factor, heavy share and terrain, in one call.
-//   MOST_DEMANDS   the most demands of a call
-//   FIGURES        how many numbers an answer has
-//   check_lent     whether demands and lent numbers fit, or 18
-//   put_day        the answers to a case with each demand, where they fit
-//   evaluate_day   for any case, any demands and any lent numbers: the count of answers, or 18
+//! Day: the answers to up to 24 demands on one road, with its lanes, peak-hour factor, heavy share and terrain, in one call.
+
 #![tactic(auto)]
 
 mod shared;
 
 ghost use Rattle.std.specs.Prelude.{◌≡◌, ◌∷◌, ◌≤◌, ◌<◌, length};
-ghost use Rattle.checks.specs.Refusals.{first_refusal};
-ghost use Rattle.checks.specs.Numbers.{refusal_number};
+ghost use Rattle.refusals.specs.Refusals.{first_refusal};
+ghost use Rattle.refusals.specs.Numbers.{refusal_number};
 ghost use Rattle.text.specs.Buffer.{Wrote};
 ghost use Rattle.day.specs.Days.{figure_count, answer_figures, day_written, lent_unfit, lent_refusals, LentFits, day_answer, day_content};
 
 use answer::evaluate::Grade;
-use checks::Refusal;
+use refusals::Refusal;
 use road::Case;
 use shared::{Shared, refusal_with};
 
+/// The most demands of a call.
 pub const MOST_DEMANDS: usize = 24;
 
+/// How many numbers an answer has.
 pub const FIGURES: usize = 12;
 
 #[tactic(auto, unfolding(crate::specs::Days::lent_unfit))]
@@ -30,6 +28,7 @@ fn lent_unfit(demands: usize, numbers: usize) -> bool
     !(1..=MOST_DEMANDS).contains(&demands) || numbers / FIGURES < demands
 }
 
+/// Whether demands and lent numbers fit, or 18.
 #[tactic(auto, unfolding(crate::specs::Days::lent_refusals))]
 pub fn check_lent(demands: usize, numbers: usize) -> Result<(), Refusal>
     ensures { refusal_number result ≡ first_refusal (lent_refusals demands numbers) }
@@ -40,7 +39,7 @@ pub fn check_lent(demands: usize, numbers: usize) -> Result<(), Refusal>
     Ok(())
 }
 
-// A refusal's number, or 0, and the figures behind it; answers how many numbers they are.
+/// A refusal's number, or 0, and the figures behind it; answers how many numbers they are.
 fn put_position(number: u64, figures: &[u64], out: &mut [u64]) -> usize
     requires { length figures.now < length out.old }
     ensures { Wrote (number ∷ figures.now) out.old out.new result }
@@ -59,7 +58,7 @@ fn put_answer(answer: Result<Grade, Refusal>, out: &mut [u64]) -> usize
     }
 }
 
-// The answer with each demand in its position. The case is checked once, with no demand: 7 has its place in each position.
+/// The answer with each demand in its position. The case is checked once, with no demand: 7 has its place in each position.
 pub fn put_day(case: Case, demands: &[u64], answers: &mut [u64])
     requires { LentFits (length demands.now) (length answers.old) }
     ensures { answers.new ≡ day_written case demands.now answers.old }
@@ -75,6 +74,7 @@ pub fn put_day(case: Case, demands: &[u64], answers: &mut [u64])
     }
 }
 
+/// For any case, any demands and any lent numbers: the count of answers, or 18.
 pub fn evaluate_day(case: Case, demands: &[u64], answers: &mut [u64]) -> Result<u64, Refusal>
     ensures result { result ≡ day_answer (length demands.now) (length answers.old) }
     ensures answers { answers.new ≡ day_content case demands.now answers.old }

@@ -1,10 +1,7 @@
-// What the demands on a case share, worked out once a call.
-//   Shared           of a case that is accepted with no demand: its service volumes, and the case with what its demands have in common
-//   Shared::of       that, or the case's refusal
-//   answer_with      the answer with a demand in the place of the case's own
-//   refusal_with     the refusal with it, of a case that is refused with no demand
+//! What the demands on a case share, worked out once a call.
+
 ghost use Rattle.std.specs.Prelude.{◌≡◌};
-ghost use Rattle.checks.specs.Numbers.{number};
+ghost use Rattle.refusals.specs.Numbers.{number};
 ghost use Rattle.road.specs.Cases.{with_demand};
 ghost use Rattle.answer.specs.Volumes.{service_volumes};
 ghost use Rattle.answer.specs.Answers.{answer_to};
@@ -12,12 +9,13 @@ ghost use Rattle.day.specs.Refused.{number_with};
 
 use answer::evaluate;
 use answer::evaluate::{Grade, Volumes};
-use checks::Refusal;
+use refusals::Refusal;
 use method::assess::AcceptedCase;
 use method::checked;
 use road::Case;
 use road::refusal::GREATEST_DEMAND;
 
+/// Of a case that is accepted with no demand: its service volumes, and the case with what its demands have in common.
 #[derive(Clone, Copy)]
 pub(crate) struct Shared {
     pub accepted: AcceptedCase,
@@ -28,6 +26,7 @@ pub(crate) struct Shared {
 impl Shared {
     ghost use Rattle.day.specs.Shared.{SharedBy};
 
+    /// That, or the case's refusal.
     pub(crate) fn of(case: Case) -> Result<Shared, Refusal>
         ensures { SharedBy case result }
     {
@@ -38,6 +37,7 @@ impl Shared {
         Ok(Shared { accepted, volumes })
     }
 
+    /// The answer with a demand in the place of the case's own.
     pub(crate) fn answer_with(&self, demand: u64) -> Result<Grade, Refusal>
         ensures { result ≡ answer_to (with_demand self.now.accepted.case demand) }
     {
@@ -48,7 +48,7 @@ impl Shared {
     }
 }
 
-// The refusal of a case with a demand, by the one with no demand: 1 to 6 come before 7.
+/// The refusal of a case with a demand, by the one with no demand: 1 to 6 come before 7.
 pub(crate) fn refusal_with(refusal: Refusal, demand: u64) -> Refusal
     ensures { number result ≡ number_with (number refusal) demand }
 {

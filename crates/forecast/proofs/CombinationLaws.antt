@@ -1,7 +1,4 @@
 -- Every whole combination within the ends, and some (specs/Forecasts).
---   every_combination-at, every_combination-of   every combination within the ends passes; the converse
---   some_combination-of, some_combination-none   a combination within the ends that passes; none that does
--- Assumes nothing.
 use Rattle.std.proofs.Common.{Bool, not, ◌||◌, ℕ, ◌≤◌, arith, lt-ltb, le-ltb, T, T_not, ltb}
 use Rattle.std.proofs.Math.Decide.{dec_le}
 use Rattle.std.proofs.Math.Dec.{not_T}
@@ -27,6 +24,7 @@ every_within-of range p all =
     go n high (no low) = rw (lt-ltb n range.low (omega arith)) tt
 
 module _ (forecast : Forecast) (p : Combination → Bool) where
+  -- every_combination-at, every_combination-of: every combination within the ends passes; the converse
   pub every_combination-at : T (every_combination forecast p)
       → EveryInside forecast (λ demand share factor. T (p (combination_of demand share factor)))
   unfolding every_combination
@@ -46,6 +44,7 @@ module _ (forecast : Forecast) (p : Combination → Bool) where
   abbrev fails : Combination → Bool
   fails combination = not (p combination)
 
+  -- some_combination-of, some_combination-none: a combination within the ends that passes; none that does
   pub some_combination-of : EveryInside forecast (λ demand share factor.
       T (p (combination_of demand share factor)) → T (some_combination forecast p))
   unfolding some_combination

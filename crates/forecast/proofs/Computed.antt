@@ -1,12 +1,9 @@
 -- Instances that are worked out with no law (specs/Instances), shown.
---   computed-shown   the best and the worst letter by their definitions
---   refusals-shown   the order of the refusals
--- Assumes nothing.
 use Rattle.std.proofs.Common.{refl}
 use Rattle.numbers.specs.Division.{div_up}
 use Rattle.numbers.specs.Search.{least_from, least}
-use Rattle.checks.specs.Figures.{Shown}
-use Rattle.checks.specs.Numbers.{in_order, refusal_of}
+use Rattle.refusals.specs.Figures.{Shown}
+use Rattle.refusals.specs.Numbers.{in_order, refusal_of}
 use Rattle.curve.specs.Curves.{capacity, breakpoint}
 use Rattle.curve.specs.Weather.{adjusted_speed, adjusted_capacity, adjusted_breakpoint, curve_under}
 use Rattle.curve.specs.Speed.{fall_share_by, speed, shown_speed}
@@ -22,6 +19,7 @@ use Rattle.forecast.specs.Forecasts.{every_within, every_combination, some_combi
 use Rattle.forecast.specs.Forecasts.{forecast_refusals}
 use Rattle.forecast.specs.Instances.{computed_instances, refusal_instances}
 
+-- the best and the worst letter by their definitions
 pub computed-shown : Shown computed_instances
 unfolding div_up least_from least uncapped_by free_flow_speed_of weather_unfit road_refusals load_refusals field_refusals adjusted_speed speed_refusals
     refusals capacity breakpoint adjusted_capacity adjusted_breakpoint curve_under curve_of heavy_factor_of flow_rate_of fall_share_by speed shown_speed
@@ -29,6 +27,7 @@ unfolding div_up least_from least uncapped_by free_flow_speed_of weather_unfit r
     best_letter worst_letter computed_instances
 computed-shown = (refl, (refl, (refl, (refl, tt))))
 
+-- the order of the refusals
 pub refusals-shown : Shown refusal_instances
 unfolding in_order refusal_of uncapped_by free_flow_speed_of weather_unfit road_refusals load_refusals adjusted_speed speed_refusals range_refusals
     forecast_refusals refusal_instances

@@ -1,31 +1,12 @@
 -- Forecasts (specs/Forecasts): what is refused, and the letters at the ends. NoBetterUnderMoreLoad, demand 3's part 1, carries
 -- ends-between, by its name.
---   letter-accepted     the letter in the answer to an accepted case, by what the case gets
---   best_case, worst_case   the case with the combinations at the two ends
---   at-best, at-worst   what holds of every combination within the ends holds there
---   end_outcomes        the letters at the two ends, each with its combination
---   last_refusals case   19 and 10
---   plain-joined, forecast-joined   the lists of a case and of a forecast from their front: 1 to 6; 7 to 9, or 22 and 7 to 9 of both ends;
---                       19 and 10
---   forecast-number     the number of an answer is that of its list
---   number-le           it is at most 22
---   refused-values      an answer with a number above 0 has no values
---   accepted-ordered, inside-accepted   an accepted forecast: no range is reversed, and every combination within the ends is accepted
---   best-accepted, worst-accepted   those at the ends too
---   ends-between        the letter of a combination within the ends is between those at the ends
---   answer-accepted     these are the best and the worst, so that they are answered
---   refused-with        what the check refuses with what the ranges found is refused
---   best-on-curve, worst-on-curve, answer-passed   where it finds a curve: it is that of the combinations at the two ends too, and the
---                       letters there are answered
---   checked_ends        for tactics: the calls of the code behind its check
--- Assumes nothing.
 use Rattle.std.proofs.Common.{◌≡◌, refl, sym, ap, ◌∙◌, Bool, ◌↔◌, inr, List, [], ◌++◌, ℕ, ◌≤◌, ◌<◌, arith, le_refl, le_trans, T, Result, Ok, Err}
 use Rattle.numbers.proofs.SearchLaws.{least-eq}
-use Rattle.checks.specs.declared.Refusal.{Refusal}
-use Rattle.checks.specs.Refusals.{Condition, first_refusal, found}
-use Rattle.checks.specs.Numbers.{refusal_number, ok_unless}
-use Rattle.checks.proofs.RefusalLaws.{first_refusal-none, first_refusal-le}
-use Rattle.checks.proofs.NumberLaws.{ok_unless-none, ok_unless-found, ok_unless-refused, refusal_number-ok_unless}
+use Rattle.refusals.specs.declared.Refusal.{Refusal}
+use Rattle.refusals.specs.Refusals.{Condition, first_refusal, found}
+use Rattle.refusals.specs.Numbers.{refusal_number, ok_unless}
+use Rattle.refusals.proofs.RefusalLaws.{first_refusal-none, first_refusal-le}
+use Rattle.refusals.proofs.NumberLaws.{ok_unless-none, ok_unless-found, ok_unless-refused, refusal_number-ok_unless}
 use Rattle.curve.specs.declared.Curve.{Curve}
 use Rattle.curve.specs.declared.service.Letter.{Letter}
 use Rattle.curve.specs.Service.{letter_number}
@@ -74,23 +55,27 @@ letter-lt case a = omega (arith, letter-accepted case a, letter_number-le (measu
 meets-exactly : (case : Case) → Accepted case → (n : ℕ) → (letter_in (answer_to case) ≤ n) ↔ T (meets case n)
 meets-exactly case a n = (λ h. (Meets-iff case n).0 (answer_to-number case ∙ a, h), λ t. ((Meets-iff case n).1 t).1)
 
+-- an answer with a number above 0 has no values
 pub refused-values : (a : Result Outcomes Refusal) → 0 < refusal_number a → values a ≡ []
 refused-values (Ok o) p = absurd (omega arith)
 refused-values (Err r) p = refl
 
 -- ---- the two ends
+-- best_case, worst_case: the case with the combinations at the two ends
 abbrev pub best_case : Case → Forecast → Case
 best_case case forecast = with_combination case (best_combination forecast)
 
 abbrev pub worst_case : Case → Forecast → Case
 worst_case case forecast = with_combination case (worst_combination forecast)
 
+-- the letters at the two ends, each with its combination
 abbrev pub end_outcomes : Case → Forecast → Outcomes
 end_outcomes case forecast =
     record { best = outcome_of case (best_combination forecast); worst = outcome_of case (worst_combination forecast) }
 
 -- what holds of every combination within the ends holds there
 module _ (forecast : Forecast) (ordered : Ordered forecast) (P : (demand share factor : ℕ) → Type 0) (all : EveryInside forecast P) where
+  -- at-best, at-worst: what holds of every combination within the ends holds there
   pub at-best : P forecast.demand.low forecast.heavy_share.low forecast.peak_hour_factor.high
   at-best = all _ _ _ (le_refl _, ordered.0) (le_refl _, ordered.1) (ordered.2, le_refl _)
 
@@ -102,6 +87,8 @@ module _ (forecast : Forecast) (ordered : Ordered forecast) (P : (demand share f
 abbrev pub last_refusals : Case → List Condition
 last_refusals case = weather_refusals case ++ speed_refusals case.road case.weather case.lanes
 
+-- plain-joined, forecast-joined: the lists of a case and of a forecast from their front: 1 to 6; 7 to 9, or
+-- 22 and 7 to 9 of both ends; 19 and 10
 pub plain-joined : (case : Case) → refusal case ≡ first_refusal (section_refusals case ++ (load_refusals case ++ last_refusals case))
 unfolding field_refusals refusals
 plain-joined case = ap first_refusal (refusals_with-joined (load_refusals case) case)
@@ -116,9 +103,11 @@ module _ (case : Case) (forecast : Forecast) where
   unfolding road_refusals load_refusals speed_refusals range_refusals forecast_refusals
   list-le = first_refusal-le 22 (forecast_refusals case forecast) tt
 
+  -- the number of an answer is that of its list
   pub forecast-number : refusal_number (forecast_answer case forecast) ≡ first_refusal (forecast_refusals case forecast)
   forecast-number = refusal_number-ok_unless _ _ list-le
 
+  -- it is at most 22
   pub number-le : refusal_number (forecast_answer case forecast) ≤ 22
   number-le = rw forecast-number list-le
 
@@ -141,6 +130,8 @@ module _ (case : Case) (forecast : Forecast) where
     ends : Ordered forecast × DemandPasses forecast × FactorPasses forecast × SharePasses forecast
     ends = (range-exactly case forecast).0 parts.1
 
+    -- accepted-ordered, inside-accepted: an accepted forecast: no range is reversed, and every combination
+    -- within the ends is accepted
     pub inside-accepted : EveryInside forecast (λ demand share factor. Accepted (case_with case demand share factor))
     inside-accepted demand share factor v s h =
         let (section, range, weather, speed) = parts in
@@ -157,6 +148,7 @@ module _ (case : Case) (forecast : Forecast) where
     pub accepted-ordered : Ordered forecast
     accepted-ordered = ends.0
 
+    -- best-accepted, worst-accepted: those at the ends too
     pub best-accepted : Accepted (best_case case forecast)
     best-accepted =
         at-best forecast accepted-ordered (λ demand share factor. Accepted (case_with case demand share factor)) inside-accepted
@@ -165,6 +157,7 @@ module _ (case : Case) (forecast : Forecast) where
     worst-accepted =
         at-worst forecast accepted-ordered (λ demand share factor. Accepted (case_with case demand share factor)) inside-accepted
 
+    -- the letter of a combination within the ends is between those at the ends
     pub ends-between : EveryInside forecast (λ demand share factor.
         (letter_in (answer_to (best_case case forecast)) ≤ letter_in (answer_to (case_with case demand share factor)))
         × (letter_in (answer_to (case_with case demand share factor)) ≤ letter_in (answer_to (worst_case case forecast))))
@@ -224,6 +217,7 @@ module _ (case : Case) (forecast : Forecast) where
   unfolding forecast_refusals
   list-found = ap (λ n. ok_unless n (case_curve case)) (refusals_with-found (range_refusals case forecast) case (range-numbered case forecast))
 
+  -- what the check refuses with what the ranges found is refused
   pub refused-with : (r : Refusal) → checked-ranges ≡ Err r → Err r ≡ forecast_answer case forecast
   refused-with r e = ok_unless-refused _ (case_curve case) _ r (sym list-found ∙ e)
 
@@ -241,6 +235,8 @@ module _ (case : Case) (forecast : Forecast) where
     on-curve combination a =
         ok_unless-none (refusal (with_combination case combination)) (case_curve case) a ∙ ap Ok (sym passed.1)
 
+    -- best-on-curve, worst-on-curve, answer-passed: where it finds a curve: it is that of the combinations at
+    -- the two ends too, and the letters there are answered
     pub best-on-curve : checked (best_case case forecast) ≡ Ok curve
     best-on-curve = on-curve (best_combination forecast) (best-accepted passed-accepted)
 

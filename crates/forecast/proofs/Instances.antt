@@ -1,11 +1,7 @@
 -- Instances of the promises (specs/Instances), shown by the promises.
---   wide-told        the eight figures of the printed line's road within three ranges
---   letter-between, target-kept, target-missed
---   instances-shown    each is what is to be shown
--- Assumes nothing.
 use Rattle.std.proofs.Common.{◌≡◌, refl, ap, ℕ, arith, drop, get_or, [], ◌∷◌}
 use Rattle.numbers.specs.Division.{div_up}
-use Rattle.checks.specs.Figures.{Shown}
+use Rattle.refusals.specs.Figures.{Shown}
 use Rattle.curve.specs.Curves.{capacity, breakpoint}
 use Rattle.curve.specs.Weather.{adjusted_speed, adjusted_capacity, adjusted_breakpoint, curve_under}
 use Rattle.curve.specs.Speed.{fall_share_by, speed, shown_speed}
@@ -87,6 +83,7 @@ parts : (told (forecast_answer example wide) ≡ 0 ∷ 1 ∷ 1000 ∷ 0 ∷ 950 
 unfolding forecast_instances
 parts = let behind = instances-shown.1.1.1 in (behind.0, behind.1.1.0, behind.1.1.1.0)
 
+-- the eight figures of the printed line's road within three ranges
 pub wide-told : told (forecast_answer example wide) ≡ 0 ∷ 1 ∷ 1000 ∷ 0 ∷ 950 ∷ 6 ∷ 4000 ∷ 100 ∷ 850 ∷ []
 wide-told = parts.0
 

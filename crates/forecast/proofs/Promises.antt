@@ -1,13 +1,9 @@
 -- The promises of specs/Promises, proved. NoBetterUnderMoreLoad, demand 3's part 1, carries those about letters.
---   shown   the figures by the letters at the ends
---   every-letter-between, shown-at-the-ends, met-throughout, equal-ends, own-load-is-not-read, refusals-in-order,
---   accepted-exactly
 -- proofs/RefusedExactly has the last one.
--- Assumes nothing.
 use Rattle.std.proofs.Common.{◌≡◌, refl, sym, ap, ◌∙◌, T, cond, ⊎_elim, eq-zero-or-pos, List, [], ◌∷◌, ◌++◌, ℕ, arith, le_refl, le_trans}
 use Rattle.std.proofs.Common.{lt_of_not-le, le-ltb, get_or}
-use Rattle.checks.specs.Refusals.{Condition, first_refusal}
-use Rattle.checks.proofs.RefusalLaws.{numbered, first_refusal-none, first_refusal-some, lesser_refusal-same}
+use Rattle.refusals.specs.Refusals.{Condition, first_refusal}
+use Rattle.refusals.proofs.RefusalLaws.{numbered, first_refusal-none, first_refusal-some, lesser_refusal-same}
 use Rattle.road.specs.declared.Case.{Case}
 use Rattle.road.specs.Refusals.{road_refusals, section_refusals, load_refusals, weather_refusals, field_refusals}
 use Rattle.road.proofs.RefusalLaws.{load-numbered, loads-exactly}
@@ -37,6 +33,7 @@ unfolding road_refusals load_refusals speed_refusals range_refusals forecast_ref
 refusals-in-order case forecast = (forecast-number case forecast, refl)
 
 module _ (case : Case) (forecast : Forecast) (z : AcceptedForecast case forecast) where
+  -- the figures by the letters at the ends
   pub shown : values (forecast_answer case forecast)
       ≡ letter_in (answer_to (best_case case forecast)) ∷ forecast.demand.low ∷ forecast.heavy_share.low ∷ forecast.peak_hour_factor.high
       ∷ letter_in (answer_to (worst_case case forecast)) ∷ forecast.demand.high ∷ forecast.heavy_share.high ∷ forecast.peak_hour_factor.low ∷ []

@@ -1,15 +1,8 @@
 -- Refusals 22 and 7 to 9 of the ends of a forecast (specs/Forecasts range_refusals).
---   some-reversed, over-demand, unfit-factor, over-share   a range that 22 refuses; an end that 7, 8 or 9 refuses
---   none-reversed, demand-passes, factor-passes, share-passes   there is none, by the ends
---   range-numbered   every number is above 0
---   range-tests      the four tests, each with its number, stand for the list, whatever is asked behind it
---   range-exactly    a forecast that they let pass, by its ends
---   range-ends       where no range is reversed the number is the lesser of those at the two ends
--- Assumes nothing.
 use Rattle.std.proofs.Common.{◌≡◌, refl, sym, ap, ◌∙◌, Bool, true, false, cond, ◌||◌, true≢false, ◌↔◌, List, [], ◌∷◌, ◌++◌, ℕ, ◌≤◌}
 use Rattle.std.proofs.Common.{ltb-false, le-ltb, T, ltb}
-use Rattle.checks.specs.Refusals.{Condition, refuses, first_refusal, by_turns, lesser_refusal, outside}
-use Rattle.checks.proofs.RefusalLaws.{numbered, first_refusal-by_turns, none-met, none-of, within, inside}
+use Rattle.refusals.specs.Refusals.{Condition, refuses, first_refusal, by_turns, lesser_refusal, outside}
+use Rattle.refusals.proofs.RefusalLaws.{numbered, first_refusal-by_turns, none-met, none-of, within, inside}
 use Rattle.road.specs.declared.Case.{Case}
 use Rattle.road.specs.Refusals.{greatest_demand, load_refusals}
 use Rattle.forecast.specs.declared.Range.{Range}
@@ -37,6 +30,8 @@ none-above : (most : ℕ) (range : Range) → (either-above most range ≡ false
 none-above most range = neither _ _ (at-most most range.low) (at-most most range.high)
 
 module _ (forecast : Forecast) where
+  -- some-reversed, over-demand, unfit-factor, over-share: a range that 22 refuses; an end that 7, 8 or 9
+  -- refuses
   abbrev pub some-reversed : Bool
   some-reversed = reversed forecast.demand || (reversed forecast.heavy_share || reversed forecast.peak_hour_factor)
 
@@ -49,6 +44,7 @@ module _ (forecast : Forecast) where
   abbrev pub over-share : Bool
   over-share = either-above 1000 forecast.heavy_share
 
+  -- none-reversed, demand-passes, factor-passes, share-passes: there is none, by the ends
   pub none-reversed : (some-reversed ≡ false) ↔ Ordered forecast
   none-reversed =
       let r = neither (reversed forecast.demand) _ (at-most forecast.demand.high forecast.demand.low)
@@ -83,10 +79,12 @@ unfolding load_refusals
 loads-by_turns c d = first_refusal-by_turns (load_refusals c) (load_refusals d) tt
 
 module _ (case : Case) (forecast : Forecast) where
+  -- every number is above 0
   pub range-numbered : T (numbered (range_refusals case forecast))
   unfolding load_refusals range_refusals
   range-numbered = tt
 
+  -- the four tests, each with its number, stand for the list, whatever is asked behind it
   pub range-tests : (rest : List Condition)
       → first_refusal (range_refusals case forecast ++ rest)
       ≡ cond (some-reversed forecast) 22
@@ -104,6 +102,7 @@ module _ (case : Case) (forecast : Forecast) where
       (either (outside 250 1000 h.high) (outside 250 1000 h.low) 8 _
       ∙ ap (cond (unfit-factor forecast) 8) (either (ltb 1000 s.low) (ltb 1000 s.high) 9 (first_refusal rest))))
 
+  -- a forecast that they let pass, by its ends
   pub range-exactly : (first_refusal (range_refusals case forecast) ≡ 0)
       ↔ (Ordered forecast × DemandPasses forecast × FactorPasses forecast × SharePasses forecast)
   unfolding load_refusals range_refusals

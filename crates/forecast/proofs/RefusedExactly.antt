@@ -1,11 +1,9 @@
 -- Exactly when each number refuses a forecast (specs/Promises RefusedExactly), proved.
---   refused-exactly
--- Assumes nothing.
 use Rattle.std.proofs.Common.{◌≡◌, refl, sym, ◌∙◌, Bool, true, false, cond, true≢false, ◌↔◌, ⊎_elim, List, ◌∷◌, ◌++◌, ℕ, ◌≤◌, ◌<◌, arith}
 use Rattle.std.proofs.Common.{eq-zero-or-pos, T}
-use Rattle.checks.specs.Numbers.{refusal_number}
-use Rattle.checks.specs.Refusals.{Condition, refuses, first_refusal}
-use Rattle.checks.proofs.RefusalLaws.{numbered, first_refusal-none, first_refusal-some, up_to, first_refusal-le, at_least, first_refusal-ge}
+use Rattle.refusals.specs.Numbers.{refusal_number}
+use Rattle.refusals.specs.Refusals.{Condition, refuses, first_refusal}
+use Rattle.refusals.proofs.RefusalLaws.{numbered, first_refusal-none, first_refusal-some, up_to, first_refusal-le, at_least, first_refusal-ge}
 use Rattle.road.specs.declared.Case.{Case}
 use Rattle.road.specs.Refusals.{road_refusals, section_refusals, load_refusals, field_refusals, SectionFits}
 use Rattle.road.proofs.RefusalLaws.{section-numbered, load-numbered, loads-exactly}

@@ -1,30 +1,11 @@
 -- Forecasts known within ranges (document 02, T-07): a case whose own demand, heavy share and peak-hour factor are not read, and a low and
 -- a high end of each. Letter numbers: A is 1.
---   range_of low high               the range with these ends
---   forecast_of ..                  the forecast with these ends
---   combination_of ..               the combination of these numbers
---   Within range n                  n is from the low end to the high end
---   with_combination case combination   the case with a combination in the place of its own
---   every_within range p            every whole number within the ends passes p
---   every_combination forecast p    every whole combination within the ends passes p
---   some_combination forecast p     some whole combination within the ends passes p
---   best_letter, worst_letter case forecast   the best and the worst letter over all whole combinations within the ends, by number
---   letter_of n                     the letter of a number
---   best_combination, worst_combination forecast   the combinations that are shown with them
---   reversed range                  a range that 22 refuses
---   range_refusals case forecast    22, and 7 to 9 of both ends
---   forecast_refusals case forecast   1 to 6, these, 19 and 10
---   forecast_answer case forecast   the best letter and the worst, each with its combination, or the first that refuses
---   figure_count                    how many numbers an answer has
---   values a                        best letter, its demand, share and factor; worst letter, its demand, share and factor; of a refusal
---                                   no value
--- Assumes nothing.
-use Rattle.std.specs.Prelude.{ℕ, ◌≤◌, Bool, cond, not, ◌||◌, List, [], ◌∷◌, leb, ltb, Result, Ok, Err}
+use Rattle.std.specs.Prelude.{ℕ, ◌≤◌, Bool, if◌then◌else◌, not, ◌||◌, List, [], ◌∷◌, nat_le, nat_lt, Result, Ok, Err}
 use Rattle.numbers.specs.Search.{least}
 use Rattle.numbers.specs.Table.{every_up_to}
-use Rattle.checks.specs.declared.Refusal.{Refusal}
-use Rattle.checks.specs.Refusals.{Condition, refuses, first_refusal, by_turns}
-use Rattle.checks.specs.Numbers.{ok_unless}
+use Rattle.refusals.specs.declared.Refusal.{Refusal}
+use Rattle.refusals.specs.Refusals.{Condition, refuses, first_refusal, by_turns}
+use Rattle.refusals.specs.Numbers.{ok_unless}
 use Rattle.curve.specs.declared.service.Letter.{Letter}
 use Rattle.curve.specs.Service.{letter_number}
 use Rattle.road.specs.declared.Case.{Case}
@@ -37,9 +18,11 @@ use Rattle.forecast.specs.declared.Forecast.{Forecast}
 use Rattle.forecast.specs.declared.Combination.{Combination}
 use Rattle.forecast.specs.declared.Outcomes.{Outcomes}
 
+-- the range with these ends
 abbrev pub range_of : (low high : ℕ) → Range
 range_of low high = record { low = low; high = high }
 
+-- the forecast with these ends
 -- "Forecasters give demand, heavy share and peak factor each as a low and a high end"
 abbrev pub forecast_of : (demand_low demand_high share_low share_high factor_low factor_high : ℕ) → Forecast
 forecast_of demand_low demand_high share_low share_high factor_low factor_high =
@@ -49,30 +32,38 @@ forecast_of demand_low demand_high share_low share_high factor_low factor_high =
       peak_hour_factor = range_of factor_low factor_high;
     }
 
+-- the combination of these numbers
 abbrev pub combination_of : (demand share factor : ℕ) → Combination
 combination_of demand share factor = record { demand = demand; heavy_share = share; peak_hour_factor = factor }
 
+-- n is from the low end to the high end
 abbrev pub Within : Range → ℕ → Type 0
 Within range n = (range.low ≤ n) × (n ≤ range.high)
 
+-- the case with a combination in the place of its own
 abbrev pub with_combination : Case → Combination → Case
 with_combination case combination =
     loaded case.road case.lanes combination.demand combination.peak_hour_factor combination.heavy_share
     case.terrain case.weather
 
 -- ---- "over all whole combinations within the ends"
+-- every whole number within the ends passes p
 unfoldable pub every_within : Range → (ℕ → Bool) → Bool
-every_within range p = every_up_to (λ n. ltb n range.low || p n) range.high
+every_within range p = every_up_to (λ n. nat_lt n range.low || p n) range.high
 
+-- every whole combination within the ends passes p
 unfoldable pub every_combination : Forecast → (Combination → Bool) → Bool
 every_combination forecast p =
     every_within forecast.demand (λ demand.
     every_within forecast.heavy_share (λ share.
     every_within forecast.peak_hour_factor (λ factor. p (combination_of demand share factor))))
 
+-- some whole combination within the ends passes p
 unfoldable pub some_combination : Forecast → (Combination → Bool) → Bool
 some_combination forecast p = not (every_combination forecast (λ combination. not (p combination)))
 
+-- best_letter, worst_letter case forecast: the best and the worst letter over all whole combinations within
+-- the ends, by number
 -- "the best .. letter over all whole combinations within the ends": the least number, below 7, of a letter that some combination meets
 unfoldable pub best_letter : Case → Forecast → ℕ
 best_letter case forecast = least (λ n. some_combination forecast (λ combination. meets (with_combination case combination) n)) 7
@@ -81,11 +72,16 @@ best_letter case forecast = least (λ n. some_combination forecast (λ combinati
 unfoldable pub worst_letter : Case → Forecast → ℕ
 worst_letter case forecast = least (λ n. every_combination forecast (λ combination. meets (with_combination case combination) n)) 7
 
+-- the letter of a number
 unfoldable pub letter_of : ℕ → Letter
 letter_of n =
-    cond (leb n 1) Letter.A
-    (cond (leb n 2) Letter.B (cond (leb n 3) Letter.C (cond (leb n 4) Letter.D (cond (leb n 5) Letter.E Letter.F))))
+    if nat_le n 1 then Letter.A
+    else if nat_le n 2 then Letter.B
+    else if nat_le n 3 then Letter.C
+    else if nat_le n 4 then Letter.D
+    else if nat_le n 5 then Letter.E else Letter.F
 
+-- best_combination, worst_combination forecast: the combinations that are shown with them
 -- "the best is shown at low demand, low share and high peak factor, the worst at the opposite ends"
 abbrev pub best_combination : Forecast → Combination
 best_combination forecast =
@@ -95,10 +91,12 @@ abbrev pub worst_combination : Forecast → Combination
 worst_combination forecast =
     combination_of forecast.demand.high forecast.heavy_share.high forecast.peak_hour_factor.low
 
+-- a range that 22 refuses
 -- "a low end above its high end"
 abbrev pub reversed : Range → Bool
-reversed range = ltb range.high range.low
+reversed range = nat_lt range.high range.low
 
+-- 22, and 7 to 9 of both ends
 -- "22 .. before 7", "Checks 7 to 9 hold for both ends": each of them looks at both ends before the next is asked
 unfoldable pub range_refusals : Case → Forecast → List Condition
 range_refusals case forecast =
@@ -108,9 +106,11 @@ range_refusals case forecast =
     ∷ by_turns (load_refusals (with_combination case (best_combination forecast)))
     (load_refusals (with_combination case (worst_combination forecast)))
 
+-- 1 to 6, these, 19 and 10
 unfoldable pub forecast_refusals : Case → Forecast → List Condition
 forecast_refusals case forecast = refusals_with (range_refusals case forecast) case
 
+-- the best letter and the worst, each with its combination, or the first that refuses
 -- "Answer the best and the worst letter .., and a combination that gets each"
 abbrev pub forecast_answer : Case → Forecast → Result Outcomes Refusal
 forecast_answer case forecast =
@@ -120,10 +120,13 @@ forecast_answer case forecast =
       worst = record { letter = letter_of (worst_letter case forecast); combination = worst_combination forecast };
     })
 
+-- how many numbers an answer has
 -- two letters, each with a combination
 abbrev pub figure_count : ℕ
 figure_count = 8
 
+-- best letter, its demand, share and factor; worst letter, its demand, share and factor; of a refusal no
+-- value
 abbrev pub values : Result Outcomes Refusal → List ℕ
 values (Ok o) =
     letter_number o.best.letter ∷ o.best.combination.demand ∷ o.best.combination.heavy_share ∷ o.best.combination.peak_hour_factor

@@ -1,24 +1,8 @@
 -- Instances of the promises, with every hypothesis met; proofs/Computed and proofs/Instances show them.
---   told a           the number of an answer's refusal, 0 for none, and its values
---   letters_of case forecast   the best and the worst letter
---   numbers_of case forecasts   the numbers of the refusals of a case with some forecasts, 0 for none
---   level_freeway     F G 75000 120 60 60 D 0 2 V H P L
---   narrow            F G 75000 99 60 60 D 0 2 V H P L, which 2 refuses
---   ten_lanes         F G 75000 120 60 60 D 0 10 V H P L, which 6 refuses
---   slow              F G 54999 120 60 60 D 0 2 V H P L, which 10 refuses
---   fit               a forecast that 22 and 7 to 9 let pass, at the ends that they leave
---   reversed_thrice   one that reverses all three ranges
---   farthest          all six numbers at 2^64 - 1
---   wide              demand 1,000 to 4,000, share 0 to 100, factor 850 to 950
---   LetterBetween     the printed line's road within these: A at best, F at worst, and C with a demand of 2,000, a share of 50 and a factor
---                     of 920
---   TargetKept, TargetMissed   on the same road C is met with every demand from 0 to 2,642, and with none from 2,643 to 4,000
---   computed_instances, refusal_instances, forecast_instances   what is worked out, and what is to be shown
--- Assumes nothing.
 use Rattle.std.specs.Prelude.{◌≡◌, List, [], ◌∷◌, map, ℕ, ◌≤◌, Result}
-use Rattle.checks.specs.declared.Refusal.{Refusal}
-use Rattle.checks.specs.Numbers.{refusal_number}
-use Rattle.checks.specs.Figures.{Figure, figure}
+use Rattle.refusals.specs.declared.Refusal.{Refusal}
+use Rattle.refusals.specs.Numbers.{refusal_number}
+use Rattle.refusals.specs.Figures.{Figure, figure}
 use Rattle.curve.specs.declared.kind.Kind.TheVariants as Kind
 use Rattle.road.specs.declared.Case.{Case}
 use Rattle.road.specs.Cases.{with_lanes}
@@ -32,39 +16,52 @@ use Rattle.forecast.specs.declared.Outcomes.{Outcomes}
 use Rattle.forecast.specs.Forecasts.{forecast_of, best_letter, worst_letter, forecast_answer, values}
 use Rattle.forecast.specs.Promises.{best_letter_in, worst_letter_in, case_with, EveryInside}
 
+-- the number of an answer's refusal, 0 for none, and its values
 abbrev pub told : Result Outcomes Refusal → List ℕ
 told a = refusal_number a ∷ values a
 
+-- the best and the worst letter
 abbrev pub letters_of : Case → Forecast → List ℕ
 letters_of case forecast = best_letter case forecast ∷ worst_letter case forecast ∷ []
 
+-- the numbers of the refusals of a case with some forecasts, 0 for none
 abbrev pub numbers_of : Case → List Forecast → List ℕ
 numbers_of case forecasts = map (λ forecast. refusal_number (forecast_answer case forecast)) forecasts
 
+-- F G 75000 120 60 60 D 0 2 V H P L
 abbrev pub level_freeway : Case
 level_freeway = two_lanes (given Kind.Freeway 75000 120) 0
 
+-- F G 75000 99 60 60 D 0 2 V H P L, which 2 refuses
 abbrev pub narrow : Case
 narrow = two_lanes (given Kind.Freeway 75000 99) 0
 
+-- F G 75000 120 60 60 D 0 10 V H P L, which 6 refuses
 abbrev pub ten_lanes : Case
 ten_lanes = with_lanes level_freeway 10
 
+-- F G 54999 120 60 60 D 0 2 V H P L, which 10 refuses
 abbrev pub slow : Case
 slow = two_lanes (given Kind.Freeway 54999 120) 0
 
+-- a forecast that 22 and 7 to 9 let pass, at the ends that they leave
 abbrev pub fit : Forecast
 fit = forecast_of 0 999999 0 1000 250 1000
 
+-- one that reverses all three ranges
 abbrev pub reversed_thrice : Forecast
 reversed_thrice = forecast_of 2 1 2 1 2 1
 
+-- all six numbers at 2^64 - 1
 abbrev pub farthest : Forecast
 farthest = let n : ℕ = 18446744073709551615 in forecast_of n n n n n n
 
+-- demand 1,000 to 4,000, share 0 to 100, factor 850 to 950
 abbrev pub wide : Forecast
 wide = forecast_of 1000 4000 0 100 850 950
 
+-- the printed line's road within these: A at best, F at worst, and C with a demand of 2,000, a share of 50
+-- and a factor of 920
 abbrev pub LetterBetween : Type 0
 LetterBetween =
     let answer = forecast_answer example wide in
@@ -72,6 +69,8 @@ LetterBetween =
     (best_letter_in answer ≡ 1) × (inside ≡ 3) × (worst_letter_in answer ≡ 6)
     × (best_letter_in answer ≤ inside) × (inside ≤ worst_letter_in answer)
 
+-- TargetKept, TargetMissed: on the same road C is met with every demand from 0 to 2,642, and with none from
+-- 2,643 to 4,000
 abbrev pub TargetKept : Type 0
 TargetKept = EveryInside (forecast_of 0 2642 50 50 920 920) (λ demand share factor. Meets (case_with example demand share factor) 3)
 
@@ -79,6 +78,7 @@ abbrev pub TargetMissed : Type 0
 TargetMissed =
     EveryInside (forecast_of 2643 4000 50 50 920 920) (λ demand share factor. Meets (case_with example demand share factor) 3 → ⊥)
 
+-- computed_instances, refusal_instances, forecast_instances: what is worked out, and what is to be shown
 -- The definitions themselves, with no law: a demand of 1,650 to 1,652, a share of 0 to 1 and a factor of 999 to 1,000 get A at best and B
 -- at worst; 1,650 with 0 and 1,000, a flow rate of 825, the last of A, gets A, and so does 825 with heavy vehicles only, as the terrain is
 -- level; 1,652 with 1 and 999 gets B.

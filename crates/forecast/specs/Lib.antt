@@ -1,9 +1,9 @@
 -- Forecasts known within ranges.
---   Forecasts   the best and the worst letter within the ends, refusal 22, the answer
---   Ends        the letter at one combination, which the code looks at
---   Promises    what a reader of an answer is promised
---   Instances   instances of the promises
+-- the best and the worst letter within the ends, refusal 22, the answer
 pub mod Forecasts
+-- the letter at one combination, which the code looks at
 pub mod Ends
+-- what a reader of an answer is promised
 pub mod Promises
+-- instances of the promises
 pub mod Instances

@@ -1,29 +1,9 @@
 -- What a reader of an answer is promised (document 02, T-07), over the definitions that the contract of `evaluate_forecast` cites and the
 -- engine's own; proofs/Promises proves each but the last, and proofs/RefusedExactly that.
---   AcceptedForecast case forecast   nothing refuses the case with the forecast
---   best_letter_in a, worst_letter_in a   the numbers of the two letters in an answer
---   case_with case demand share factor   the case with these three in the place of its own, all other fields kept
---   EveryInside forecast P       P holds of every whole combination within the ends
---   EveryLetterBetween           every whole combination within the ends is accepted, and its letter is no better than the best and no
---                                worse than the worst
---   ShownAtTheEnds               the eight figures: the engine's letters at the two ends, each with its combination
---   MetThroughout                a letter is met by every combination exactly when the worst meets it, and by none exactly when the best
---                                does not
---   own_ends case                the case's own demand, share and factor as both ends
---   EqualEnds                    equal ends give the plain letter twice, or the refusal of the plain case
---   OwnLoadIsNotRead             cases that agree in road, lanes, terrain and weather get one answer
---   Ordered forecast             no low end is above its high end
---   BothAtMost most range        no end is above a number
---   DemandPasses, FactorPasses, SharePasses forecast   what 7, 8 and 9 let pass
---   AcceptedExactly              accepted exactly when no range is reversed and every whole combination within the ends is accepted
---   RefusalsInOrder              the list has these numbers, in this order
---   RefusedExactly               1 to 6 as the engine has them, whatever the ends; then 22 exactly by a reversed range; then 7, 8 and 9
---                                each exactly by an end; then 19 and 10 as the engine has them
--- Assumes nothing.
 use Rattle.std.specs.Prelude.{◌≡◌, ◌↔◌, [], ◌∷◌, map, ℕ, ◌≤◌, ◌<◌, get_or, Result}
-use Rattle.checks.specs.declared.Refusal.{Refusal}
-use Rattle.checks.specs.Refusals.{first_refusal}
-use Rattle.checks.specs.Numbers.{refusal_number}
+use Rattle.refusals.specs.declared.Refusal.{Refusal}
+use Rattle.refusals.specs.Refusals.{first_refusal}
+use Rattle.refusals.specs.Numbers.{refusal_number}
 use Rattle.road.specs.declared.Case.{Case}
 use Rattle.road.specs.Cases.{loaded}
 use Rattle.road.specs.Refusals.{greatest_demand, SectionFits}
@@ -35,9 +15,11 @@ use Rattle.forecast.specs.declared.Forecast.{Forecast}
 use Rattle.forecast.specs.declared.Outcomes.{Outcomes}
 use Rattle.forecast.specs.Forecasts.{forecast_of, Within, forecast_refusals, forecast_answer, values}
 
+-- nothing refuses the case with the forecast
 abbrev pub AcceptedForecast : Case → Forecast → Type 0
 AcceptedForecast case forecast = refusal_number (forecast_answer case forecast) ≡ 0
 
+-- best_letter_in a, worst_letter_in a: the numbers of the two letters in an answer
 -- of the eight figures the first is the best letter, and the fifth the worst
 abbrev pub best_letter_in : Result Outcomes Refusal → ℕ
 best_letter_in answer = get_or (values answer) 0 0
@@ -45,16 +27,20 @@ best_letter_in answer = get_or (values answer) 0 0
 abbrev pub worst_letter_in : Result Outcomes Refusal → ℕ
 worst_letter_in answer = get_or (values answer) 4 0
 
+-- the case with these three in the place of its own, all other fields kept
 -- from the fields, and not by this crate's own with_combination
 abbrev pub case_with : Case → (demand share factor : ℕ) → Case
 case_with case demand share factor = loaded case.road case.lanes demand factor share case.terrain case.weather
 
+-- P holds of every whole combination within the ends
 -- what holds of every whole combination within the ends
 abbrev pub EveryInside : Forecast → ((demand share factor : ℕ) → Type 0) → Type 0
 EveryInside forecast P =
     (demand share factor : ℕ) → Within forecast.demand demand → Within forecast.heavy_share share
     → Within forecast.peak_hour_factor factor → P demand share factor
 
+-- every whole combination within the ends is accepted, and its letter is no better than the best and no worse
+-- than the worst
 abbrev pub EveryLetterBetween : Type 0
 EveryLetterBetween =
     (case : Case) (forecast : Forecast) → AcceptedForecast case forecast
@@ -64,6 +50,7 @@ EveryLetterBetween =
     × (best_letter_in (forecast_answer case forecast) ≤ letter_in (answer_to inside))
     × (letter_in (answer_to inside) ≤ worst_letter_in (forecast_answer case forecast)))
 
+-- the eight figures: the engine's letters at the two ends, each with its combination
 abbrev pub ShownAtTheEnds : Type 0
 ShownAtTheEnds =
     (case : Case) (demand_low demand_high share_low share_high factor_low factor_high : ℕ)
@@ -74,6 +61,8 @@ ShownAtTheEnds =
     ∷ letter_in (answer_to (case_with case demand_high share_high factor_low)) ∷ demand_high ∷ share_high ∷ factor_low
     ∷ []
 
+-- a letter is met by every combination exactly when the worst meets it, and by none exactly when the best
+-- does not
 -- The planner's corollary: the two letters tell of a target, A to E, whether it is kept whatever comes, and whether it is missed whatever
 -- comes.
 abbrev pub MetThroughout : Type 0
@@ -84,11 +73,13 @@ MetThroughout =
     × ((n < best_letter_in (forecast_answer case forecast)) ↔ EveryInside forecast (λ demand share factor.
     Meets (case_with case demand share factor) n → ⊥))
 
+-- the case's own demand, share and factor as both ends
 abbrev pub own_ends : Case → Forecast
 own_ends case =
     forecast_of case.demand case.demand case.heavy_share case.heavy_share case.peak_hour_factor
     case.peak_hour_factor
 
+-- equal ends give the plain letter twice, or the refusal of the plain case
 -- "Equal ends give the plain letter twice": of the case itself, which by OwnLoadIsNotRead may carry any load
 abbrev pub EqualEnds : Type 0
 EqualEnds =
@@ -101,23 +92,27 @@ EqualEnds =
     ≡ letter ∷ case.demand ∷ case.heavy_share ∷ case.peak_hour_factor
     ∷ letter ∷ case.demand ∷ case.heavy_share ∷ case.peak_hour_factor ∷ [])
 
+-- cases that agree in road, lanes, terrain and weather get one answer
 abbrev pub OwnLoadIsNotRead : Type 0
 OwnLoadIsNotRead =
     (c d : Case) → c.road ≡ d.road → c.lanes ≡ d.lanes → c.terrain ≡ d.terrain → c.weather ≡ d.weather
     → (forecast : Forecast) → forecast_answer c forecast ≡ forecast_answer d forecast
 
+-- no low end is above its high end
 abbrev pub Ordered : Forecast → Type 0
 Ordered forecast =
     (forecast.demand.low ≤ forecast.demand.high)
     × (forecast.heavy_share.low ≤ forecast.heavy_share.high)
     × (forecast.peak_hour_factor.low ≤ forecast.peak_hour_factor.high)
 
+-- accepted exactly when no range is reversed and every whole combination within the ends is accepted
 abbrev pub AcceptedExactly : Type 0
 AcceptedExactly =
     (case : Case) (forecast : Forecast)
     → AcceptedForecast case forecast
     ↔ (Ordered forecast × EveryInside forecast (λ demand share factor. Accepted (case_with case demand share factor)))
 
+-- the list has these numbers, in this order
 -- 22 for each range, 7 to 9 for each end, and 10 before the weather's factor and after it
 abbrev pub RefusalsInOrder : Type 0
 RefusalsInOrder =
@@ -127,9 +122,11 @@ RefusalsInOrder =
     ≡ 1 ∷ 2 ∷ 3 ∷ 4 ∷ 5 ∷ 6 ∷ 22 ∷ 22 ∷ 22 ∷ 7 ∷ 7 ∷ 8 ∷ 8 ∷ 9 ∷ 9 ∷ 19 ∷ 10 ∷ 10 ∷ [])
 
 -- no end is above a number
+-- no end is above a number
 abbrev pub BothAtMost : ℕ → Range → Type 0
 BothAtMost most range = (range.low ≤ most) × (range.high ≤ most)
 
+-- DemandPasses, FactorPasses, SharePasses forecast: what 7, 8 and 9 let pass
 -- "Checks 7 to 9 hold for both ends"
 abbrev pub DemandPasses : Forecast → Type 0
 DemandPasses forecast = BothAtMost greatest_demand forecast.demand
@@ -141,6 +138,8 @@ FactorPasses forecast =
 abbrev pub SharePasses : Forecast → Type 0
 SharePasses forecast = BothAtMost 1000 forecast.heavy_share
 
+-- 1 to 6 as the engine has them, whatever the ends; then 22 exactly by a reversed range; then 7, 8 and 9 each
+-- exactly by an end; then 19 and 10 as the engine has them
 abbrev pub RefusedExactly : Type 0
 RefusedExactly =
     (case : Case) (forecast : Forecast)

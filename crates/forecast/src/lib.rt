@@ -1,24 +1,17 @@
-// Forecast: the best and the worst letter of a case whose demand, heavy share and peak-hour factor are known within ranges.
-//   FIGURES           how many numbers an answer has
-//   Range             a low and a high end
-//   Forecast          the ranges of demand, heavy share and peak-hour factor
-//   Combination       one number of each
-//   Outcome           a letter, and a combination that gets it
-//   Outcomes          the best outcome and the worst; values: their eight figures, the letter by its number; put_figures: these at the
-//                     start of lent numbers
-//   evaluate_forecast   for any case and any forecast, or its refusal
+//! Forecast: the best and the worst letter of a case whose demand, heavy share and peak-hour factor are known within ranges.
+
 #![tactic(auto)]
 
 ghost use Rattle.std.specs.Prelude.{◌≡◌, ◌≤◌, length};
-ghost use Rattle.checks.specs.Refusals.{first_refusal};
-ghost use Rattle.checks.specs.Numbers.{refusal_number};
+ghost use Rattle.refusals.specs.Refusals.{first_refusal};
+ghost use Rattle.refusals.specs.Numbers.{refusal_number};
 ghost use Rattle.text.specs.Buffer.{Wrote};
 ghost use Rattle.method.specs.Checked.{checked};
 ghost use Rattle.forecast.specs.Forecasts.{with_combination, reversed, best_combination, worst_combination, range_refusals};
 ghost use Rattle.forecast.specs.Forecasts.{forecast_answer, figure_count, values};
 ghost use Rattle.forecast.specs.Ends.{outcome_of};
 
-use checks::Refusal;
+use refusals::Refusal;
 use curve::Curve;
 use curve::service::Letter;
 use method::assess::AcceptedCase;
@@ -26,23 +19,27 @@ use method::checked;
 use road::Case;
 use text::buffer;
 
+/// How many numbers an answer has.
 pub const FIGURES: usize = 8;
 
+/// A low and a high end.
 #[derive(Clone, Copy, PartialEq, Eq)]
 pub struct Range {
     pub low: u64,
     pub high: u64,
 }
 
+/// The ranges of demand, heavy share and peak-hour factor.
 #[derive(Clone, Copy, PartialEq, Eq)]
 pub struct Forecast {
     pub demand: Range,
-    // thousandths
+    /// thousandths
     pub heavy_share: Range,
-    // thousandths
+    /// thousandths
     pub peak_hour_factor: Range,
 }
 
+/// One number of each.
 #[derive(Clone, Copy, PartialEq, Eq)]
 pub struct Combination {
     pub demand: u64,
@@ -50,12 +47,14 @@ pub struct Combination {
     pub peak_hour_factor: u64,
 }
 
+/// A letter, and a combination that gets it.
 #[derive(Clone, Copy, PartialEq, Eq)]
 pub struct Outcome {
     pub letter: Letter,
     pub combination: Combination,
 }
 
+/// The best outcome and the worst; values: their eight figures, the letter by its number; put_figures: these at the start of lent numbers.
 #[derive(Clone, Copy, PartialEq, Eq)]
 pub struct Outcomes {
     pub best: Outcome,
@@ -102,7 +101,7 @@ impl Forecast {
         }
     }
 
-    // 22, then 7 to 9, each of both ends before the next.
+    /// 22, then 7 to 9, each of both ends before the next.
     #[tactic(auto, unfolding(crate::specs::Forecasts::range_refusals))]
     fn check_ranges(self, case: Case) -> Result<(), Refusal>
         ensures { refusal_number result ≡ first_refusal (range_refusals case self) }
@@ -115,12 +114,12 @@ impl Forecast {
         }
         let best = with_combination(case, self.best()).check_load();
         let worst = with_combination(case, self.worst()).check_load();
-        checks::lesser_refusal(best, worst)
+        refusals::lesser_refusal(best, worst)
     }
 }
 
 impl Outcome {
-    // From the curve of the case, which no combination changes.
+    /// From the curve of the case, which no combination changes.
     fn new(case: Case, combination: Combination, curve: Curve) -> Outcome
         requires { checked (with_combination case combination) ≡ Ok curve }
         ensures { result ≡ outcome_of case combination }
@@ -158,7 +157,7 @@ impl Outcomes {
     }
 }
 
-// Two combinations are looked at: what the engine promises of more load carries over to all within the ends.
+/// Two combinations are looked at: what the engine promises of more load carries over to all within the ends.
 #[tactic(auto, using(crate::proofs::ForecastLaws::checked_ends))]
 pub fn evaluate_forecast(case: Case, forecast: Forecast) -> Result<Outcomes, Refusal>
     ensures { result ≡ forecast_answer case forecast }

@@ -1,12 +1,4 @@
 -- A number read digit by digit (specs/Fields, specs/Places).
---   fits-more               a number of i digits with one digit more
---   room-for-more           64 bits hold it, up to 19 digits
---   DigitsRead bs i n       the first i bytes of bs are digits of its first field, and spell n
---   read-more               one digit more is read
---   read-stops              a byte that is no digit follows, or a digit too many: malformed
---   counts-all              no byte of the field follows: it has the digits that were read
---   read-all                then it is the number, unless there is no digit or a leading zero
--- Assumes nothing.
 use Rattle.std.proofs.Common.{◌≡◌, ℕ, suc, ◌+◌, ◌-◌, ◌*◌, ◌^◌, ◌≤◌, ◌<◌, Bool, true, false, cond, ◌||◌, ◌⊎◌, Some, None}
 use Rattle.std.proofs.Common.{List, [], ◌∷◌, length, get_or, take, drop, eqb, sym, ◌∙◌, arith, add-one, pow-suc, drop-cons}
 use Rattle.std.proofs.Common.{ne_eqb, eq-eqb, length-take-le, drop_of_length-le, ⊎_elim, eq-or-lt_of_le}
@@ -18,12 +10,15 @@ use Rattle.text.proofs.PartsLaws.{count_before-le}
 use Rattle.lines.specs.Fields.{digits, digit, spelled, leading_zero, number, field_as}
 use Rattle.lines.specs.Places.{first_field}
 
+-- a number of i digits with one digit more
 pub fits-more : (n d i : ℕ) → n < 10 ^ i → d ≤ 9 → 10 * n + d < 10 ^ (i + 1)
 fits-more n d i h k = rw (add-one i) (omega (arith, pow-suc 10 i))
 
+-- 64 bits hold it, up to 19 digits
 pub room-for-more : (n i : ℕ) → n < 10 ^ i → i < 19 → 10 * n + 9 < 2 ^ 64
 room-for-more n i h l = omega (arith, pow-le-pow_right {n = 10} (omega arith) {i = i} {j = 18} (omega arith))
 
+-- the first i bytes of bs are digits of its first field, and spell n
 pub record DigitsRead (bs : List ℕ) (i n : ℕ) : Type 0 where
   pub same-field : i + count_before tab (drop i bs) ≡ count_before tab bs
   pub spells : spelled 0 (first_field bs) ≡ spelled n (first_field (drop i bs))
@@ -43,6 +38,7 @@ module _ (bs : List ℕ) (i n : ℕ) (r : DigitsRead bs i n) where
     next : first_field (drop i bs) ≡ get_or bs i 0 ∷ first_field (drop (i + 1) bs)
     next = rw (counted, add-one i, drop-cons bs i 0 h)
 
+    -- one digit more is read
     pub read-more : digit (get_or bs i 0) ≡ true → DigitsRead bs (i + 1) (10 * n + (get_or bs i 0 - 48))
     unfolding spelled
     read-more d = record { same-field = omega (arith, r.same-field, counted); spells = r.spells ∙ rw (next, d) }
@@ -65,9 +61,11 @@ module _ (bs : List ℕ) (i n : ℕ) (r : DigitsRead bs i n) where
         ⊎_elim (λ e. rw (drop_of_length-le bs {i = i} (omega arith))) (λ l. rw (drop-cons bs i 0 l, eq-eqb (get_or bs i 0) tab (t l)))
         (eq-or-lt_of_le h)
 
+    -- no byte of the field follows: it has the digits that were read
     pub counts-all : count_before tab bs ≡ i
     counts-all = omega (arith, r.same-field, uncounted)
 
+    -- then it is the number, unless there is no digit or a leading zero
     pub read-all : (k : ℕ) → i ≤ k
         → field_as (digits k) (first_field bs) ≡ cond (eqb (length (take i bs)) 0 || leading_zero (take i bs)) None (Some n)
     unfolding spelled field_as

@@ -1,15 +1,4 @@
 -- The fields of a line, read in turn (specs/Fields, specs/Places).
---   lone, not-lone     when the first field is one byte
---   reads-none, reads, none-left   the first field is malformed; it has a value or none; no field is left
---   last, not-last     what is left behind the first field, where no tab follows and where one does
---   letter-read, letter-none   a field of one byte, and another
---   both               the values of some fields before those of the fields after them
---   more, stop         fields read, and what was read of those after them; fields not read
---   line-read, too-many   a line by what was read of it; a field too many
---   line_laws          what read_line rests on
---   some-left          where a field is left, no weather is taken as clear
---   short, long        the first 13 fields are not read; they are, and then the weather
--- Assumes nothing.
 use Rattle.std.proofs.Common.{◌≡◌, ℕ, suc, ◌+◌, ◌-◌, ◌≤◌, ◌<◌, Option, Some, None, IfSome, List, [], ◌∷◌, ◌++◌}
 use Rattle.std.proofs.Common.{length, take, drop, get_or, refl, sym, ap, ◌∙◌, arith, length-append, length-take-le, drop-drop, append-nil, take-take}
 use Rattle.std.proofs.Common.{⊎_elim, eq-or-lt_of_le, take_all, eq-eqb, ne_eqb, length-take}
@@ -48,6 +37,7 @@ first-part bs =
     (eq-or-lt_of_le (count_before-le tab bs))
 
 module _ (f : Field) (bs : List ℕ) (qs : List (List ℕ)) where
+  -- reads-none, reads, none-left: the first field is malformed; it has a value or none; no field is left
   pub reads-none : field_as f (first_field bs) ≡ None → ReadsOne f None (parts tab bs) qs
   unfolding values_of
   reads-none e = record { values = rw (first-part bs, e); rest = tt }
@@ -61,6 +51,7 @@ pub none-left : (f : Field) (qs : List (List ℕ)) → ReadsOne f None [] qs
 unfolding values_of
 none-left f qs = record { values = refl; rest = tt }
 
+-- last, not-last: what is left behind the first field, where no tab follows and where one does
 pub last : (bs : List ℕ) → count_before tab bs ≡ length bs → [] ≡ drop 1 (parts tab bs)
 last bs e = rw (parts-one tab bs e)
 
@@ -71,6 +62,7 @@ not-last bs n i e c h =
     let next : suc n ≡ i = omega arith in
     rw (take_rest bs i, parts-more tab bs more, c, next)
 
+-- letter-read, letter-none: a field of one byte, and another
 pub letter-read : (ls bs : List ℕ) (v : Option ℕ) (qs : List (List ℕ)) → count_before tab bs ≡ 1 → v ≡ letter_among ls (get_or bs 0 0)
     → qs ≡ drop 1 (parts tab bs) → ReadsOne (letters ls) v (parts tab bs) qs
 unfolding count_before letter field_as
@@ -113,6 +105,7 @@ first-parted fs gs ps =
     let less : length fs ≤ length fs + length gs = omega arith in
     rw (parted fs gs (take (length (fs ++ gs)) ps), length-append fs gs, drop-take, take-take)
 
+-- more, stop: fields read, and what was read of those after them; fields not read
 pub more : {fs gs : List Field} {vs : List ℕ} {o : Option (List ℕ)} {ps qs rs : List (List ℕ)}
     → Reads fs (Some vs) ps qs → Reads gs o qs rs → Reads (fs ++ gs) (both (Some vs) o) ps rs
 more {fs} {gs} {vs} {o} {ps} {qs} {rs} a b =
@@ -134,6 +127,7 @@ all-read : (fs : List Field) (o : Option (List ℕ)) (ps qs : List (List ℕ)) �
 all-read fs None ps qs a = rw append-nil at (parted fs [] ps) ∙ rw (sym a.values)
 all-read fs (Some vs) ps qs a = rw append-nil at (parted fs [] ps) ∙ rw (sym a.values, sym a.rest)
 
+-- line-read, too-many: a line by what was read of it; a field too many
 pub line-read : (bs : List ℕ) (o : Option (List ℕ)) (qs : List (List ℕ)) → Reads layout o (completed (parts tab bs)) qs
     → read_line bs ≡ read_values (both o (values_of [] qs))
 line-read bs o qs a = length-never-decides-alone bs ∙ ap read_values (all-read layout o _ qs a)
@@ -142,6 +136,7 @@ pub too-many : (bs : List ℕ) → values_of [] (parts tab bs) ≡ None
 unfolding values_of
 too-many bs = ⊎_elim (λ e. rw (parts-one tab bs e)) (λ l. rw (parts-more tab bs l)) (eq-or-lt_of_le (count_before-le tab bs))
 
+-- what read_line rests on
 pub ruleset line_laws = (line-read, too-many, case_of-values, read_line-long)
 
 -- ---- a line of 13 fields
@@ -163,9 +158,11 @@ completed-reads fs e (Some vs) ps qs a =
       rest = rw (a.rest, e) (behind-front ps (omega (arith, n, length-take (length fs) ps)));
     }
 
+-- where a field is left, no weather is taken as clear
 pub some-left : (o : Option (Bor (List ℕ))) (bs : Bor (List ℕ)) → o ≡ Some bs → or_clear (parts_left o) ≡ parts_left o
 some-left o bs e = rw e (rw (ne_eqb (length (parts tab bs.now)) 0 (λ z. absurd (omega (arith, parts-pos tab bs.now)))))
 
+-- short, long: the first 13 fields are not read; they are, and then the weather
 pub short : {ps qs : List (List ℕ)} → Reads (take 13 layout) None ps qs → Reads layout None (completed ps) qs
 unfolding layout
 short {ps} {qs} a = stop (drop 13 layout) (completed-reads (take 13 layout) refl None ps qs a)

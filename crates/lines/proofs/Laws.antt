@@ -1,9 +1,4 @@
 -- The laws of specs/Laws, proved.
---   FieldFits, Fits   what the value of a field is; values that fit some fields
---   values_of-fits    the values of well-formed parts fit their fields
---   length-never-decides-alone, well-formed-lines-are-short, clear-weather-may-be-left-out, other-counts-are-malformed,
---   values-are-the-fields, demand-on-a-line, refusal-has-its-number, five-digits-read-as-before, older-reader-refuses-more
--- Assumes nothing.
 use Rattle.std.proofs.Common.{◌≡◌, ℕ, zero, suc, ◌+◌, ◌-◌, ◌*◌, ◌^◌, ◌≤◌, ◌<◌, true, cond, Option, Some, None}
 use Rattle.std.proofs.Common.{Ok, Err, List, [], ◌∷◌, ◌++◌, eqb, ltb, length, drop, get_or, set, refl, sym, ap, ◌∙◌, subst, arith}
 use Rattle.std.proofs.Common.{lt_of_lt_of_le, drop_of_length-le, drop-cons, ne_eqb, le-ltb, add-zero}
@@ -13,7 +8,7 @@ use Rattle.numbers.proofs.BoolLaws.{cond-all}
 use Rattle.text.specs.Bytes.{bytes_of, tab}
 use Rattle.text.specs.Parts.{parts, on_first}
 use Rattle.text.proofs.PartsLaws.{parts-append, spread, parts-spread}
-use Rattle.checks.specs.declared.Refusal.{Refusal}
+use Rattle.refusals.specs.declared.Refusal.{Refusal}
 use Rattle.road.specs.declared.Case.{Case}
 use Rattle.lines.specs.Fields.{Field, letters, digits, layout, clear_factors, completed, spelled, number, one_of}
 use Rattle.lines.specs.Fields.{letter, field_as, joined, values_of}
@@ -25,6 +20,7 @@ use Rattle.lines.specs.Laws.{older_layout, FiveDigitsReadAsBefore, OlderReaderRe
 use Rattle.lines.proofs.DigitsLaws.{fits-more}
 
 -- ---- the value of one field
+-- FieldFits, Fits: what the value of a field is; values that fit some fields
 abbrev pub FieldFits : Field → ℕ → Type 0
 FieldFits (letters ls) v = one_of v ls ≡ true
 FieldFits (digits k) v = v < 10 ^ k
@@ -88,6 +84,7 @@ by-fields P base step (f ∷ fs) (p ∷ ps) vs e =
     go (Some v) None h k j r = cc
     go (Some v) (Some ws) h k j r = let w : v ∷ ws ≡ vs = cc j in subst (P (f ∷ fs) (p ∷ ps)) w (step f p v fs ps ws h (r ws k))
 
+-- the values of well-formed parts fit their fields
 pub values_of-fits : (fs : List Field) (ps : List (List ℕ)) (vs : List ℕ) → values_of fs ps ≡ Some vs → Fits fs vs
 values_of-fits =
     by-fields (λ fs ps vs. Fits fs vs) (refl, λ i l. absurd (omega arith))

@@ -1,9 +1,9 @@
 -- The laws of the definitions in specs/.
---   DigitsLaws    a number read digit by digit
---   FieldsLaws    the fields of a line, read in turn
---   ReadingLaws   a line as a case or its refusal
---   Laws          the laws that specs/Laws states
+-- a number read digit by digit
 pub mod DigitsLaws
+-- the fields of a line, read in turn
 pub mod FieldsLaws
+-- a line as a case or its refusal
 pub mod ReadingLaws
+-- the laws that specs/Laws states
 pub mod Laws

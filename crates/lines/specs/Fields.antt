@@ -1,30 +1,18 @@
 -- The fields of a line (document 01, "Lines", and document 02, T-03 and T-09).
---   Field              one of some letters, or a number with at most so many digits
---   layout             the 15 fields
---   clear_factors      the last two fields of a line that has 13
---   completed ps       the parts ps of a line, with these where they are 13
---   digit b            the byte b is a decimal digit
---   spelled n bs       the number that the digits bs spell, read on from n
---   leading_zero bs    bs begins with the digit 0 and has more than that
---   number k bs        the number of one to k digits that bs is
---   one_of b ls        b is one of ls
---   letter ls bs       the letter, one of ls, that bs is
---   field_as f bs      the value that bs has as field f, none where it is malformed
---   joined v vs        a field's value before those of the fields after it
---   values_of fs ps    the values of the parts ps as the fields fs, where there is a part for each and all are well formed
 -- A letter's value is its byte.
--- Assumes nothing.
-use Rattle.std.specs.Prelude.{ℕ, ◌+◌, ◌-◌, ◌*◌, Bool, cond, ◌&&◌, ◌||◌, Option, Some, None, List, [], ◌∷◌, ◌++◌}
-use Rattle.std.specs.Prelude.{eqb, leb, ltb, length, get_or}
+use Rattle.std.specs.Prelude.{ℕ, ◌+◌, ◌-◌, ◌*◌, Bool, if◌then◌else◌, ◌&&◌, ◌||◌, Option, Some, None, List, [], ◌∷◌, ◌++◌}
+use Rattle.std.specs.Prelude.{◌==◌, nat_le, nat_lt, length, get_or}
 use Rattle.std.specs.List.{list_any}
 use Prim.Native.Char.{code}
 use Rattle.text.specs.Bytes.{bytes_of}
-use Rattle.checks.specs.Refusals.{outside}
+use Rattle.refusals.specs.Refusals.{outside}
 
+-- one of some letters, or a number with at most so many digits
 pub data Field : Type 0 where
   letters : List ℕ → Field
   digits : ℕ → Field
 
+-- the 15 fields
 -- "kind F or M; E or G; speed; width; right clearance; left clearance; median U, D or T; ramps in six miles (F) or access points per
 -- mile (M); lanes; V; H; P; terrain L or R"; "two fields at its end, speed factor and capacity factor"; "A number has one to five digits";
 -- of V "its field may have six digits"
@@ -37,42 +25,53 @@ layout =
     ∷ letters (bytes_of "LR")
     ∷ digits 5 ∷ digits 5 ∷ []
 
+-- the last two fields of a line that has 13
 -- "Lines of 13 fields mean 1,000 for both"
 abbrev pub clear_factors : List (List ℕ)
 clear_factors = bytes_of "1000" ∷ bytes_of "1000" ∷ []
 
+-- the parts ps of a line, with these where they are 13
 unfoldable pub completed : List (List ℕ) → List (List ℕ)
-completed ps = cond (eqb (length ps) 13) (ps ++ clear_factors) ps
+completed ps = if length ps == 13 then ps ++ clear_factors else ps
 
+-- the byte b is a decimal digit
 abbrev pub digit : ℕ → Bool
-digit b = leb (code "0") b && leb b (code "9")
+digit b = nat_le (code "0") b && nat_le b (code "9")
 
+-- the number that the digits bs spell, read on from n
 unfoldable pub spelled : ℕ → List ℕ → Option ℕ
 spelled n [] = Some n
-spelled n (b ∷ bs) = cond (digit b) (spelled (10 * n + (b - code "0")) bs) None
+spelled n (b ∷ bs) = if digit b then spelled (10 * n + (b - code "0")) bs else None
 
+-- bs begins with the digit 0 and has more than that
 abbrev pub leading_zero : List ℕ → Bool
-leading_zero bs = ltb 1 (length bs) && eqb (get_or bs 0 0) (code "0")
+leading_zero bs = nat_lt 1 (length bs) && get_or bs 0 0 == code "0"
 
+-- the number of one to k digits that bs is
 -- "one to five digits with no leading zero, save 0 itself", with k in the place of five
 unfoldable pub number : ℕ → List ℕ → Option ℕ
-number k bs = cond (outside 1 k (length bs) || leading_zero bs) None (spelled 0 bs)
+number k bs = if outside 1 k (length bs) || leading_zero bs then None else spelled 0 bs
 
+-- b is one of ls
 abbrev pub one_of : ℕ → List ℕ → Bool
-one_of b ls = list_any (λ l. eqb l b) ls
+one_of b ls = list_any (λ l. l == b) ls
 
+-- the letter, one of ls, that bs is
 unfoldable pub letter : List ℕ → List ℕ → Option ℕ
-letter ls bs = cond (eqb (length bs) 1 && one_of (get_or bs 0 0) ls) (Some (get_or bs 0 0)) None
+letter ls bs = if length bs == 1 && one_of (get_or bs 0 0) ls then Some (get_or bs 0 0) else None
 
+-- the value that bs has as field f, none where it is malformed
 unfoldable pub field_as : Field → List ℕ → Option ℕ
 field_as (letters ls) bs = letter ls bs
 field_as (digits k) bs = number k bs
 
+-- a field's value before those of the fields after it
 abbrev pub joined : Option ℕ → Option (List ℕ) → Option (List ℕ)
 joined None vs = None
 joined (Some v) None = None
 joined (Some v) (Some vs) = Some (v ∷ vs)
 
+-- the values of the parts ps as the fields fs, where there is a part for each and all are well formed
 unfoldable pub values_of : List Field → List (List ℕ) → Option (List ℕ)
 values_of [] [] = Some []
 values_of [] (p ∷ ps) = None

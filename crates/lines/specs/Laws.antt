@@ -1,29 +1,19 @@
 -- Laws of lines, stated; proofs/Laws proves them.
---   LengthNeverDecidesAlone   a line is read by its fields: none of more than 80 bytes has well-formed ones
---   longest_well_formed, WellFormedLinesAreShort   74 bytes, and no line that is read has more
---   ClearWeatherMayBeLeftOut   a line of 13 fields reads as the same line with 1000 and 1000
---   OtherCountsAreMalformed   fewer than 13 fields, 14, or more than 15 are malformed
---   ValuesAreTheFields   the values of a line that is read are those of its fields, in their order
---   DemandOnALine        no line can hold a demand that 7 refuses
---   older_layout, older_read_line bs   the fields before T-09, the demand with at most five digits as every number; a line read by them
---   demand_field bs      the bytes of the tenth field of a line, the demand
---   FiveDigitsReadAsBefore   with at most five bytes there, a line reads as before
---   OlderReaderRefusesMore   with more, an older reader meets 15
---   RefusalHasItsNumber  the number of a refused line is the documents' number of its refusal, and it has no values
--- Assumes nothing.
 use Rattle.std.specs.Prelude.{ℕ, ◌≤◌, ◌<◌, ◌≡◌, Some, Result, Ok, Err, List, [], ◌++◌, length, get_or, set}
 use Rattle.text.specs.Bytes.{bytes_of, tab}
 use Rattle.text.specs.Parts.{parts}
 use Rattle.road.specs.declared.Case.{Case}
 use Rattle.road.specs.Refusals.{greatest_demand}
-use Rattle.checks.specs.declared.Refusal.{Refusal}
-use Rattle.checks.specs.Numbers.{number, refusal_number}
+use Rattle.refusals.specs.declared.Refusal.{Refusal}
+use Rattle.refusals.specs.Numbers.{number, refusal_number}
 use Rattle.lines.specs.Fields.{Field, digits, layout, completed, values_of}
 use Rattle.lines.specs.Reading.{read_values, read_by, read_line, values}
 
+-- a line is read by its fields: none of more than 80 bytes has well-formed ones
 abbrev pub LengthNeverDecidesAlone : Type 0
 LengthNeverDecidesAlone = (bs : List ℕ) → read_line bs ≡ read_values (values_of layout (completed (parts tab bs)))
 
+-- longest_well_formed, WellFormedLinesAreShort: 74 bytes, and no line that is read has more
 -- four letters, ten numbers of five digits and one of six, and fourteen tabs
 abbrev pub longest_well_formed : ℕ
 longest_well_formed = 74
@@ -31,25 +21,32 @@ longest_well_formed = 74
 abbrev pub WellFormedLinesAreShort : Type 0
 WellFormedLinesAreShort = (bs : List ℕ) (case : Case) → read_line bs ≡ Ok case → length bs ≤ longest_well_formed
 
+-- a line of 13 fields reads as the same line with 1000 and 1000
 -- "Lines of 13 fields mean 1,000 for both"
 abbrev pub ClearWeatherMayBeLeftOut : Type 0
 ClearWeatherMayBeLeftOut =
     (bs : List ℕ) → length (parts tab bs) ≡ 13 → read_line (bs ++ bytes_of "\t1000\t1000") ≡ read_line bs
 
+-- fewer than 13 fields, 14, or more than 15 are malformed
 abbrev pub OtherCountsAreMalformed : Type 0
 OtherCountsAreMalformed =
     (bs : List ℕ) → (length (parts tab bs) ≡ 13 → ⊥) → (length (parts tab bs) ≡ 15 → ⊥) → read_line bs ≡ Err Refusal.LineMalformed
 
+-- the values of a line that is read are those of its fields, in their order
 abbrev pub ValuesAreTheFields : Type 0
 ValuesAreTheFields = (bs vs : List ℕ) → values_of layout (completed (parts tab bs)) ≡ Some vs → values (read_line bs) ≡ vs
 
+-- the number of a refused line is the documents' number of its refusal, and it has no values
 abbrev pub RefusalHasItsNumber : Type 0
 RefusalHasItsNumber = (r : Refusal) → (refusal_number {A = Case} (Err r) ≡ number r) × (values (Err r) ≡ [])
 
+-- no line can hold a demand that 7 refuses
 -- "Refusal 7, now for V above 999,999, is still met only by a caller who hands over numbers"
 abbrev pub DemandOnALine : Type 0
 DemandOnALine = (bs : List ℕ) (case : Case) → read_line bs ≡ Ok case → case.demand ≤ greatest_demand
 
+-- older_layout, older_read_line bs: the fields before T-09, the demand with at most five digits as every
+-- number; a line read by them
 -- "A number has one to five digits", the tenth field, V, too
 abbrev pub older_layout : List Field
 older_layout = set layout 9 (digits 5)
@@ -57,13 +54,16 @@ older_layout = set layout 9 (digits 5)
 abbrev pub older_read_line : List ℕ → Result Case Refusal
 older_read_line bs = read_by older_layout bs
 
+-- the bytes of the tenth field of a line, the demand
 abbrev pub demand_field : List ℕ → List ℕ
 demand_field bs = get_or (parts tab bs) 9 []
 
+-- with at most five bytes there, a line reads as before
 -- "Lines with at most five digits there read as before"
 abbrev pub FiveDigitsReadAsBefore : Type 0
 FiveDigitsReadAsBefore = (bs : List ℕ) → length (demand_field bs) ≤ 5 → read_line bs ≡ older_read_line bs
 
+-- with more, an older reader meets 15
 -- "an older reader meets a six-digit demand with refusal 15"
 abbrev pub OlderReaderRefusesMore : Type 0
 OlderReaderRefusesMore = (bs : List ℕ) → 5 < length (demand_field bs) → older_read_line bs ≡ Err Refusal.LineMalformed

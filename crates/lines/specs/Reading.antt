@@ -1,14 +1,5 @@
 -- A line as a case or its refusal (document 01, "Lines", and document 02, T-03).
---   kind_of, way_of, median_of, terrain_of   what a letter's byte stands for
---   case_of vs           the case of the 15 values of a line
---   read_values vs       the case of a line's values, refusal 15 where there are none
---   longest_line         80 bytes
---   read_by fields bs    the case of a line whose fields are these, or its refusal
---   read_line bs         the case of a line, or its refusal; checks/specs/Numbers.refusal_number has its number
---   kind_byte, way_byte, median_byte, terrain_byte   the letters' bytes
---   values r            the 15 values of a case; of a refusal no value
--- Assumes nothing.
-use Rattle.std.specs.Prelude.{ℕ, cond, Option, Some, None, Result, Ok, Err, List, [], ◌∷◌, eqb, ltb, length, get_or}
+use Rattle.std.specs.Prelude.{ℕ, if◌then◌else◌, Option, Some, None, Result, Ok, Err, List, [], ◌∷◌, ◌==◌, nat_lt, length, get_or}
 use Prim.Native.Char.{code}
 use Rattle.text.specs.Bytes.{tab}
 use Rattle.text.specs.Parts.{parts}
@@ -19,44 +10,52 @@ use Rattle.road.specs.declared.Median.{Median}
 use Rattle.road.specs.declared.Terrain.{Terrain}
 use Rattle.road.specs.declared.Case.{Case}
 use Rattle.road.specs.Cases.{road, loaded}
-use Rattle.checks.specs.declared.Refusal.{Refusal}
+use Rattle.refusals.specs.declared.Refusal.{Refusal}
 use Rattle.lines.specs.Fields.{Field, layout, completed, values_of}
 
+-- kind_of, way_of, median_of, terrain_of: what a letter's byte stands for
 abbrev pub kind_of : ℕ → Kind
-kind_of b = cond (eqb b (code "F")) Kind.Freeway Kind.Multilane
+kind_of b = if b == code "F" then Kind.Freeway else Kind.Multilane
 
 abbrev pub way_of : ℕ → Way
-way_of b = cond (eqb b (code "E")) Way.Estimated Way.Given
+way_of b = if b == code "E" then Way.Estimated else Way.Given
 
 abbrev pub median_of : ℕ → Median
-median_of b = cond (eqb b (code "U")) Median.Undivided (cond (eqb b (code "D")) Median.Divided Median.TwoWayLeftTurnLane)
+median_of b = if b == code "U" then Median.Undivided
+    else if b == code "D" then Median.Divided else Median.TwoWayLeftTurnLane
 
 abbrev pub terrain_of : ℕ → Terrain
-terrain_of b = cond (eqb b (code "L")) Terrain.Level Terrain.Rolling
+terrain_of b = if b == code "L" then Terrain.Level else Terrain.Rolling
 
+-- the case of the 15 values of a line
 unfoldable pub case_of : List ℕ → Case
 case_of vs =
     let at : ℕ → ℕ = λ i. get_or vs i 0 in
     loaded (road (kind_of (at 0)) (way_of (at 1)) (at 2) (at 3) (at 4) (at 5) (median_of (at 6)) (at 7)) (at 8) (at 9) (at 10)
     (at 11) (terrain_of (at 12)) (factors (at 13) (at 14))
 
+-- the case of a line's values, refusal 15 where there are none
 -- "15 malformed line, an unknown field letter included"
 unfoldable pub read_values : Option (List ℕ) → Result Case Refusal
 read_values None = Err Refusal.LineMalformed
 read_values (Some vs) = Ok (case_of vs)
 
+-- 80 bytes
 -- "Longer than 80 bytes is malformed"
 abbrev pub longest_line : ℕ
 longest_line = 80
 
+-- the case of a line whose fields are these, or its refusal
 abbrev pub read_by : List Field → List ℕ → Result Case Refusal
 read_by fields bs =
-    cond (ltb longest_line (length bs)) (Err Refusal.LineMalformed) (read_values (values_of fields (completed (parts tab bs))))
+    if nat_lt longest_line (length bs) then Err Refusal.LineMalformed else read_values (values_of fields (completed (parts tab bs)))
 
+-- the case of a line, or its refusal; refusals/specs/Numbers.refusal_number has its number
 -- "One case a line, 13 fields parted by tabs", or 15 with the weather's factors
 unfoldable pub read_line : List ℕ → Result Case Refusal
 read_line bs = read_by layout bs
 
+-- kind_byte, way_byte, median_byte, terrain_byte: the letters' bytes
 abbrev pub kind_byte : Kind → ℕ
 kind_byte Kind.Freeway = code "F"
 kind_byte Kind.Multilane = code "M"
@@ -74,6 +73,7 @@ abbrev pub terrain_byte : Terrain → ℕ
 terrain_byte Terrain.Level = code "L"
 terrain_byte Terrain.Rolling = code "R"
 
+-- the 15 values of a case; of a refusal no value
 abbrev pub values : Result Case Refusal → List ℕ
 values (Ok c) =
     kind_byte c.road.kind ∷ way_byte c.road.way ∷ c.road.speed ∷ c.road.lane_width ∷ c.road.right_clearance

@@ -1,9 +1,5 @@
-// The fields of a line, read in turn.
-//   Lettered   a type whose values stand on a line as one letter each
-//   Fields     what is left of a line
-//   number     a number of one to five digits
-//   demand     a number of one to six
-//   letter     a letter, as a value of the type that is asked for
+//! The fields of a line, read in turn.
+
 ghost use Rattle.std.specs.Prelude.{◌≡◌, ◌≤◌, ℕ, List, option_map};
 ghost use Rattle.text.specs.Bytes.{bytes_of};
 ghost use Rattle.lines.specs.Fields.{digits, letters, leading_zero};
@@ -13,10 +9,10 @@ ghost use Rattle.lines.specs.Places.{left, letter_among, ReadsOne};
 use curve::kind::Kind;
 use road::{Median, Terrain, Way};
 
-// "A number has one to five digits"
+/// "A number has one to five digits"
 const MOST_DIGITS: usize = 5;
 
-// "V may reach 999,999 and its field may have six digits"
+/// "V may reach 999,999 and its field may have six digits"
 const MOST_DEMAND_DIGITS: usize = 6;
 
 fn leading_zero(field: &[u8]) -> bool
@@ -25,7 +21,7 @@ fn leading_zero(field: &[u8]) -> bool
     field.len() > 1 && field[0] == b'0'
 }
 
-// A type whose values stand on a line as one letter each, out of an alphabet.
+/// A type whose values stand on a line as one letter each, out of an alphabet.
 pub trait Lettered: Sized {
     ghost alphabet: { List ℕ };
 
@@ -92,14 +88,14 @@ impl Lettered for Terrain {
     }
 }
 
-// What is left of a line; none: no field is left. The readers are inlined, so that it stays in registers.
+/// What is left of a line; none: no field is left. The readers are inlined, so that it stays in registers.
 #[derive(Drop)]
 pub struct Fields<'a> {
     pub rest: Option<&'a [u8]>,
 }
 
 impl<'a> Fields<'a> {
-    // A number of one to so many digits, in one pass over its bytes.
+    /// A number of one to so many digits, in one pass over its bytes.
     #[inline(always)]
     fn number_up_to(&mut self, most_digits: usize) -> Option<u64>
         requires fits { most_digits ≤ 19 }
@@ -123,6 +119,7 @@ impl<'a> Fields<'a> {
         (!field.is_empty() && !leading_zero(field)).then_some(value)
     }
 
+    /// A number of one to five digits.
     #[inline(always)]
     pub fn number(&mut self) -> Option<u64>
         ensures { ReadsOne (digits 5) result (left self.old) (left self.new) }
@@ -130,6 +127,7 @@ impl<'a> Fields<'a> {
         self.number_up_to(MOST_DIGITS)
     }
 
+    /// A number of one to six.
     #[inline(always)]
     pub fn demand(&mut self) -> Option<u64>
         ensures { ReadsOne (digits 6) result (left self.old) (left self.new) }
@@ -137,6 +135,7 @@ impl<'a> Fields<'a> {
         self.number_up_to(MOST_DEMAND_DIGITS)
     }
 
+    /// A letter, as a value of the type that is asked for.
     #[inline(always)]
     pub fn letter<T: Lettered>(&mut self) -> Option<T>
         ensures { ReadsOne (letters T.alphabet) (option_map T.byte result) (left self.old) (left self.new) }

@@ -1,6 +1,5 @@
-// Lines: a line read into a case.
-//   field   the fields of a line
-//   read    a line to a case or refusal 15
+//! Lines: a line read into a case.
+
 #![tactic(auto)]
 
 pub(crate) mod field;

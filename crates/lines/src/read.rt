@@ -1,27 +1,26 @@
-// A line read into a case or its refusal.
-//   LONGEST_LINE   the most bytes of a line
-//   read_line      for any bytes at all, a line without its newline
+//! A line read into a case or its refusal.
+
 ghost use Rattle.std.specs.Prelude.{◌≡◌, Ok, take, drop, option_map};
 ghost use Rattle.lines.specs.Fields.{layout, completed};
 ghost use Rattle.lines.specs.Reading.{read_line, values};
 ghost use Rattle.lines.specs.Places.{left, or_clear, weather_values, road_values, Reads};
 
 use crate::field::Fields;
-use checks::Refusal;
+use refusals::Refusal;
 use curve::Weather;
 use road::{Case, Road};
 
-// "Longer than 80 bytes is malformed"
+/// "Longer than 80 bytes is malformed"
 pub const LONGEST_LINE: usize = 80;
 
-// "Lines of 13 fields mean 1,000 for both"
+/// "Lines of 13 fields mean 1,000 for both"
 const CLEAR: Weather = Weather {
     speed_factor: 1_000,
     capacity_factor: 1_000,
 };
 
 impl<'a> Fields<'a> {
-    // Left out, or both factors.
+    /// Left out, or both factors.
     #[inline(always)]
     #[tactic(auto, unfolding(crate::specs::Fields::layout, crate::specs::Fields::values_of))]
     fn weather(&mut self) -> Option<Weather>
@@ -67,7 +66,7 @@ impl<'a> Fields<'a> {
     }
 }
 
-// Not inlined, so that the engine that a caller goes on to has the registers.
+/// Not inlined, so that the engine that a caller goes on to has the registers.
 #[inline(never)]
 #[tactic(auto, using(crate::proofs::FieldsLaws::line_laws), unfolding(crate::specs::Reading::read_values, crate::specs::Fields::values_of))]
 pub fn read_line(line: &[u8]) -> Result<Case, Refusal>

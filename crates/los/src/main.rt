@@ -1,7 +1,8 @@
-// los: reads lines from standard input and prints one answer a line; a refused line prints X, tab and its number.
-// Its steps are those of stream/specs/Runs.Run: a piece is read behind the bytes held (feed), whole lines are answered and the rest is
-// carried over (turn), and at the end of the input a last line without newline is answered (end). It stops with a message when its output
-// can't be written or its input can't be read, and without one where nobody reads its output: half a line is never answered.
+//! los: reads lines from standard input and prints one answer a line; a refused line prints X, tab and its number.
+//! Its steps are those of stream/specs/Runs.Run: a piece is read behind the bytes held (feed), whole lines are answered and the rest is
+//! carried over (turn), and at the end of the input a last line without newline is answered (end). It stops with a message when its output
+//! can't be written or its input can't be read, and without one where nobody reads its output: half a line is never answered.
+
 #![tactic(auto)]
 
 ghost use Rattle.std.specs.Prelude.{◌≡◌, true, false, ◌↔◌, ℕ, ◌+◌, ◌≤◌, ◌<◌, List, length, take, IfOk, OnErr};
@@ -10,18 +11,18 @@ ghost use Rattle.text.specs.Bytes.{newline};
 ghost use Rattle.text.specs.Parts.{count_before};
 ghost use Rattle.lines.specs.Reading.{longest_line};
 ghost use Rattle.replies.specs.Texts.{longest_answer};
-ghost use Rattle.stream.specs.Stream.{texts};
-ghost use Rattle.stream.specs.Turns.{answered, carried};
+ghost use Rattle.text.specs.Stream.{texts};
+ghost use Rattle.text.specs.Turns.{answered, carried};
 ghost use Rattle.replies.specs.Output.{line_texts};
 
 use replies::block;
 use std::io::{ErrorKind, Read, Write};
 use std::marker::Model;
 
-// How many bytes of answers are written at once.
+/// How many bytes of answers are written at once.
 const ANSWERS: usize = 131072;
 
-// What stops it early.
+/// What stops it early.
 #[derive(Clone, Copy)]
 enum Stop {
     InputUnread,
@@ -29,7 +30,7 @@ enum Stop {
     NobodyReads,
 }
 
-// The bytes of the input that are held: the first of a buffer.
+/// The bytes of the input that are held: the first of a buffer.
 #[derive(Drop)]
 struct Held {
     buffer: [u8; 65536],
@@ -45,8 +46,8 @@ impl Model for Held {
 }
 
 impl Held {
-    // Reads a piece behind the bytes held, and tells whether there may be more. There has to be room: nothing read is the end of the input,
-    // and nothing else is.
+    /// Reads a piece behind the bytes held, and tells whether there may be more. There has to be room: nothing read is the end of the input,
+    /// and nothing else is.
     fn read_more(&mut self, rt: HostRuntime) -> Result<bool, Stop>
         requires { length self.old < 65536 }
         ensures kept { take (length self.old) self.new ≡ self.old }
@@ -63,7 +64,7 @@ impl Held {
         }
     }
 
-    // Answers the whole lines that are held; what is carried over is held then.
+    /// Answers the whole lines that are held; what is carried over is held then.
     fn answer(&mut self, out: &mut [u8]) -> usize
         ensures carried { self.new ≡ carried line_texts (length out.old) self.old }
         ensures text { Wrote (texts line_texts (answered line_texts (length out.old) self.old))
@@ -77,7 +78,7 @@ impl Held {
     }
 }
 
-// Tells on standard error what stopped it, as far as that can be written; nothing where nobody reads its output.
+/// Tells on standard error what stopped it, as far as that can be written; nothing where nobody reads its output.
 fn tell(rt: HostRuntime, stop: Stop) {
     let message: &[u8] = match stop {
         Stop::InputUnread => b"los: standard input can't be read\n",
@@ -97,8 +98,8 @@ fn write_out(rt: HostRuntime, answers: &[u8]) -> Result<(), Stop> {
     }
 }
 
-// Answers the whole lines that are held, or reads more where there is none; tells whether there may be more. What is carried over is held,
-// also where it fails, and where lines are answered nothing else is.
+/// Answers the whole lines that are held, or reads more where there is none; tells whether there may be more. What is carried over is held,
+/// also where it fails, and where lines are answered nothing else is.
 fn advance(rt: HostRuntime, held: &mut Held, out: &mut [u8; ANSWERS]) -> Result<bool, Stop>
     ensures kept { take (length (carried line_texts (length out.old) held.old)) held.new ≡ carried line_texts (length out.old) held.old }
     ensures answered { 0 < length (texts line_texts (answered line_texts (length out.old) held.old))

@@ -1,19 +1,16 @@
 -- The boundary sections (specs/Boundary), shown, with those of the layers below.
---   line-read        the printed line is the printed case
---   boundary-shown   each figure of the list is what is to be shown
--- Assumes nothing.
 use Rattle.std.proofs.Common.{◌≡◌, Ok, [], ◌∷◌, ◌++◌, length, drop, get_or, replicate, refl, ap, ◌∙◌, lit≤}
 use mathlib.Core.List.{flat_map}
 use Prim.Native.String.{◌++◌ as ◌then◌}
 use Rattle.text.specs.Bytes.{bytes_of}
 use Rattle.text.specs.Parts.{on_first, parts}
 use Rattle.text.specs.Decimal.{decimal_up_to, decimal, figures_text, row_text}
-use Rattle.checks.specs.Numbers.{in_order, refusal_of, refusal_number}
-use Rattle.checks.specs.Figures.{Shown}
+use Rattle.refusals.specs.Numbers.{in_order, refusal_of, refusal_number}
+use Rattle.refusals.specs.Figures.{Shown}
 use Rattle.road.specs.Refusals.{weather_unfit, road_refusals, load_refusals, field_refusals}
 use Rattle.method.specs.Refusals.{refusals}
 use Rattle.method.specs.Boundary.{example}
-use Rattle.checks.proofs.FigureLaws.{Shown-append}
+use Rattle.refusals.proofs.FigureLaws.{Shown-append}
 use Rattle.answer.specs.Answers.{answer_to}
 use Rattle.answer.specs.Boundary as answer
 use Rattle.answer.specs.Boundary.{example_in_snow}
@@ -30,13 +27,14 @@ use Rattle.lines.specs.Laws.{longest_well_formed}
 use Rattle.lines.specs.Fields.{layout, completed, spelled, number, letter, field_as, values_of}
 use Rattle.lines.specs.Reading.{case_of, read_values, read_line, values}
 use Rattle.replies.specs.Texts.{refusal_text, text_of, line_text}
-use Rattle.stream.specs.Stream.{texts, last_line, without_empty_last, lines_of, output_of}
+use Rattle.text.specs.Stream.{texts, last_line, without_empty_last, lines_of, output_of}
 use Rattle.replies.specs.Output.{line_texts}
 use Rattle.replies.proofs.TextsLaws.{line_text-refused, line_text-case}
 use Rattle.marehour.specs.Calls.{day_call, daily_call, forecast_call, content}
 use Rattle.marehour.proofs.Laws.{day-call-is-the-day, daily-hands-back, forecast-hands-back}
 use Rattle.marehour.specs.Boundary.{printed_line, printed_answer, snow_answer, longest, added_figures, boundary_figures}
 
+-- the printed line is the printed case
 pub line-read : read_line (bytes_of printed_line) ≡ Ok example
 unfolding on_first parts layout completed spelled number letter field_as values_of case_of read_values read_line
 line-read = refl
@@ -116,6 +114,7 @@ added-shown = (
   ),
 )
 
+-- each figure of the list is what is to be shown
 pub boundary-shown : Shown boundary_figures
 boundary-shown =
     Shown-append answer.boundary_figures (survey_figures ++ added_figures) answer-proofs.boundary-shown

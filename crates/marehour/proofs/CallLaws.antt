@@ -1,24 +1,13 @@
 -- The calls of a host in C (specs/Calls): what a number is in 32 bits, and the reply by what was found.
---   positive-is              a count, which is 80 at most
---   Replied                  what is handed back of a call, and its lent memory afterwards, are those of a reply
---   wrote, refused           a reply that was written; a refusal
---   call-refused, call-read  a call over a line that was read: what refuses the lent memory or the line; the reply to its case
---   call-fits, call-room     nothing refuses the lent memory of a call whose line was read; its buffer
---   buffer-short, buffer-fits, buffer-room   a buffer that 17 refuses; one that it does not
---   figures-written, figures-refused   an answer in figures, of which there is one at least; a refusal
---   FiguresFit               an answer in figures: so many, or a refusal
---   count-length, count-written   the two bytes of a lane count
---   tries-is, tries_laws     the count of the tried demands; it with its bound, for tactics
--- Assumes nothing.
 use Rattle.std.proofs.Common.{◌≡◌, ℕ, ◌+◌, ◌≤◌, ◌<◌, Result, Ok, Err, List, [], ◌∷◌, length, set, ℤ, pos, neg_ℤ}
 use Rattle.std.proofs.Common.{refl, sym, ap, ◌∙◌, arith, lt_of_le_of_lt, lt-ltb, le-ltb, lit<, w32, to_z}
 use native.Mathlib.Decide.{dec_le}
 use mir.ValLaws.{to_z_pos}
-use Rattle.checks.specs.declared.Refusal.{Refusal}
-use Rattle.checks.specs.Refusals.{Condition, first_refusal}
-use Rattle.checks.specs.Numbers.{number, refusal_number}
-use Rattle.checks.proofs.RefusalLaws.{unless_refused-none, unless_refused-some}
-use Rattle.checks.proofs.NumberLaws.{number-above}
+use Rattle.refusals.specs.declared.Refusal.{Refusal}
+use Rattle.refusals.specs.Refusals.{Condition, first_refusal}
+use Rattle.refusals.specs.Numbers.{number, refusal_number}
+use Rattle.refusals.proofs.RefusalLaws.{unless_refused-none, unless_refused-some}
+use Rattle.refusals.proofs.NumberLaws.{number-above}
 use Rattle.text.specs.Bytes.{newline}
 use Rattle.text.specs.Buffer.{written, Wrote}
 use Rattle.text.proofs.DigitLaws.{decimal-small}
@@ -30,11 +19,13 @@ use Rattle.marehour.specs.Calls.{Reply, writes, refusal, count_text, figures_rep
 use Rattle.marehour.specs.Calls.{handed_back, content}
 
 -- ---- numbers in 32 bits
+-- a count, which is 80 at most
 pub positive-is : (n : ℕ) → n ≤ 80 → to_z w32 n ≡ pos n
 positive-is n h = to_z_pos w32 n (lt_of_le_of_lt h (lit< tt))
 
 -- ---- what is handed back and the lent memory, however what is written is counted
 module _ (count : List ℕ → ℕ) where
+  -- what is handed back of a call, and its lent memory afterwards, are those of a reply
   abbrev pub Replied : ℤ → List ℕ → Reply → List ℕ → Type 0
   Replied z new r old = (z ≡ handed_back count r) × (new ≡ content r old)
 
@@ -47,6 +38,8 @@ module _ (count : List ℕ → ℕ) where
 
 -- ---- a call over a line that was read, whatever the reply to a case and what refuses the lent memory
 module _ (reply : Case → Reply) (r : Result Case Refusal) (conditions : List Condition) where
+  -- call-refused, call-read: a call over a line that was read: what refuses the lent memory or the line; the
+  -- reply to its case
   pub call-refused : (lent : Result (Unit {0}) Refusal) (e : Refusal) → refusal_number lent ≡ first_refusal conditions → line_case lent r ≡ Err e
       → line_call reply r conditions ≡ refusal (number e)
   call-refused (Ok u) e fits is =
@@ -61,12 +54,14 @@ module _ (reply : Case → Reply) (r : Result Case Refusal) (conditions : List C
       unless_refused-none (first_refusal conditions) (line_reply reply r) refusal (sym fits) ∙ ap (line_reply reply) is
   call-read (Err own) case met is = cc is
 
+-- call-fits, call-room: nothing refuses the lent memory of a call whose line was read; its buffer
 pub call-fits : (r : Result Case Refusal) (conditions : List Condition) (lent : Result (Unit {0}) Refusal) (case : Case)
     → refusal_number lent ≡ first_refusal conditions → Ok case ≡ line_case lent r → 0 ≡ first_refusal conditions
 call-fits r conditions (Ok u) case fits is = fits
 call-fits r conditions (Err own) case met is = cc is
 
 -- ---- an answer buffer
+-- buffer-short, buffer-fits, buffer-room: a buffer that 17 refuses; one that it does not
 pub buffer-short : (least room : ℕ) → room < least → 17 ≡ first_refusal (buffer_refusals least room)
 unfolding buffer_refusals
 buffer-short least room h = rw (lt-ltb room least h)
@@ -89,11 +84,13 @@ pub call-room : (r : Result Case Refusal) (least room : ℕ) (lent : Result (Uni
 call-room r least room lent case met is = buffer-room least room (call-fits r (buffer_refusals least room) lent case met is)
 
 -- ---- an answer in figures
+-- an answer in figures: so many, or a refusal
 pub record FiguresFit (count last number : ℕ) (values : List ℕ) : Type 0 where
   pub some : number ≡ 0 → length values ≡ count
   pub none : 0 < number → values ≡ []
   pub most : number ≤ last
 
+-- figures-written, figures-refused: an answer in figures, of which there is one at least; a refusal
 pub figures-written : (number : ℕ) (values : List ℕ) → 1 ≤ length values → figures_reply number values ≡ writes values
 figures-written number [] h = absurd (omega arith)
 figures-written number (v ∷ vs) h = refl
@@ -102,6 +99,7 @@ pub figures-refused : (number : ℕ) (values : List ℕ) → values ≡ [] → f
 figures-refused number values e = ap (figures_reply number) e
 
 -- ---- a lane count
+-- count-length, count-written: the two bytes of a lane count
 pub count-length : (count : ℕ) → count ≤ 9 → length (count_text (count ∷ [])) ≡ 2
 unfolding count_text
 count-length count h = rw (decimal-small count (omega arith))
@@ -113,6 +111,7 @@ count-written count old h room =
     rw (decimal-small count (omega arith)) (then-byte (then-byte nothing (48 + count) (omega arith)) newline (omega arith))
 
 -- ---- the tried demands
+-- tries-is, tries_laws: the count of the tried demands; it with its bound, for tactics
 pub tries-is : (case : Case) → to_z w32 (counted_answer case).tries ≡ pos (counted_answer case).tries
 tries-is case = positive-is (counted_answer case).tries (omega (arith, tries-le case))
 

@@ -1,15 +1,12 @@
 -- The laws of specs/Laws, proved.
---   replies-within-ends, buffer-too-short, no-demand-is-refused, last-refusal-is-reached, day-hands-back, day-call-is-the-day,
---   position-is-the-lines-answer, daily-hands-back, forecast-hands-back
--- Assumes nothing.
 use Rattle.std.proofs.Common.{◌≡◌, ℕ, ℤ, ◌*◌, ◌≤◌, ◌<◌, Result, Ok, lit≤, List, length, pos, neg_ℤ, refl, sym, ap, subst, ◌∙◌, ⊎_elim, arith}
 use Rattle.std.proofs.Common.{eq-zero-or-pos}
-use Rattle.checks.specs.Refusals.{Condition, first_refusal}
-use Rattle.checks.proofs.RefusalLaws.{unless_refused-none, unless_refused-some, unless_refused-by, first_refusal-le, first_refusal-ge}
-use Rattle.checks.specs.declared.Refusal.{Refusal}
-use Rattle.checks.specs.Numbers as refusals
-use Rattle.checks.specs.Numbers.{in_order, refusal_of, refusal_number}
-use Rattle.checks.proofs.NumberLaws.{number-refusal_of, ok_unless-by, ok_unless-none, ok_unless-err}
+use Rattle.refusals.specs.Refusals.{Condition, first_refusal}
+use Rattle.refusals.proofs.RefusalLaws.{unless_refused-none, unless_refused-some, unless_refused-by, first_refusal-le, first_refusal-ge}
+use Rattle.refusals.specs.declared.Refusal.{Refusal}
+use Rattle.refusals.specs.Numbers as refusals
+use Rattle.refusals.specs.Numbers.{in_order, refusal_of, refusal_number}
+use Rattle.refusals.proofs.NumberLaws.{number-refusal_of, ok_unless-by, ok_unless-none, ok_unless-err}
 use Rattle.std.proofs.Math.Nat.{le_trans}
 use Rattle.text.specs.Buffer.{written}
 use Rattle.text.specs.Parts.{on_first, parts}

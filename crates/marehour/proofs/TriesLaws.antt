@@ -1,8 +1,6 @@
 -- The call that counts the tried demands (specs/Tries).
---   tries-hand-back, tries-of-lines
--- Assumes nothing.
 use Rattle.std.proofs.Common.{refl, ap, ◌∙◌, pos, neg_ℤ, arith}
-use Rattle.checks.proofs.NumberLaws.{number-refusal_of}
+use Rattle.refusals.proofs.NumberLaws.{number-refusal_of}
 use Rattle.method.proofs.RefusalLaws.{refusal-le}
 use Rattle.text.specs.Bytes.{bytes_of}
 use Rattle.text.specs.Parts.{on_first, parts}

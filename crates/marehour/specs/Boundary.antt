@@ -1,38 +1,31 @@
 -- The boundary sections of document 01, with the ramp term of T-08, and of T-03 and T-09 of document 02: one list, those of the layers
 -- below with what this layer adds.
---   printed_line            the line of document 01
---   printed_line_with v t   the same with another demand and another terrain
---   malformed_lines         lines that are refused with 15
---   printed_answer          what `los` prints for the printed line
---   snow_answer             what it prints for the same line with the factors 860 and 780
---   longest                 a well-formed line of 74 bytes
---   added_figures           what this layer adds
---   boundary_figures        the list
--- Assumes nothing.
 use mathlib.Core.List.{flat_map}
 use Rattle.std.specs.Prelude.{ℕ, Result, List, [], ◌∷◌, ◌++◌, length, map, replicate}
 use Prim.Native.String.{String, ◌++◌ as ◌then◌}
 use Rattle.text.specs.Bytes.{bytes_of}
-use Rattle.checks.specs.Figures.{Figure, figure}
+use Rattle.refusals.specs.Figures.{Figure, figure}
 use Rattle.answer.specs.Boundary as answer
 use Rattle.day.specs.Instances.{example_demands, example_day}
 use Rattle.daily.specs.Instances.{urban, printed_figures}
 use Rattle.forecast.specs.Instances.{wide}
 use Rattle.survey.specs.Boundary.{survey_figures}
-use Rattle.checks.specs.declared.Refusal.{Refusal}
-use Rattle.checks.specs.Numbers.{refusal_number}
+use Rattle.refusals.specs.declared.Refusal.{Refusal}
+use Rattle.refusals.specs.Numbers.{refusal_number}
 use Rattle.road.specs.declared.Case.{Case}
 use Rattle.lines.specs.Reading.{read_line, values}
 use Rattle.lines.specs.Laws.{longest_well_formed, older_read_line}
 use Rattle.replies.specs.Texts.{line_text}
-use Rattle.stream.specs.Stream.{output_of}
+use Rattle.text.specs.Stream.{output_of}
 use Rattle.replies.specs.Output.{line_texts}
 use Rattle.marehour.specs.Calls.{day_call, daily_call, forecast_call, content}
 
+-- the same with another demand and another terrain
 -- tabs as blanks: F E 75400 110 20 0 D 24 2 V 920 50, and the terrain
 abbrev pub printed_line_with : String → String → String
 printed_line_with demand terrain = "F\tE\t75400\t110\t20\t0\tD\t24\t2\t" then (demand then ("\t920\t50\t" then terrain))
 
+-- the line of document 01
 abbrev pub printed_line : String
 printed_line = printed_line_with "2000" "R"
 
@@ -51,6 +44,7 @@ read_before line = told (older_read_line (bytes_of line))
 abbrev printed_case_with : ℕ → List ℕ
 printed_case_with demand = 0 ∷ 70 ∷ 69 ∷ 75400 ∷ 110 ∷ 20 ∷ 0 ∷ 68 ∷ 24 ∷ 2 ∷ demand ∷ 920 ∷ 50 ∷ 82 ∷ 1000 ∷ 1000 ∷ []
 
+-- lines that are refused with 15
 -- with no demand, with a leading zero in a demand of two to seven digits, with seven digits; with six digits in each other number; with an
 -- unknown terrain, with a leading zero in a factor; with 14 fields, of which the last is empty or not, and with 16
 abbrev pub malformed_lines : List String
@@ -75,15 +69,19 @@ malformed_lines =
     ∷ []
     )
 
+-- what `los` prints for the printed line
 abbrev pub printed_answer : String
 printed_answer = "C\t60782\t230782\t1196\t60782\t197\t1117\t1829\t2642\t3360\t3858\n"
 
+-- what it prints for the same line with the factors 860 and 780
 abbrev pub snow_answer : String
 snow_answer = "C\t52272\t173372\t1196\t52222\t230\t960\t1572\t2221\t2636\t2898\n"
 
+-- a well-formed line of 74 bytes
 abbrev pub longest : String
 longest = "M\tG\t99999\t99999\t99999\t99999\tT\t99999\t99999\t999999\t99999\t99999\tL\t99999\t99999"
 
+-- what this layer adds
 -- Starred: the printed line. Not starred: what is printed for it between an empty line and a last line without newline; an empty input; its
 -- day with 2,000, 1,000,000 and 2,643; its daily figures with 40,404 vehicles, K 90 and D 550; its letters with a demand of 1,000 to 4,000,
 -- a share of 0 to 100 and a factor of 850 to 950; its 15 values, letters by their bytes; malformed lines; the line with a demand of six
@@ -108,5 +106,6 @@ added_figures =
     (longest_well_formed ∷ 0 ∷ 77 ∷ 71 ∷ 99999 ∷ 99999 ∷ 99999 ∷ 99999 ∷ 84 ∷ 99999 ∷ 99999 ∷ 999999 ∷ 99999 ∷ 99999 ∷ 76 ∷ 99999 ∷ 99999 ∷ [])
     ∷ []
 
+-- the list
 abbrev pub boundary_figures : List Figure
 boundary_figures = answer.boundary_figures ++ (survey_figures ++ added_figures)

@@ -1,38 +1,9 @@
 -- What the calls of a host in C hand back, and what the lent memory then holds (document 01, "Lines", "Refused, by who can cause it";
 -- document 02, T-01, T-06 and T-07).
---   Reply                   what is written from the start of the lent memory on, or a refusal's number
---   reply_of n vs text      the reply of an answer with number n and values vs: its text, or the refusal where it has no values
---   answer_reply a          the reply of an answer
---   count_text vs           the text of a lane count
---   count_reply a           the reply of an answer to the lanes question
---   case_reply case         the reply to a case
---   lanes_reply n case      the same for the lanes question and letter number n
---   day_reply demands case  the same for a day of demands
---   figures_reply n vs      the reply of an answer with number n and values vs: its values, or the refusal where it has none
---   daily_reply shares traffic case   the reply to a case for a daily traffic and its shares
---   forecast_reply forecast case   the same for a forecast
---   line_reply reply r      the reply to a line that was read, by the reply to its case
---   line_call reply r lent  the reply of a call to a line that was read, by what refuses the lent memory
---   buffer_refusals least room   17, of lent memory of room bytes or numbers that must have so many at least
---   answer_call line room   the reply of the call for the answer to a line
---   lanes_call line n room  the same for the lanes question and letter number n
---   day_call line demands room   the same for a day of demands, with room for so many numbers
---   daily_call line shares traffic room   the same for a daily traffic and its shares, with room for so many numbers
---   forecast_call line forecast room   the same for a forecast, with room for so many numbers
---   line_case lent r        the case of a line that was read, or what refuses the lent memory or the line
---   hands_back a            what a call hands back where a count is found, or a refusal
---   handed_back count r     what a call hands back, by how it counts what is written
---   call_result r           the same in bytes, or in numbers where numbers are written
---   answer_count ns         how many answers so many numbers are
---   day_result r            what a call hands back, in answers
---   content r old           what the lent memory holds afterwards, if it held old
---   result_of n vs          the value of an answer with number n and values vs, or minus the number
---   survey_result a         what a survey call hands back
--- Assumes nothing.
-use Rattle.std.specs.Prelude.{ℕ, ◌/◌, Result, Ok, Err, List, [], ◌∷◌, ◌++◌, ℤ, pos, neg_ℤ, ltb, length}
-use Rattle.checks.specs.declared.Refusal.{Refusal}
-use Rattle.checks.specs.Refusals.{Condition, refuses, first_refusal, unless_refused}
-use Rattle.checks.specs.Numbers.{number, refusal_number}
+use Rattle.std.specs.Prelude.{ℕ, ◌/◌, Result, Ok, Err, List, [], ◌∷◌, ◌++◌, ℤ, pos, neg_ℤ, nat_lt, length}
+use Rattle.refusals.specs.declared.Refusal.{Refusal}
+use Rattle.refusals.specs.Refusals.{Condition, refuses, first_refusal, unless_refused}
+use Rattle.refusals.specs.Numbers.{number, refusal_number}
 use Rattle.text.specs.Bytes.{newline}
 use Rattle.text.specs.Decimal.{decimal}
 use Rattle.text.specs.Buffer.{written}
@@ -53,111 +24,139 @@ use Rattle.survey.specs.Survey as survey
 use Rattle.lines.specs.Reading.{read_line}
 use Rattle.replies.specs.Texts.{answer_text, longest_answer}
 
+-- what is written from the start of the lent memory on, or a refusal's number
 pub data Reply : Type 0 where
   writes : List ℕ → Reply
   refusal : ℕ → Reply
 
+-- the reply of an answer with number n and values vs: its text, or the refusal where it has no values
 abbrev pub reply_of : ℕ → List ℕ → List ℕ → Reply
 reply_of number [] text = refusal number
 reply_of number (v ∷ vs) text = writes text
 
+-- the reply of an answer
 abbrev pub answer_reply : Result Grade Refusal → Reply
 answer_reply a = reply_of (refusal_number a) (answers.values a) (answer_text a)
 
+-- the text of a lane count
 -- "For the lanes question the answer is the one digit of the count and a newline"
 unfoldable pub count_text : List ℕ → List ℕ
 count_text [] = []
 count_text (count ∷ vs) = decimal count ++ (newline ∷ [])
 
+-- the reply of an answer to the lanes question
 abbrev pub count_reply : Result ℕ Refusal → Reply
 count_reply a = reply_of (refusal_number a) (lanes.values a) (count_text (lanes.values a))
 
+-- the reply to a case
 abbrev pub case_reply : Case → Reply
 case_reply case = answer_reply (answer_to case)
 
+-- the same for the lanes question and letter number n
 abbrev pub lanes_reply : ℕ → Case → Reply
 lanes_reply n case = count_reply (lanes_answer case n)
 
+-- the same for a day of demands
 -- each answer is twelve numbers
 abbrev pub day_reply : List ℕ → Case → Reply
 day_reply demands case = writes (day_figures case demands)
 
+-- the reply of an answer with number n and values vs: its values, or the refusal where it has none
 -- the figures as they are
 abbrev pub figures_reply : ℕ → List ℕ → Reply
 figures_reply number values = reply_of number values values
 
+-- the reply to a case for a daily traffic and its shares
 abbrev pub daily_reply : Shares → ℕ → Case → Reply
 daily_reply shares traffic case =
     let answer = daily_answer case shares traffic in figures_reply (refusal_number answer) (daily.values answer)
 
+-- the same for a forecast
 abbrev pub forecast_reply : Forecast → Case → Reply
 forecast_reply forecast case =
     let answer = forecast_answer case forecast in figures_reply (refusal_number answer) (forecasts.values answer)
 
+-- the reply to a line that was read, by the reply to its case
 -- "15 malformed line", before 16, 20 and 1
 abbrev pub line_reply : (Case → Reply) → Result Case Refusal → Reply
 line_reply reply (Ok case) = reply case
 line_reply reply (Err r) = refusal (number r)
 
+-- the case of a line that was read, or what refuses the lent memory or the line
 -- what the code finds of them: the case, or the first that refuses
 abbrev pub line_case : Result (Unit {0}) Refusal → Result Case Refusal → Result Case Refusal
 line_case (Ok u) r = r
 line_case (Err refused) r = Err refused
 
+-- the reply of a call to a line that was read, by what refuses the lent memory
 -- what refuses the lent memory comes first of all
 abbrev pub line_call : (Case → Reply) → Result Case Refusal → List Condition → Reply
 line_call reply r lent = unless_refused (first_refusal lent) (line_reply reply r) refusal
 
+-- 17, of lent memory of room bytes or numbers that must have so many at least
 -- "17 answer buffer under 64 bytes, first of all", and fewer numbers than there are figures
 unfoldable pub buffer_refusals : ℕ → ℕ → List Condition
-buffer_refusals least room = refuses 17 (ltb room least) ∷ []
+buffer_refusals least room = refuses 17 (nat_lt room least) ∷ []
 
+-- the reply of the call for the answer to a line
 abbrev pub answer_call : List ℕ → ℕ → Reply
 answer_call line room = line_call case_reply (read_line line) (buffer_refusals longest_answer room)
 
+-- the same for the lanes question and letter number n
 abbrev pub lanes_call : List ℕ → ℕ → ℕ → Reply
 lanes_call line n room = line_call (lanes_reply n) (read_line line) (buffer_refusals longest_answer room)
 
+-- the same for a day of demands, with room for so many numbers
 -- "18 .. before 1", and before 15, as it is about lent memory
 abbrev pub day_call : List ℕ → List ℕ → ℕ → Reply
 day_call line demands room = line_call (day_reply demands) (read_line line) (lent_refusals (length demands) room)
 
+-- the same for a daily traffic and its shares, with room for so many numbers
 -- "20 .. before 1": behind 17 and 15, as 1 is
 abbrev pub daily_call : List ℕ → Shares → ℕ → ℕ → Reply
 daily_call line shares traffic room = line_call (daily_reply shares traffic) (read_line line) (buffer_refusals daily.figure_count room)
 
+-- the same for a forecast, with room for so many numbers
 -- 1 to 6 and 22 behind 17 and 15
 abbrev pub forecast_call : List ℕ → Forecast → ℕ → Reply
 forecast_call line forecast room = line_call (forecast_reply forecast) (read_line line) (buffer_refusals forecasts.figure_count room)
 
+-- what a call hands back where a count is found, or a refusal
 -- a count, or minus a refusal's number
 abbrev pub hands_back : Result ℤ Refusal → ℤ
 hands_back (Ok count) = count
 hands_back (Err r) = neg_ℤ (pos (number r))
 
+-- what a call hands back, by how it counts what is written
 abbrev pub handed_back : (List ℕ → ℕ) → Reply → ℤ
 handed_back count (writes ns) = pos (count ns)
 handed_back count (refusal number) = neg_ℤ (pos number)
 
+-- the same in bytes, or in numbers where numbers are written
 -- "gets the count of bytes written, newline included, or minus the refusal number"
 abbrev pub call_result : Reply → ℤ
 call_result = handed_back length
 
+-- how many answers so many numbers are
 abbrev pub answer_count : List ℕ → ℕ
 answer_count ns = length ns / figure_count
 
+-- what a call hands back, in answers
 abbrev pub day_result : Reply → ℤ
 day_result = handed_back answer_count
 
+-- what the lent memory holds afterwards, if it held old
 -- "Bytes past the count keep their content; a refusal changes no byte"; "Answers past the demands keep their content"
 abbrev pub content : Reply → List ℕ → List ℕ
 content (writes ns) old = written ns old
 content (refusal number) old = old
 
+-- the value of an answer with number n and values vs, or minus the number
 abbrev pub result_of : ℕ → List ℕ → ℤ
 result_of number [] = neg_ℤ (pos number)
 result_of number (v ∷ vs) = pos v
 
+-- what a survey call hands back
 -- the speed, or minus the refusal number
 abbrev pub survey_result : Result ℕ Refusal → ℤ
 survey_result a = result_of (refusal_number a) (survey.values a)

@@ -1,22 +1,4 @@
 -- Laws of the calls, stated; proofs/Laws proves them.
---   last_refusal, last_daily_refusal, last_forecast_refusal   19, 21 of a call with a daily traffic, and 22 of one with a forecast
---   WithinEnds least most last r   so many bytes or numbers at least and at most; or a refusal from 1 to the last
---   RepliesWithinEnds     every call over a line replies so: 1 to 64 bytes, 1 to 24 answers of twelve numbers, or sixteen or eight numbers;
---                         0 is never handed back
---   BufferTooShort        a buffer of 63 bytes gets 17, and so do 15 numbers for daily figures and 7 for a forecast, whatever the line
---   NoDemandIsRefused     no demand gets 18, whatever the line and the room
---   LastRefusalIsReached  a line with a speed factor of 499 gets 19, asked for its answer and for its lanes, 21 with a daily traffic of
---                         4,000,000,001, and 22 with a forecast whose demand is from 1 to 0
---   DayHandsBack          minus 18 where the lent memory does not fit; else minus 15 where the line is malformed; else the count of the
---                         demands
---   DayCallIsTheDay       a line that is read: the call's result and the lent numbers afterwards are those of `evaluate_day` for its case
---   PositionIsTheLinesAnswer   position i and the reply to a line with demand i are those of one answer
---   HandsBackFigures count number values call   minus 17 and nothing written where fewer numbers are lent than the count; else minus 15
---                         where the line is malformed; else minus the number of the answer to its case, or the count and the answer's
---                         values from the start on
---   DailyHandsBack        so does the call with a daily traffic, with sixteen numbers and the daily answer
---   ForecastHandsBack     and the call with a forecast, with eight and the forecast's answer
--- Assumes nothing.
 use Rattle.std.specs.Prelude.{ℕ, ◌*◌, ◌≤◌, ◌<◌, ◌≡◌, Ok, Err, List, [], ◌++◌, pos, neg_ℤ, length, drop, get_or}
 use Rattle.text.specs.Bytes.{bytes_of}
 use Rattle.road.specs.declared.Case.{Case}
@@ -31,13 +13,15 @@ use Rattle.daily.specs.Instances.{urban}
 use Rattle.forecast.specs.declared.Forecast.{Forecast}
 use Rattle.forecast.specs.Forecasts as forecasts
 use Rattle.forecast.specs.Forecasts.{forecast_of, forecast_answer}
-use Rattle.checks.specs.declared.Refusal.{Refusal}
-use Rattle.checks.specs.Numbers.{refusal_number}
+use Rattle.refusals.specs.declared.Refusal.{Refusal}
+use Rattle.refusals.specs.Numbers.{refusal_number}
 use Rattle.lines.specs.Reading.{read_line}
 use Rattle.replies.specs.Texts.{longest_answer}
 use Rattle.marehour.specs.Calls.{Reply, writes, refusal, answer_reply, answer_call, lanes_call, day_call, daily_call}
 use Rattle.marehour.specs.Calls.{forecast_call, call_result, day_result, content, result_of}
 
+-- last_refusal, last_daily_refusal, last_forecast_refusal: 19, 21 of a call with a daily traffic, and 22 of
+-- one with a forecast
 abbrev pub last_refusal : ℕ
 last_refusal = 19
 
@@ -47,10 +31,13 @@ last_daily_refusal = 21
 abbrev pub last_forecast_refusal : ℕ
 last_forecast_refusal = 22
 
+-- so many bytes or numbers at least and at most; or a refusal from 1 to the last
 abbrev pub WithinEnds : (least most last : ℕ) → Reply → Type 0
 WithinEnds least most last (writes ns) = (least ≤ length ns) × (length ns ≤ most)
 WithinEnds least most last (refusal n) = (1 ≤ n) × (n ≤ last)
 
+-- every call over a line replies so: 1 to 64 bytes, 1 to 24 answers of twelve numbers, or sixteen or eight
+-- numbers; 0 is never handed back
 abbrev pub RepliesWithinEnds : Type 0
 RepliesWithinEnds =
     (line : List ℕ) (letter room : ℕ) (demands : List ℕ) (shares : Shares) (traffic : ℕ) (forecast : Forecast)
@@ -60,15 +47,20 @@ RepliesWithinEnds =
     × WithinEnds daily.figure_count daily.figure_count last_daily_refusal (daily_call line shares traffic room)
     × WithinEnds forecasts.figure_count forecasts.figure_count last_forecast_refusal (forecast_call line forecast room)
 
+-- a buffer of 63 bytes gets 17, and so do 15 numbers for daily figures and 7 for a forecast, whatever the
+-- line
 abbrev pub BufferTooShort : Type 0
 BufferTooShort =
     (line : List ℕ) (letter : ℕ) (shares : Shares) (traffic : ℕ) (forecast : Forecast)
     → (answer_call line 63 ≡ refusal 17) × (lanes_call line letter 63 ≡ refusal 17) × (daily_call line shares traffic 15 ≡ refusal 17)
     × (forecast_call line forecast 7 ≡ refusal 17)
 
+-- no demand gets 18, whatever the line and the room
 abbrev pub NoDemandIsRefused : Type 0
 NoDemandIsRefused = (line : List ℕ) (room : ℕ) → day_call line [] room ≡ refusal 18
 
+-- a line with a speed factor of 499 gets 19, asked for its answer and for its lanes, 21 with a daily traffic
+-- of 4,000,000,001, and 22 with a forecast whose demand is from 1 to 0
 abbrev pub LastRefusalIsReached : Type 0
 LastRefusalIsReached =
     let line = bytes_of "F\tG\t75000\t120\t60\t60\tD\t0\t2\t0\t1000\t0\tL\t499\t1000" in
@@ -76,6 +68,8 @@ LastRefusalIsReached =
     × (daily_call line urban 4000000001 16 ≡ refusal last_daily_refusal)
     × (forecast_call line (forecast_of 1 0 0 0 1000 1000) 8 ≡ refusal last_forecast_refusal)
 
+-- minus 18 where the lent memory does not fit; else minus 15 where the line is malformed; else the count of
+-- the demands
 abbrev pub DayHandsBack : Type 0
 DayHandsBack =
     (line demands : List ℕ) (room : ℕ)
@@ -85,6 +79,8 @@ DayHandsBack =
     × (LentFits (length demands) room → (case : Case) → read_line line ≡ Ok case
     → day_result (day_call line demands room) ≡ pos (length demands))
 
+-- a line that is read: the call's result and the lent numbers afterwards are those of `evaluate_day` for its
+-- case
 abbrev pub DayCallIsTheDay : Type 0
 DayCallIsTheDay =
     (line : List ℕ) (case : Case) → read_line line ≡ Ok case → (demands old : List ℕ)
@@ -92,6 +88,7 @@ DayCallIsTheDay =
     ≡ result_of (refusal_number (day_answer (length demands) (length old))) (values (day_answer (length demands) (length old))))
     × (content (day_call line demands (length old)) old ≡ day_content case demands old)
 
+-- position i and the reply to a line with demand i are those of one answer
 abbrev pub PositionIsTheLinesAnswer : Type 0
 PositionIsTheLinesAnswer =
     (line : List ℕ) (case : Case) (demands old : List ℕ) (i : ℕ)
@@ -100,6 +97,9 @@ PositionIsTheLinesAnswer =
     × ((other : List ℕ) (room : ℕ) → read_line other ≡ Ok (with_demand case (get_or demands i 0)) → longest_answer ≤ room
     → answer_call other room ≡ answer_reply (answer_to (with_demand case (get_or demands i 0))))
 
+-- minus 17 and nothing written where fewer numbers are lent than the count; else minus 15 where the line is
+-- malformed; else minus the number of the answer to its case, or the count and the answer's values from the
+-- start on
 abbrev pub HandsBackFigures : (count : ℕ) (number : Case → ℕ) (values : Case → List ℕ) (call : List ℕ → ℕ → Reply) → Type 0
 HandsBackFigures count number values call =
     (line old : List ℕ)
@@ -110,12 +110,14 @@ HandsBackFigures count number values call =
     → ((n : ℕ) → number case ≡ n → 0 < n → (call_result reply ≡ neg_ℤ (pos n)) × (content reply old ≡ old))
     × (number case ≡ 0 → (call_result reply ≡ pos count) × (content reply old ≡ values case ++ drop count old)))
 
+-- so does the call with a daily traffic, with sixteen numbers and the daily answer
 abbrev pub DailyHandsBack : Type 0
 DailyHandsBack =
     (shares : Shares) (traffic : ℕ)
     → HandsBackFigures daily.figure_count (λ case. refusal_number (daily_answer case shares traffic))
     (λ case. daily.values (daily_answer case shares traffic)) (λ line room. daily_call line shares traffic room)
 
+-- and the call with a forecast, with eight and the forecast's answer
 abbrev pub ForecastHandsBack : Type 0
 ForecastHandsBack =
     (forecast : Forecast)

@@ -1,12 +1,5 @@
 -- What the call that counts the tried demands hands back (document 02, T-04), and its laws, stated; proofs/TriesLaws proves
 -- them.
---   tries_result a n    the count n of an answer with a grade, or minus the refusal's number
---   line_tries r        the same for a line that was read: minus 15 where it is malformed
---   tries_call line     the same for a line
---   TriesHandBack       minus 15 where the line is malformed; else the count of the tried demands, from 1 to 80, or minus the refusal
---                       of its case
---   TriesOfLines        67 for the printed line, and minus 15 for a line of one field
--- Assumes nothing.
 use Rattle.std.specs.Prelude.{◌≡◌, Result, Ok, Err, List, ℕ, ◌≤◌, ◌<◌, ℤ, pos, neg_ℤ, length}
 use Rattle.text.specs.Bytes.{bytes_of}
 use Rattle.road.specs.declared.Case.{Case}
@@ -14,23 +7,28 @@ use Rattle.method.specs.Refusals.{refusal, Accepted}
 use Rattle.answer.specs.declared.evaluate.Grade.{Grade}
 use Rattle.answer.specs.Answers.{answer_to}
 use Rattle.answer.specs.Tries.{demands_tried, counted_answer}
-use Rattle.checks.specs.declared.Refusal.{Refusal}
-use Rattle.checks.specs.Numbers.{number}
+use Rattle.refusals.specs.declared.Refusal.{Refusal}
+use Rattle.refusals.specs.Numbers.{number}
 use Rattle.lines.specs.Reading.{read_line}
 use Rattle.marehour.specs.Boundary.{printed_line}
 
+-- the count n of an answer with a grade, or minus the refusal's number
 abbrev pub tries_result : Result Grade Refusal → ℕ → ℤ
 tries_result (Ok grade) tries = pos tries
 tries_result (Err r) tries = neg_ℤ (pos (number r))
 
+-- the same for a line that was read: minus 15 where it is malformed
 -- "15 malformed line", before 1
 abbrev pub line_tries : Result Case Refusal → ℤ
 line_tries (Ok case) = tries_result (answer_to case) (counted_answer case).tries
 line_tries (Err r) = neg_ℤ (pos (number r))
 
+-- the same for a line
 abbrev pub tries_call : List ℕ → ℤ
 tries_call line = line_tries (read_line line)
 
+-- minus 15 where the line is malformed; else the count of the tried demands, from 1 to 80, or minus the
+-- refusal of its case
 abbrev pub TriesHandBack : Type 0
 TriesHandBack =
     (line : List ℕ)
@@ -40,5 +38,6 @@ TriesHandBack =
     → (tries_call line ≡ pos (length (demands_tried case))) × (1 ≤ length (demands_tried case)) × (length (demands_tried case) ≤ 80))
     × ((n : ℕ) → refusal case ≡ n → 0 < n → tries_call line ≡ neg_ℤ (pos n)))
 
+-- 67 for the printed line, and minus 15 for a line of one field
 abbrev pub TriesOfLines : Type 0
 TriesOfLines = (tries_call (bytes_of printed_line) ≡ pos 67) × (tries_call (bytes_of "F") ≡ neg_ℤ (pos 15))

@@ -1,17 +1,13 @@
-// What the calls of a host in C share, and the calls over a lent line without its newline and a lent answer buffer.
-//   check_room         17 where lent memory is too short
-//   case_of            the case of a lent line, or what refuses the lent memory or the line
-//   handed_back        what a call hands back: a count, or minus a refusal's number
-//   marehour_answer    the answer to a line
-//   marehour_lanes     the lanes question for a line and a letter number
+//! What the calls of a host in C share, and the calls over a lent line without its newline and a lent answer buffer.
+
 ghost use Rattle.std.specs.Prelude.{◌≡◌, length};
-ghost use Rattle.checks.specs.Refusals.{first_refusal};
-ghost use Rattle.checks.specs.Numbers.{refusal_number};
+ghost use Rattle.refusals.specs.Refusals.{first_refusal};
+ghost use Rattle.refusals.specs.Numbers.{refusal_number};
 ghost use Rattle.lines.specs.Reading.{read_line};
 ghost use Rattle.marehour.specs.Calls.{answer_call, lanes_call, call_result, content, buffer_refusals, line_case, hands_back};
 
 use answer::{evaluate, lanes};
-use checks::Refusal;
+use refusals::Refusal;
 use lines::read;
 use replies::write;
 use replies::write::LONGEST_ANSWER;
@@ -19,6 +15,7 @@ use road::Case;
 
 const ANSWER_SIZE: usize = LONGEST_ANSWER;
 
+/// 17 where lent memory is too short.
 #[tactic(auto, unfolding(crate::specs::Calls::buffer_refusals))]
 pub(crate) fn check_room(room: usize, least: usize) -> Result<(), Refusal>
     ensures { refusal_number result ≡ first_refusal (buffer_refusals least room) }
@@ -29,7 +26,7 @@ pub(crate) fn check_room(room: usize, least: usize) -> Result<(), Refusal>
     Ok(())
 }
 
-// What refuses the lent memory comes first of all.
+/// What refuses the lent memory comes first of all.
 pub(crate) fn case_of(line: &[u8], lent: Result<(), Refusal>) -> Result<Case, Refusal>
     ensures { result ≡ line_case lent (read_line line.now) }
 {
@@ -40,6 +37,7 @@ pub(crate) fn case_of(line: &[u8], lent: Result<(), Refusal>) -> Result<Case, Re
     Ok(case)
 }
 
+/// What a call hands back: a count, or minus a refusal's number.
 pub(crate) fn handed_back(found: Result<i32, Refusal>) -> i32
     ensures { result ≡ hands_back found }
 {
@@ -72,6 +70,7 @@ fn lanes_in(line: &[u8], letter: u64, answer: &mut [u8]) -> Result<i32, Refusal>
     Ok(2)
 }
 
+/// The answer to a line.
 pub fn marehour_answer(line: &[u8], answer: &mut [u8]) -> i32
     ensures result { result ≡ call_result (answer_call line.now (length answer.old)) }
     ensures buffer { answer.new
@@ -80,6 +79,7 @@ pub fn marehour_answer(line: &[u8], answer: &mut [u8]) -> i32
     handed_back(answer_in(line, answer))
 }
 
+/// The lanes question for a line and a letter number.
 pub fn marehour_lanes(line: &[u8], letter: u32, answer: &mut [u8]) -> i32
     ensures result { result ≡ call_result (lanes_call line.now letter (length answer.old)) }
     ensures buffer { answer.new

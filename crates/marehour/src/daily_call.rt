@@ -1,11 +1,11 @@
-// Daily volumes for a host in C: a lent line without its newline, a daily traffic with its shares, and sixteen lent numbers.
-//   marehour_daily   the answer to the line's case with the hourly demand of the daily traffic, and its daily service volumes
+//! Daily volumes for a host in C: a lent line without its newline, a daily traffic with its shares, and sixteen lent numbers.
+
 ghost use Rattle.std.specs.Prelude.{◌≡◌, length};
 ghost use Rattle.daily.specs.Daily.{shares_of};
 ghost use Rattle.marehour.specs.Calls.{daily_call, call_result, content, hands_back};
 
 use crate::calls::{case_of, check_room, handed_back};
-use checks::Refusal;
+use refusals::Refusal;
 use daily::{FIGURES, Shares};
 
 fn daily_in(
@@ -23,6 +23,7 @@ fn daily_in(
     Ok(written as i32)
 }
 
+/// The answer to the line's case with the hourly demand of the daily traffic, and its daily service volumes.
 pub fn marehour_daily(
     line: &[u8],
     daily_traffic: u64,

@@ -1,10 +1,10 @@
-// A whole day for a host in C: a lent line without its newline, lent demands, and lent answers of twelve numbers each.
-//   marehour_day   the answers to the line's case with each demand
+//! A whole day for a host in C: a lent line without its newline, lent demands, and lent answers of twelve numbers each.
+
 ghost use Rattle.std.specs.Prelude.{◌≡◌, length};
 ghost use Rattle.marehour.specs.Calls.{day_call, day_result, content, hands_back};
 
 use crate::calls::{case_of, handed_back};
-use checks::Refusal;
+use refusals::Refusal;
 
 fn day_in(line: &[u8], demands: &[u64], answers: &mut [u64]) -> Result<i32, Refusal>
     ensures result { hands_back result ≡ day_result (day_call line.now demands.now (length answers.old)) }
@@ -16,6 +16,7 @@ fn day_in(line: &[u8], demands: &[u64], answers: &mut [u64]) -> Result<i32, Refu
     Ok(demands.len() as i32)
 }
 
+/// The answers to the line's case with each demand.
 pub fn marehour_day(line: &[u8], demands: &[u64], answers: &mut [u64]) -> i32
     ensures result { result ≡ day_result (day_call line.now demands.now (length answers.old)) }
     ensures answers { answers.new

@@ -1,11 +1,11 @@
-// A forecast for a host in C: a lent line without its newline, the ends of demand, heavy share and peak-hour factor, eight lent numbers.
-//   marehour_forecast   the best and the worst letter of the line's case within the ends, each with its combination
+//! A forecast for a host in C: a lent line without its newline, the ends of demand, heavy share and peak-hour factor, eight lent numbers.
+
 ghost use Rattle.std.specs.Prelude.{◌≡◌, length};
 ghost use Rattle.forecast.specs.Forecasts.{forecast_of};
 ghost use Rattle.marehour.specs.Calls.{forecast_call, call_result, content, hands_back};
 
 use crate::calls::{case_of, check_room, handed_back};
-use checks::Refusal;
+use refusals::Refusal;
 use forecast::{FIGURES, Forecast, Range};
 
 fn forecast_in(line: &[u8], forecast: Forecast, figures: &mut [u64]) -> Result<i32, Refusal>
@@ -18,6 +18,7 @@ fn forecast_in(line: &[u8], forecast: Forecast, figures: &mut [u64]) -> Result<i
     Ok(written as i32)
 }
 
+/// The best and the worst letter of the line's case within the ends, each with its combination.
 pub fn marehour_forecast(
     line: &[u8],
     demand_low: u64,

@@ -1,13 +1,12 @@
-// The surveyed speed for a host in C: thousandths of mi/h, or minus the refusal's number.
-//   marehour_survey_mph   from a float in miles per hour
-//   marehour_survey_kmh   from a float in kilometres per hour
+//! The surveyed speed for a host in C: thousandths of mi/h, or minus the refusal's number.
+
 ghost use Rattle.std.specs.Prelude.{◌≡◌};
 ghost use Rattle.survey.specs.Survey.{survey_answer};
 ghost use Rattle.survey.specs.declared.SurveyedSpeed.TheVariants.{MilesPerHour, KilometresPerHour};
 ghost use Rattle.marehour.specs.Calls.{hands_back, survey_result};
 
 use crate::calls::handed_back;
-use checks::Refusal;
+use refusals::Refusal;
 use survey::{Survey, SurveyedSpeed};
 
 fn survey_speed(speed: SurveyedSpeed, cars: u32, flow: u32) -> Result<i32, Refusal>
@@ -22,12 +21,14 @@ fn survey_speed(speed: SurveyedSpeed, cars: u32, flow: u32) -> Result<i32, Refus
     Ok(thousandths as i32)
 }
 
+/// From a float in miles per hour.
 pub fn marehour_survey_mph(speed: f32, cars: u32, flow: u32) -> i32
     ensures { result ≡ survey_result (survey_answer (record { speed = MilesPerHour speed; cars = cars; flow = flow })) }
 {
     handed_back(survey_speed(SurveyedSpeed::MilesPerHour(speed), cars, flow))
 }
 
+/// From a float in kilometres per hour.
 pub fn marehour_survey_kmh(speed: f32, cars: u32, flow: u32) -> i32
     ensures { result ≡ survey_result (survey_answer (record { speed = KilometresPerHour speed; cars = cars; flow = flow })) }
 {

@@ -1,12 +1,12 @@
-// The demands that the search for the service volumes tries, counted for a host in C: their count, or minus the refusal's number.
-//   marehour_tries   for the case of a lent line
+//! The demands that the search for the service volumes tries, counted for a host in C: their count, or minus the refusal's number.
+
 ghost use Rattle.std.specs.Prelude.{◌≡◌};
 ghost use Rattle.marehour.specs.Calls.{hands_back};
 ghost use Rattle.marehour.specs.Tries.{tries_call};
 
 use crate::calls::{case_of, handed_back};
 use answer::evaluate;
-use checks::Refusal;
+use refusals::Refusal;
 
 #[tactic(auto, using(crate::proofs::CallLaws::tries_laws))]
 fn tries_for(line: &[u8]) -> Result<i32, Refusal>
@@ -18,6 +18,7 @@ fn tries_for(line: &[u8]) -> Result<i32, Refusal>
     Ok(counted.tries as i32)
 }
 
+/// For the case of a lent line.
 pub fn marehour_tries(line: &[u8]) -> i32
     ensures { result ≡ tries_call line.now }
 {

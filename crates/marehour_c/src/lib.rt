@@ -1,5 +1,6 @@
-// The calls that a host in C makes, with C's calling convention: each is the function of the crate marehour of its name, with its clauses.
-// include/marehour.h documents them.
+//! The calls that a host in C makes, with C's calling convention: each is the function of the crate marehour of its name, with its clauses.
+//! include/marehour.h documents them.
+
 #![tactic(auto)]
 
 ghost use Rattle.std.specs.Prelude.{◌≡◌, length};

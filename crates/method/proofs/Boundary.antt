@@ -1,14 +1,11 @@
 -- The boundary sections (specs/Boundary), shown.
---   boundary-shown   each figure of the list is what is to be shown
---   ramp-6, ramp-24, power-500   entries of the two tables
--- Assumes nothing.
 use Rattle.std.proofs.Common.{◌≡◌, refl, arith}
 use Rattle.numbers.specs.Division.{div_up}
 use Rattle.numbers.specs.Search.{starts_at}
-use Rattle.checks.specs.Figures.{Shown}
-use Rattle.checks.specs.Numbers.{in_order, refusal_of}
-use Rattle.powers.specs.Power.{reaches_power, power}
-use Rattle.powers.proofs.PowerLaws.{power-eq}
+use Rattle.refusals.specs.Figures.{Shown}
+use Rattle.refusals.specs.Numbers.{in_order, refusal_of}
+use Rattle.curve.specs.Power.{reaches_power, power}
+use Rattle.curve.proofs.PowerLaws.{power-eq}
 use Rattle.curve.specs.Curves.{capacity, breakpoint, curve_at}
 use Rattle.curve.specs.Weather.{adjusted_speed, adjusted_capacity, adjusted_breakpoint, curve_under}
 use Rattle.curve.specs.Speed.{fall_share_by, speed, shown_speed}
@@ -27,6 +24,7 @@ use Rattle.method.specs.Assess.{measures}
 use Rattle.method.specs.Boundary.{limit_figures, order_figures, weather_figures, speed_figures, ramp_figures, clearance_figures}
 use Rattle.method.specs.Boundary.{boundary_figures}
 
+-- ramp-6, ramp-24, power-500: entries of the two tables
 pub ramp-6 : ramp_term 6 ≡ 3220
 unfolding is_ramp_term
 ramp-6 = ramp_term-eq 6 3220 (omega arith) tt
@@ -105,6 +103,7 @@ unfolding div_up entry_before entry_after weighted_sum interpolated per_missing_
     total_clearance_row total_clearance_adjustment clearance_figures
 clearances-shown = (refl, (refl, (refl, (refl, (refl, (refl, (refl, (refl, (refl, (refl, (refl, (refl, ramps-shown))))))))))))
 
+-- each figure of the list is what is to be shown
 pub boundary-shown : Shown boundary_figures
 unfolding in_order refusal_of div_up entry_before entry_after weighted_sum interpolated lane_width_adjustment per_missing_foot right_clearance_row
     right_clearance_adjustment total_clearance total_clearance_row total_clearance_adjustment access_adjustment estimated_by uncapped_by

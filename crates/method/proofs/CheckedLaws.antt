@@ -1,22 +1,10 @@
 -- The curve of a case, or its refusal (specs/Checked).
---   case_curve-well_formed, case_curve-sized   the curve of an accepted case
---   refusals_with-err    a case that one of 1 to 6, of what was found in the place of 7 to 9, and of 19 refuses
---   checked_with-eq      a case that none of them refuses: 10 alone is checked
---   checked-found        the number of 7 to 9 stands for them
---   checked_curve-eq     a case that 1 to 9 and 19 do not refuse: 10 alone is checked
---   checked-accepted     a case that is checked and found with a curve is accepted, and the curve is its own
---   checked-curve        which is well formed and within the sizes
---   by-accepted, by-refused   an answer to a case, of any type, by what the check found
---   checked_curve-accepted, checked_curve-refused   the same where 10 alone is checked
---   check_laws, checked_found, found_laws, answer_laws   for tactics: of a check, of the number of 7 to 9, of a case that is found with a
---                        curve, of an answer
--- Assumes nothing.
 use Rattle.std.proofs.Common.{◌≡◌, refl, sym, ap, ◌∙◌, ℕ, ◌<◌, Result, Ok, Err}
-use Rattle.checks.specs.declared.Refusal.{Refusal}
-use Rattle.checks.specs.Numbers.{number, ok_unless}
-use Rattle.checks.specs.Refusals.{first_refusal, found}
-use Rattle.checks.proofs.NumberLaws.{number-above, refusal_of-number, ok_unless-ok, first_refusal-err, ok_unless-found, ok_unless-refused}
-use Rattle.checks.proofs.NumberLaws.{ok_unless-above}
+use Rattle.refusals.specs.declared.Refusal.{Refusal}
+use Rattle.refusals.specs.Numbers.{number, ok_unless}
+use Rattle.refusals.specs.Refusals.{first_refusal, found}
+use Rattle.refusals.proofs.NumberLaws.{number-above, refusal_of-number, ok_unless-ok, first_refusal-err, ok_unless-found, ok_unless-refused}
+use Rattle.refusals.proofs.NumberLaws.{ok_unless-above}
 use Rattle.curve.specs.declared.Curve.{Curve}
 use Rattle.curve.specs.Curves.{WellFormed, Sized}
 use Rattle.curve.proofs.WeatherLaws.{curve_under-fits}
@@ -35,15 +23,18 @@ fits case a =
     curve_under-fits case.road.kind case.weather (free_flow_speed_of case.road case.lanes)
     (fields-weather case (accepted-fields case a)) (accepted-adjusted case a) (free_flow_speed_of-le case.road case.lanes)
 
+-- case_curve-well_formed, case_curve-sized: the curve of an accepted case
 pub case_curve-well_formed : (case : Case) → Accepted case → WellFormed (case_curve case)
 case_curve-well_formed case a = (fits case a).0
 
 pub case_curve-sized : (case : Case) → Accepted case → Sized (case_curve case)
 case_curve-sized case a = (fits case a).1
 
+-- a case that 1 to 9 and 19 do not refuse: 10 alone is checked
 pub checked_curve-eq : (case : Case) → FieldsFit case → checked_curve case.road case.weather case.lanes ≡ checked case
 checked_curve-eq case z = ap (λ n. ok_unless n (case_curve case)) (sym (refusals-fields case z))
 
+-- a case that is checked and found with a curve is accepted, and the curve is its own
 pub checked-accepted : (case : Case) (curve : Curve) → checked case ≡ Ok curve → Accepted case × (curve ≡ case_curve case)
 checked-accepted case curve e = ok_unless-found (refusal case) (case_curve case) curve e
 
@@ -53,23 +44,29 @@ checked-curve case curve e =
     let found = checked-accepted case curve e in rw found.1 (case_curve-well_formed case found.0, case_curve-sized case found.0)
 
 module _ (n : ℕ) (case : Case) where
+  -- a case that one of 1 to 6, of what was found in the place of 7 to 9, and of 19 refuses
   pub refusals_with-err : (r : Refusal) → number r ≡ first_refusal (field_refusals_with (found n) case)
       → number r ≡ first_refusal (refusals_with (found n) case)
   refusals_with-err r e = first_refusal-err (field_refusals_with (found n) case) (speed_refusals case.road case.weather case.lanes) r e
 
+  -- a case that none of them refuses: 10 alone is checked
   pub checked_with-eq : first_refusal (field_refusals_with (found n) case) ≡ 0
       → checked_curve case.road case.weather case.lanes ≡ checked_with (found n) case
   checked_with-eq z = ap (λ m. ok_unless m (case_curve case)) (sym (refusals_with-fields n case z))
 
+-- the number of 7 to 9 stands for them
 pub checked-found : (case : Case) → checked_with (found (first_refusal (load_refusals case))) case ≡ checked case
 checked-found case = ap (λ m. ok_unless m (case_curve case)) (refusals-with case)
 
+-- check_laws, checked_found, found_laws, answer_laws: for tactics: of a check, of the number of 7 to 9, of a
+-- case that is found with a curve, of an answer
 pub ruleset check_laws = (with-road, with-weather, refusals_with-err, checked_with-eq, number-above, refusal_of-number)
 
 pub ruleset checked_found = (checked-found)
 
 -- an answer to a case, of any type, by what the check found
 module _ {A : Type 0} (case : Case) (answer : A) where
+  -- by-accepted, by-refused: an answer to a case, of any type, by what the check found
   pub by-accepted : (curve : Curve) → checked case ≡ Ok curve → ◌≡◌ {A = Result A Refusal} (Ok answer) (ok_unless (refusal case) answer)
   by-accepted curve e = ok_unless-ok (refusal case) answer answer (checked-accepted case curve e).0 refl
 

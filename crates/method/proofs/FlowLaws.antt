@@ -1,13 +1,4 @@
 -- The flow rate (specs/Flow).
---   truck_equivalent-ends   E is 2 or 3
---   heavy-le             the heavy vehicles add at most 2,000
---   load_of-fits         64 bits hold the products with the load of a case that 1 to 9 and 19 do not refuse
---   load_laws            for tactics: the three
---   case_load-fits       the same with its own lanes
---   flow_rate_of-mono    it rises with demand and heavy factor, and falls with the divisor
---   case_flow_rate-mono   it rises with demand, share and equivalent, and falls with peak-hour factor and lanes
---   flow_rate_of-zero    of no demand it is 0
--- Assumes nothing.
 use Rattle.std.proofs.Common.{◌≡◌, ap, ◌∙◌, ℕ, ◌*◌, ◌-◌, ◌≤◌, ◌<◌, arith, mul-le-mul, mul-pos, zero-mul}
 use Rattle.numbers.specs.Division.{div_up}
 use Rattle.numbers.proofs.DivisionLaws.{div_up-mono, div_up-zero}
@@ -20,6 +11,7 @@ use Rattle.road.proofs.RefusalLaws.{load-ends}
 use Rattle.method.specs.declared.flow.Load.{Load}
 use Rattle.method.specs.Flow.{truck_equivalent, heavy_factor_of, load_of, flow_rate_of, case_flow_rate, LoadFits}
 
+-- E is 2 or 3
 pub truck_equivalent-ends : (t : Terrain) → (2 ≤ truck_equivalent t) × (truck_equivalent t ≤ 3)
 truck_equivalent-ends Terrain.Level = (omega arith, omega arith)
 truck_equivalent-ends Terrain.Rolling = (omega arith, omega arith)
@@ -30,6 +22,7 @@ heavy-le case n z =
     let ends = truck_equivalent-ends case.terrain in
     mul-le-mul {n₂ = 1000} {m₂ = 2} (load-ends (with_lanes case n) z).share-high (omega arith)
 
+-- 64 bits hold the products with the load of a case that 1 to 9 and 19 do not refuse
 pub load_of-fits : (case : Case) (n : ℕ) → FieldsFit (with_lanes case n) → LoadFits (load_of case n)
 unfolding heavy_factor_of
 load_of-fits case n z =
@@ -42,11 +35,14 @@ load_of-fits case n z =
       divisor-le = mul-le-mul {n₂ = 1000} {m₂ = 8} ends.factor-high (omega (arith, ends.lanes-high, kind.lanes-le));
     }
 
+-- for tactics: the three
 pub ruleset load_laws = (truck_equivalent-ends, heavy-le, load_of-fits)
 
+-- the same with its own lanes
 pub case_load-fits : (case : Case) → FieldsFit case → LoadFits (load_of case case.lanes)
 case_load-fits case z = load_of-fits case case.lanes z
 
+-- it rises with demand and heavy factor, and falls with the divisor
 pub flow_rate_of-mono : (l m : Load) (a b : ℕ) → 0 < m.divisor → a ≤ b → l.heavy_factor ≤ m.heavy_factor → m.divisor ≤ l.divisor
     → flow_rate_of l a ≤ flow_rate_of m b
 unfolding flow_rate_of
@@ -61,6 +57,7 @@ heavy_factor_of-mono c d hs he =
     mul-le-mul hs (omega arith) in
     omega arith
 
+-- it rises with demand, share and equivalent, and falls with peak-hour factor and lanes
 pub case_flow_rate-mono : (c d : Case) → FieldsFit d → c.demand ≤ d.demand → c.heavy_share ≤ d.heavy_share
     → truck_equivalent c.terrain ≤ truck_equivalent d.terrain
     → d.peak_hour_factor ≤ c.peak_hour_factor
@@ -70,6 +67,7 @@ case_flow_rate-mono c d z hd hs he hh hn =
     flow_rate_of-mono (load_of c c.lanes) (load_of d d.lanes) c.demand d.demand (case_load-fits d z).divisor-pos hd
     (heavy_factor_of-mono c d hs he) (mul-le-mul hh hn)
 
+-- of no demand it is 0
 pub flow_rate_of-zero : (load : Load) (demand : ℕ) → 0 < load.divisor → demand ≡ 0 → flow_rate_of load demand ≡ 0
 unfolding flow_rate_of
 flow_rate_of-zero load demand p e =

@@ -1,7 +1,4 @@
 -- The laws that specs/Laws states, proved: each by the law of the file beside its definition.
---   accepted-curve-is-well-formed, multilane-is-in-clear-weather, flow-rate-never-falls-with-load, no-demand-gets-a,
---   refused-by-the-list, refusals-in-order
--- Assumes nothing.
 use Rattle.std.proofs.Common.{refl}
 use Rattle.curve.specs.Service.{performance}
 use Rattle.curve.proofs.WeatherLaws.{multilane-clear}

@@ -1,11 +1,7 @@
 -- What a case gets, or its refusal.
---   measures case      the curve, flow rate and performance of a case
---   assessment case    its measures, or the first of 1 to 9, 19 and 10 that refuses it
---   values a           letter, F, c, v, speed and density; of a refusal no value
--- Assumes nothing.
 use Rattle.std.specs.Prelude.{ℕ, List, [], ◌∷◌, Result, Ok, Err}
-use Rattle.checks.specs.declared.Refusal.{Refusal}
-use Rattle.checks.specs.Numbers.{ok_unless}
+use Rattle.refusals.specs.declared.Refusal.{Refusal}
+use Rattle.refusals.specs.Numbers.{ok_unless}
 use Rattle.curve.specs.Service.{letter_number, performance}
 use Rattle.road.specs.declared.Case.{Case}
 use Rattle.method.specs.declared.assess.Measures.{Measures}
@@ -13,6 +9,7 @@ use Rattle.method.specs.Refusals.{refusal}
 use Rattle.method.specs.Checked.{case_curve}
 use Rattle.method.specs.Flow.{case_flow_rate}
 
+-- the curve, flow rate and performance of a case
 unfoldable pub measures : Case → Measures
 measures case =
     record {
@@ -21,9 +18,11 @@ measures case =
       performance = performance (case_curve case) (case_flow_rate case);
     }
 
+-- its measures, or the first of 1 to 9, 19 and 10 that refuses it
 abbrev pub assessment : Case → Result Measures Refusal
 assessment case = ok_unless (refusal case) (measures case)
 
+-- letter, F, c, v, speed and density; of a refusal no value
 abbrev pub values : Result Measures Refusal → List ℕ
 values (Ok m) =
     letter_number m.performance.letter ∷ m.curve.free_flow_speed ∷ m.curve.capacity ∷ m.flow_rate

@@ -1,17 +1,9 @@
 -- The boundary sections of document 01, with clearances, weather and ramps by document 02, as far as this layer can state them: one list,
 -- which the layers above make longer.
---   given kind f w   a road of given speed f and lane width w
---   two_lanes_under weather road v   its case with two lanes and demand v, no heavy vehicles, level, under weather
---   two_lanes road v  the same in clear weather
---   example           the printed line's case
---   refused_by_all    a case that breaks 1 to 9, 19 and 10
---   boundary_figures, clearance_figures, ramp_figures, speed_figures, weather_figures, order_figures, limit_figures   the list, and its last
---                    parts, each the end of the one before
--- Assumes nothing.
 use Rattle.std.specs.Prelude.{List, [], ◌∷◌, map, ℕ}
-use Rattle.checks.specs.Figures.{Figure, figure}
-use Rattle.checks.specs.Numbers.{refusal_number}
-use Rattle.powers.specs.Power.{power}
+use Rattle.refusals.specs.Figures.{Figure, figure}
+use Rattle.refusals.specs.Numbers.{refusal_number}
+use Rattle.curve.specs.Power.{power}
 use Rattle.curve.specs.declared.kind.Kind.{Kind}
 use Rattle.curve.specs.declared.Weather.{Weather}
 use Rattle.curve.specs.Curves.{curve_at}
@@ -34,16 +26,20 @@ use Rattle.method.specs.Assess.{assessment, values}
 abbrev density_and_letter : Kind → ℕ → ℕ → List ℕ
 density_and_letter kind f v = shown_density (curve_at kind f) v ∷ letter_number (letter_at (curve_at kind f) v) ∷ []
 
+-- a road of given speed f and lane width w
 abbrev pub given : Kind → ℕ → ℕ → Road
 given kind f w = road kind Way.Given f w 60 60 Median.Divided 0
 
+-- its case with two lanes and demand v, no heavy vehicles, level, under weather
 -- N = 2, H = 1,000, P = 0, level
 abbrev pub two_lanes_under : Weather → Road → ℕ → Case
 two_lanes_under weather road demand = loaded road 2 demand 1000 0 Terrain.Level weather
 
+-- the same in clear weather
 abbrev pub two_lanes : Road → ℕ → Case
 two_lanes = two_lanes_under clear
 
+-- the printed line's case
 -- the line F E 75400 110 20 0 D 24 2 2000 920 50 R
 abbrev pub example : Case
 example = loaded (road Kind.Freeway Way.Estimated 75400 110 20 0 Median.Divided 24) 2 2000 920 50 Terrain.Rolling clear
@@ -74,9 +70,12 @@ faulty speed width right median access lanes demand factor share speed_factor =
     loaded (road Kind.Freeway Way.Given speed width right 0 median access) lanes demand factor share Terrain.Level
     (factors speed_factor 1000)
 
+-- a case that breaks 1 to 9, 19 and 10
 abbrev pub refused_by_all : Case
 refused_by_all = faulty 0 99 401 Median.Undivided 49 1 1000000 249 1001 499
 
+-- boundary_figures, clearance_figures, ramp_figures, speed_figures, weather_figures, order_figures,
+-- limit_figures: the list, and its last parts, each the end of the one before
 -- The numbers that 1 to 9 leave at the ends of each range, and those past them: speed, width, clearance on either side, medians of kind F
 -- and of kind M, ramps and access, lanes of kind F and of kind M, demand, peak-hour factor, heavy share. 10 refuses a given speed of 30,000.
 unfoldable pub limit_figures : List Figure

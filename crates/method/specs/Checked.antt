@@ -1,15 +1,8 @@
 -- The curve of a case, or its refusal.
---   curve_of road weather n       the curve of a road with n lanes under weather
---   case_curve case               the curve of a case
---   checked_curve road weather n  the curve of a road with n lanes under weather, or 10
---   checked_with loads case       the curve of a case, or its refusal, with what is asked in the place of 7 to 9
---   checked case                  the curve of a case, or its refusal
---   values c                      F, c and b; of a refusal no value
--- Assumes nothing.
 use Rattle.std.specs.Prelude.{ℕ, List, [], ◌∷◌, Result, Ok, Err}
-use Rattle.checks.specs.declared.Refusal.{Refusal}
-use Rattle.checks.specs.Refusals.{Condition, first_refusal}
-use Rattle.checks.specs.Numbers.{ok_unless}
+use Rattle.refusals.specs.declared.Refusal.{Refusal}
+use Rattle.refusals.specs.Refusals.{Condition, first_refusal}
+use Rattle.refusals.specs.Numbers.{ok_unless}
 use Rattle.curve.specs.declared.Curve.{Curve}
 use Rattle.curve.specs.declared.Weather.{Weather}
 use Rattle.curve.specs.Weather.{curve_under}
@@ -18,21 +11,27 @@ use Rattle.road.specs.declared.Case.{Case}
 use Rattle.road.specs.FreeFlowSpeed.{free_flow_speed_of}
 use Rattle.method.specs.Refusals.{speed_refusals, refusals_with, refusal}
 
+-- the curve of a road with n lanes under weather
 unfoldable pub curve_of : Road → Weather → ℕ → Curve
 curve_of road weather n = curve_under weather road.kind (free_flow_speed_of road n)
 
+-- the curve of a case
 abbrev pub case_curve : Case → Curve
 case_curve case = curve_of case.road case.weather case.lanes
 
+-- the curve of a road with n lanes under weather, or 10
 abbrev pub checked_curve : Road → Weather → ℕ → Result Curve Refusal
 checked_curve road weather n = ok_unless (first_refusal (speed_refusals road weather n)) (curve_of road weather n)
 
+-- the curve of a case, or its refusal, with what is asked in the place of 7 to 9
 abbrev pub checked_with : List Condition → Case → Result Curve Refusal
 checked_with loads case = ok_unless (first_refusal (refusals_with loads case)) (case_curve case)
 
+-- the curve of a case, or its refusal
 abbrev pub checked : Case → Result Curve Refusal
 checked case = ok_unless (refusal case) (case_curve case)
 
+-- F, c and b; of a refusal no value
 abbrev pub values : Result Curve Refusal → List ℕ
 values (Ok curve) = curve.free_flow_speed ∷ curve.capacity ∷ curve.breakpoint ∷ []
 values (Err r) = []

@@ -1,8 +1,6 @@
 -- The laws of the method, stated over the definitions that the contracts cite; proofs/Laws proves each.
---   AcceptedCurveIsWellFormed, MultilaneIsInClearWeather, FlowRateNeverFallsWithLoad, NoDemandGetsA, RefusedByTheList, RefusalsInOrder
--- Assumes nothing.
 use Rattle.std.specs.Prelude.{◌≡◌, [], ◌∷◌, map, ◌≤◌}
-use Rattle.checks.specs.Numbers.{refusal_number}
+use Rattle.refusals.specs.Numbers.{refusal_number}
 use Rattle.curve.specs.declared.kind.Kind.TheVariants as Kind
 use Rattle.curve.specs.declared.service.Letter.TheVariants as Letter
 use Rattle.curve.specs.Curves.{WellFormed, Sized}

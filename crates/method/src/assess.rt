@@ -1,11 +1,5 @@
-// From a case to what it gets, or to its refusal.
-//   CaseTerms       what demands have in common, worked out once: a curve, and a load that fits
-//   AcceptedCase    a case that none of 1 to 9, 19 and 10 refuses, with what its demands have in common;
-//                   AcceptedCase::new: from the case and its curve
-//   Measures        the curve of an accepted case, its flow rate, and what that gets on the curve
-//   measures_at     the measures of an accepted case with a demand in the place of its own
-//   measures        with its own
-//   assess          measures or a refusal, for any case at all
+//! From a case to what it gets, or to its refusal.
+
 ghost use Rattle.std.specs.Prelude.{◌≡◌, ◌≤◌};
 ghost use Rattle.road.specs.Cases.{with_demand};
 ghost use Rattle.road.specs.Refusals.{greatest_demand};
@@ -16,12 +10,13 @@ ghost use Rattle.method.specs.Assess.{measures, assessment};
 
 use crate::checked;
 use crate::flow::Load;
-use checks::Refusal;
+use refusals::Refusal;
 use curve::Curve;
 use curve::service::Performance;
 use curve::speed::CurveTerms;
 use road::Case;
 
+/// What demands have in common, worked out once: a curve, and a load that fits.
 #[derive(Clone, Copy)]
 pub struct CaseTerms {
     pub curve_terms: CurveTerms,
@@ -29,6 +24,7 @@ pub struct CaseTerms {
     pub ghost load_fits: { LoadFits load },
 }
 
+/// A case that none of 1 to 9, 19 and 10 refuses, with what its demands have in common; AcceptedCase::new: from the case and its curve.
 #[derive(Clone, Copy)]
 pub struct AcceptedCase {
     pub case: Case,
@@ -38,6 +34,7 @@ pub struct AcceptedCase {
     pub ghost own_load: { terms.load ≡ load_of case case.lanes },
 }
 
+/// The curve of an accepted case, its flow rate, and what that gets on the curve.
 #[derive(Clone, Copy)]
 pub struct Measures {
     pub curve: Curve,
@@ -46,7 +43,7 @@ pub struct Measures {
 }
 
 impl AcceptedCase {
-    // From the case's curve.
+    /// From the case's curve.
     #[tactic(auto, using(crate::proofs::CheckedLaws::found_laws))]
     pub fn new(case: Case, curve: Curve) -> AcceptedCase
         requires { checked case ≡ Ok curve }
@@ -61,6 +58,7 @@ impl AcceptedCase {
         }
     }
 
+    /// The measures of an accepted case with a demand in the place of its own.
     #[tactic(auto, unfolding(crate::specs::Assess::measures, crate::specs::Flow::heavy_factor_of))]
     pub fn measures_at(&self, demand: u64) -> Measures
         requires { demand ≤ greatest_demand }
@@ -74,6 +72,7 @@ impl AcceptedCase {
         }
     }
 
+    /// With its own.
     #[tactic(auto, using(crate::proofs::RefusalLaws::accepted_ends))]
     pub fn measures(&self) -> Measures
         ensures { result ≡ measures self.now.case }
@@ -82,6 +81,7 @@ impl AcceptedCase {
     }
 }
 
+/// Measures or a refusal, for any case at all.
 #[tactic(auto, using(crate::proofs::CheckedLaws::answer_laws))]
 pub fn assess(case: Case) -> Result<Measures, Refusal>
     ensures { result ≡ assessment case }

@@ -1,18 +1,17 @@
-// The curve of a case, or its refusal.
-//   checked_curve   the curve of a road with a lane count under weather, or 10
-//   check_with      the curve of a case, or the first of 1 to 6, of what was found in the place of 7 to 9, of 19 and of 10
-//   check           the curve of a case, or the first of 1 to 9, 19 and 10 that refuses it
+//! The curve of a case, or its refusal.
+
 ghost use Rattle.std.specs.Prelude.{◌≡◌};
-ghost use Rattle.checks.specs.Refusals.{found};
-ghost use Rattle.checks.specs.Numbers.{refusal_number};
+ghost use Rattle.refusals.specs.Refusals.{found};
+ghost use Rattle.refusals.specs.Numbers.{refusal_number};
 ghost use Rattle.curve.specs.Weather.{FactorsFit};
 ghost use Rattle.method.specs.Checked.{checked_curve, checked_with, checked};
 
-use checks::Refusal;
+use refusals::Refusal;
 use curve::{Curve, Weather};
 use road::Case;
 use road::free_flow::FitRoad;
 
+/// The curve of a road with a lane count under weather, or 10.
 #[tactic(auto, using(crate::proofs::RefusalLaws::ten_laws), unfolding(crate::specs::Refusals::speed_refusals, crate::specs::Checked::curve_of))]
 pub fn checked_curve(fit: &FitRoad, weather: Weather, lanes: u64) -> Result<Curve, Refusal>
     requires { FactorsFit fit.now.road.kind weather }
@@ -30,6 +29,7 @@ pub fn checked_curve(fit: &FitRoad, weather: Weather, lanes: u64) -> Result<Curv
     Ok(curve)
 }
 
+/// The curve of a case, or the first of 1 to 6, of what was found in the place of 7 to 9, of 19 and of 10.
 #[tactic(auto, using(crate::proofs::CheckedLaws::check_laws))]
 pub fn check_with(case: &Case, loads: Result<(), Refusal>) -> Result<Curve, Refusal>
     ensures { result ≡ checked_with (found (refusal_number loads)) case.now }
@@ -38,6 +38,7 @@ pub fn check_with(case: &Case, loads: Result<(), Refusal>) -> Result<Curve, Refu
     checked_curve(&FitRoad { road: case.road }, case.weather, case.lanes)
 }
 
+/// The curve of a case, or the first of 1 to 9, 19 and 10 that refuses it.
 #[tactic(auto, using(crate::proofs::CheckedLaws::checked_found))]
 pub fn check(case: &Case) -> Result<Curve, Refusal>
     ensures { result ≡ checked case.now }

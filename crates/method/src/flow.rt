@@ -1,6 +1,5 @@
-// Flow rate, in whole passenger cars per hour per lane.
-//   Load        what a demand is worked with; Load::of: the load of a case with a lane count
-//   flow_rate   of a demand
+//! Flow rate, in whole passenger cars per hour per lane.
+
 ghost use Rattle.std.specs.Prelude.{◌≡◌, ◌≤◌};
 ghost use Rattle.road.specs.Cases.{with_lanes};
 ghost use Rattle.road.specs.Refusals.{greatest_demand, FieldsFit};
@@ -8,11 +7,12 @@ ghost use Rattle.method.specs.Flow.{truck_equivalent, load_of, flow_rate_of, Loa
 
 use road::{Case, Terrain};
 
+/// What a demand is worked with; Load::of: the load of a case with a lane count.
 #[derive(Clone, Copy)]
 pub struct Load {
-    // what a vehicle counts for, thousandths of a passenger car
+    /// what a vehicle counts for, thousandths of a passenger car
     pub heavy_factor: u64,
-    // H x N
+    /// H x N
     pub divisor: u64,
 }
 
@@ -37,6 +37,7 @@ impl Load {
         }
     }
 
+    /// Of a demand.
     #[tactic(auto, using(numbers::proofs::DivisionLaws::divisions), unfolding(crate::specs::Flow::flow_rate_of))]
     pub fn flow_rate(&self, demand: u64) -> u64
         requires load_fits { LoadFits self.now }

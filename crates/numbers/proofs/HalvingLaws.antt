@@ -1,12 +1,4 @@
 -- What halving tries (specs/Halving).
---   Halved p end low high tries   how far a search has come
---   halved-start, halved-passes, halved-fails   at its start, and after a try that passes or fails
---   halved-done              at its end it has found the greatest number that passes, and has counted what it tried
---   tried_up_to-some         at least one number, where the end is above 0
---   tried_up_to-steps        no more numbers than the end counts
---   tried_up_to-doublings    at most k numbers, where the end is below the k-th power of 2
---   tried_up_to-cong         for tests that agree up to the end the same numbers are tried
--- Assumes nothing.
 use Rattle.std.proofs.Common.{◌≡◌, refl, sym, ap, ◌∙◌, Bool, true, false, cond, List, [], ◌∷◌, T, length, ℕ, zero, suc, ◌+◌, ◌-◌, ◌*◌, ◌^◌}
 use Rattle.std.proofs.Common.{◌≤◌, ◌<◌, zero-le, arith, le_refl, lt-ltb, le-ltb}
 use Rattle.std.proofs.Math.Numerals.{unary_clauses}
@@ -58,6 +50,7 @@ module _ (p : ℕ → Bool) where
       by-sides (λ l. length l ≤ suc steps) steps low high zero-le
       (λ h. omega (arith, between-steps steps (middle low high) high)) (λ h. omega (arith, between-steps steps low (middle low high)))
 
+  -- no more numbers than the end counts
   pub tried_up_to-steps : (end : ℕ) → length (tried_up_to p end) ≤ end
   unfolding tried_up_to
   tried_up_to-steps end = between-steps end 0 (suc end)
@@ -72,10 +65,12 @@ module _ (p : ℕ → Bool) where
       (λ f. omega (arith, between-doublings steps (middle low high) high k halves.0))
       (λ f. omega (arith, between-doublings steps low (middle low high) k halves.1))
 
+  -- at most k numbers, where the end is below the k-th power of 2
   pub tried_up_to-doublings : (end k : ℕ) → end < 2 ^ k → length (tried_up_to p end) ≤ k
   unfolding tried_up_to
   tried_up_to-doublings end k h = between-doublings end 0 (suc end) k (omega arith)
 
+  -- at least one number, where the end is above 0
   pub tried_up_to-some : (end : ℕ) → 0 < end → 0 < length (tried_up_to p end)
   unfolding tried_up_to
   tried_up_to-some zero h = absurd (omega arith)
@@ -92,6 +87,7 @@ pub record Halved (p : ℕ → Bool) (end low high tries : ℕ) : Type 0 where
   pub count : tries + length (tried_between p (end - tries) low high) ≡ length (tried_up_to p end)
 
 module _ (p : ℕ → Bool) (end : ℕ) where
+  -- halved-start, halved-passes, halved-fails: at its start, and after a try that passes or fails
   pub halved-start : T (p 0) → Halved p end 0 (end + 1) 0
   unfolding tried_up_to
   halved-start z =
@@ -137,6 +133,7 @@ module _ (p : ℕ → Bool) (end : ℕ) where
           count = left-after low (middle low high) far (λ steps. next p steps low high far ∙ simp e);
         }
 
+    -- at its end it has found the greatest number that passes, and has counted what it tried
     pub halved-done : DownwardClosed p → high - low ≤ 1 → (greatest p end ≡ low) × (length (tried_up_to p end) ≡ tries)
     halved-done down near =
         let neighbours : high ≡ suc low = omega (arith, c.apart) in (
@@ -161,6 +158,7 @@ module _ (p q : ℕ → Bool) (end : ℕ) (same : (k : ℕ) → k ≤ end → p 
           ∙ rw (same (middle low high) inside, above, below (middle low high) (omega arith))
           (sym (next q steps low high far))
 
+  -- for tests that agree up to the end the same numbers are tried
   pub tried_up_to-cong : tried_up_to p end ≡ tried_up_to q end
   unfolding tried_up_to
   tried_up_to-cong = between-cong end 0 (suc end) (le_refl (suc end))

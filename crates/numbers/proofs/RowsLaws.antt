@@ -1,7 +1,4 @@
 -- Lists made of one row of numbers for each thing of a list, whatever the rows are.
---   rows-append, rows-next   the rows of two lists; of one thing more
---   rows-length, rows-at     rows that are all as long: how many numbers they are; those of one thing
--- Assumes nothing.
 use Rattle.std.proofs.Common.{◌≡◌, ap, ◌∙◌, List, [], ◌∷◌, ◌++◌, append_assoc, append-nil, ℕ, suc, ◌+◌, ◌*◌, ◌<◌, add-one, arith, length}
 use Rattle.std.proofs.Common.{take, drop, get_or, length-append, take-suc, length-take-le, drop_at, take_at}
 use Rattle.std.proofs.Math.Seq.{split_at}
@@ -9,6 +6,7 @@ use Rattle.std.proofs.lemmas.Grind.{flat_map-append}
 use mathlib.Core.List.{flat_map}
 
 module _ {A : Type 0} (row : A → List ℕ) where
+  -- rows-append, rows-next: the rows of two lists; of one thing more
   pub rows-append : (xs ys : List A) → flat_map row (xs ++ ys) ≡ flat_map row xs ++ flat_map row ys
   unfolding flat_map
   rows-append = flat_map-append row
@@ -19,6 +17,7 @@ module _ {A : Type 0} (row : A → List ℕ) where
   rows-next xs i d h = rw (add-one i, take-suc xs i d h, rows-append (take i xs) (get_or xs i d ∷ []), append-nil)
 
   module _ (width : ℕ) (long : (x : A) → length (row x) ≡ width) where
+    -- rows-length, rows-at: rows that are all as long: how many numbers they are; those of one thing
     pub rows-length : (xs : List A) → length (flat_map row xs) ≡ width * length xs
     unfolding flat_map
     rows-length [] = omega arith

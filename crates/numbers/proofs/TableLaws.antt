@@ -1,7 +1,4 @@
 -- A test of every entry of a table, and of every number up to an end (specs/Table).
---   every_entry-at   the test passes at each place
---   every_up_to-at, every_up_to-of   the test passes at each number; the converse
--- Assumes nothing.
 use Rattle.std.proofs.Common.{◌≡◌, ◌∙◌, subst, sym, Bool, List, [], ◌∷◌, ℕ, zero, suc, ◌+◌, ◌≤◌, ◌<◌, arith, le_refl, add-zero, zero-add}
 use Rattle.std.proofs.Common.{add-suc, suc-add, le_of_suc-le-suc, not-suc-le-zero, T, length, get_or}
 use Rattle.std.proofs.Math.Decide.{dec_le}
@@ -17,11 +14,13 @@ every_from-at f (x ∷ xs) i before t (suc k) h =
     subst (λ (m : ℕ). T (f m (get_or (x ∷ xs) k 0) (get_or xs k 0))) (suc-add i k ∙ sym (add-suc i k))
     (every_from-at f xs (suc i) x (and-right (f i before x) (every_from f (suc i) x xs) t) k (le_of_suc-le-suc h))
 
+-- the test passes at each place
 pub every_entry-at : (f : ℕ → ℕ → ℕ → Bool) (xs : List ℕ) → T (every_entry f xs)
     → (k : ℕ) → k < length xs → T (f k (get_or (0 ∷ xs) k 0) (get_or xs k 0))
 every_entry-at f xs t k h =
     subst (λ (m : ℕ). T (f m (get_or (0 ∷ xs) k 0) (get_or xs k 0))) (zero-add k) (every_from-at f xs 0 0 t k h)
 
+-- every_up_to-at, every_up_to-of: the test passes at each number; the converse
 pub every_up_to-at : (p : ℕ → Bool) (n : ℕ) → T (every_up_to p n) → (k : ℕ) → k ≤ n → T (p k)
 every_up_to-at p zero t k h = let e : k ≡ 0 = omega arith in rw e t
 every_up_to-at p (suc n) t k h =

@@ -1,14 +1,12 @@
 -- Halving: which numbers a search tries for the greatest number up to an end that passes a test. 0 is known to pass, and the number
 -- after the end stands for one that fails; neither is tried.
---   middle low high                  the number in the middle, rounded down
---   tried_between p steps low high   what is tried between a number that passes and one that fails, in at most so many steps
---   tried_up_to p end                what is tried for the greatest number up to the end
--- Assumes nothing.
-use Rattle.std.specs.Prelude.{ℕ, zero, suc, ◌+◌, ◌-◌, ◌/◌, Bool, cond, List, [], ◌∷◌, ltb}
+use Rattle.std.specs.Prelude.{ℕ, zero, suc, ◌+◌, ◌-◌, ◌/◌, Bool, if◌then◌else◌, List, [], ◌∷◌, nat_lt}
 
+-- the number in the middle, rounded down
 unfoldable pub middle : ℕ → ℕ → ℕ
 middle low high = low + (high - low) / 2
 
+-- what is tried between a number that passes and one that fails, in at most so many steps
 -- The middle is tried, and takes the place of low where it passes and of high where it fails, until the two are neighbours.
 unfoldable pub tried_between : (ℕ → Bool) → ℕ → ℕ → ℕ → List ℕ
 tried_between p zero low high = []
@@ -16,9 +14,10 @@ tried_between p (suc steps) low high =
     let m = middle low high in
     let above = tried_between p steps m high in
     let below = tried_between p steps low m in
-    let tried = m ∷ cond (p m) above below in
-    cond (ltb 1 (high - low)) tried []
+    let tried = m ∷ (if p m then above else below) in
+    if nat_lt 1 (high - low) then tried else []
 
+-- what is tried for the greatest number up to the end
 -- a step brings the two nearer, so that no more steps are taken than the end counts
 unfoldable pub tried_up_to : (ℕ → Bool) → ℕ → List ℕ
 tried_up_to p end = tried_between p end 0 (suc end)

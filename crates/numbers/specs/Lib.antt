@@ -1,13 +1,13 @@
 -- What the layers above count with.
---   Division   division rounded up
---   Fraction   exact fractions and their order
---   Search     the greatest and the least number that pass a test
---   Halving    which numbers a search by halving tries
---   Table      a test of every entry of a table, and of every number up to an end
---   Bounds     lists compared place by place
+-- division rounded up
 pub mod Division
+-- exact fractions and their order
 pub mod Fraction
+-- the greatest and the least number that pass a test
 pub mod Search
+-- which numbers a search by halving tries
 pub mod Halving
+-- a test of every entry of a table, and of every number up to an end
 pub mod Table
+-- lists compared place by place
 pub mod Bounds

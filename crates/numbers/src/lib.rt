@@ -1,7 +1,8 @@
-// Numbers: what the layers above count with.
-//   Fraction   an exact fraction
+//! Numbers: what the layers above count with.
+
 #![tactic(auto)]
 
+/// An exact fraction.
 #[derive(Clone, Copy)]
 pub struct Fraction {
     pub numerator: u64,

@@ -1,5 +1,5 @@
 -- The laws of the definitions in specs/.
---   TextsLaws    answers as text
---   OutputLaws   what `los` prints
+-- answers as text
 pub mod TextsLaws
+-- what `los` prints
 pub mod OutputLaws

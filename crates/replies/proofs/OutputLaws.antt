@@ -1,10 +1,9 @@
 -- What `los` prints (specs/Output).
---   output-of-any-pieces   it is the answers of the input's lines
--- Assumes nothing.
 use mathlib.Core.Path.{sym, ◌∙◌}
-use Rattle.stream.proofs.RunLaws.{any-pieces}
+use Rattle.text.proofs.RunLaws.{any-pieces}
 use Rattle.replies.specs.Output.{line_texts, OutputOfAnyPieces}
 use Rattle.replies.proofs.TextsLaws.{line_text-long}
 
+-- it is the answers of the input's lines
 pub output-of-any-pieces : OutputOfAnyPieces
 output-of-any-pieces = any-pieces line_texts (λ l m h k. line_text-long l h ∙ sym (line_text-long m k))

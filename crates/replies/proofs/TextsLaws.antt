@@ -1,17 +1,11 @@
 -- Answers as text (specs/Texts).
---   line_text-refused, line_text-case   what is printed for a refused line, and for a case
---   refusal_text-le, answer_text-le, answer_text-pos   an answer has at most 64 bytes, and is not empty
---   line_text-le, line_text-pos   so has what is printed for a line, and it is not empty
---   line_text-long        lines of more than 80 bytes all get the same
---   by_line, by_last      what answer_line and answer_last ask for
--- Assumes nothing.
 use Rattle.std.proofs.Common.{◌≡◌, ℕ, ◌≤◌, ◌<◌, Result, Ok, Err, List, [], ◌∷◌, length, ap, arith}
 use mathlib.Core.List.{flat_map}
 use Prim.Native.Char.{code}
 use Rattle.numbers.specs.Bounds.{AllAtMost}
-use Rattle.checks.specs.declared.Refusal.{Refusal}
-use Rattle.checks.specs.Numbers.{number, refusal_of}
-use Rattle.checks.proofs.NumberLaws.{ok_unless-by}
+use Rattle.refusals.specs.declared.Refusal.{Refusal}
+use Rattle.refusals.specs.Numbers.{number, refusal_of}
+use Rattle.refusals.proofs.NumberLaws.{ok_unless-by}
 use Rattle.text.specs.Decimal.{decimal_up_to, decimal, figures_text}
 use Rattle.text.proofs.RowLaws.{row_text-length, row_text-one, figures_text-mono}
 use Rattle.road.specs.declared.Case.{Case}
@@ -21,12 +15,13 @@ use Rattle.answer.specs.Answers.{graded, answer_to, values}
 use Rattle.answer.specs.Laws.{figure_ends}
 use Rattle.answer.proofs.Laws.{figures-within-ends}
 use Rattle.answer.proofs.AnswerLaws.{answer_to-accepted}
-use Rattle.stream.proofs.BlockLaws.{last-one}
+use Rattle.text.proofs.BlockLaws.{last-one}
 use Rattle.lines.specs.Reading.{longest_line, read_line}
 use Rattle.lines.proofs.ReadingLaws.{read_line-by, read_line-refused, read_line-long}
 use Rattle.replies.specs.Texts.{letter_byte, refusal_text, text_of, answer_text, longest_answer, answer_of, line_text}
 
 -- ---- by what was read
+-- line_text-refused, line_text-case: what is printed for a refused line, and for a case
 pub line_text-refused : (bs : List ℕ) (r : Refusal) → read_line bs ≡ Err r → line_text bs ≡ refusal_text 15
 unfolding text_of line_text
 line_text-refused bs r e = ap (λ a. answer_text (answer_of a)) (read_line-refused bs r e)
@@ -35,10 +30,12 @@ pub line_text-case : (bs : List ℕ) (case : Case) → read_line bs ≡ Ok case 
 unfolding line_text
 line_text-case bs case e = ap (λ r. answer_text (answer_of r)) e
 
+-- lines of more than 80 bytes all get the same
 pub line_text-long : (bs : List ℕ) → longest_line < length bs → line_text bs ≡ refusal_text 15
 line_text-long bs h = line_text-refused bs _ (read_line-long bs h)
 
 -- ---- how long it is
+-- refusal_text-le, answer_text-le, answer_text-pos: an answer has at most 64 bytes, and is not empty
 pub refusal_text-le : (n : ℕ) → length (refusal_text n) ≤ longest_answer
 unfolding refusal_text
 refusal_text-le n = omega (arith, row_text-one (code "X") n)
@@ -56,6 +53,7 @@ answer_text-le case =
     (λ a. figures-le 0 (values (Ok (graded case))) (rw (answer_to-accepted case a) at (figures-within-ends case a)))
     (λ p. refusal_text-le (number (refusal_of (refusal case))))
 
+-- line_text-le, line_text-pos: so has what is printed for a line, and it is not empty
 pub line_text-le : (bs : List ℕ) → length (line_text bs) ≤ longest_answer
 unfolding text_of line_text
 line_text-le bs = read_line-by (λ r. length (answer_text (answer_of r)) ≤ longest_answer) answer_text-le (refusal_text-le 15) bs
@@ -72,6 +70,7 @@ pub line_text-pos : (bs : List ℕ) → 0 < length (line_text bs)
 unfolding line_text
 line_text-pos bs = text-pos _ _
 
+-- by_line, by_last: what answer_line and answer_last ask for
 pub ruleset by_line = (line_text-refused, line_text-case, refusal_text-le, answer_text-le)
 
 pub ruleset by_last = (last-one, line_text-le)

@@ -1,5 +1,5 @@
 -- What is printed for lines.
---   Texts    answers as text
---   Output   what `los` prints
+-- answers as text
 pub mod Texts
+-- what `los` prints
 pub mod Output

@@ -1,6 +1,5 @@
-// Replies: an answer written as text, the answer to a line, and the lines of a block answered.
-//   write   an answer to bytes, and the answer to a line
-//   block   the whole lines of a block to their answers, the rest carried over
+//! Replies: an answer written as text, the answer to a line, and the lines of a block answered.
+
 #![tactic(auto)]
 
 pub mod block;

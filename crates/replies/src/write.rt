@@ -1,20 +1,18 @@
-// An answer written as text into a lent buffer. Each function writes from the buffer's start on and answers how many bytes it wrote.
-//   LONGEST_ANSWER   room for any answer
-//   write_grade      the eleven figures of an answer
-//   write_answer     an answer, or X and its refusal's number
-//   answer_line      the answer to a line
+//! An answer written as text into a lent buffer. Each function writes from the buffer's start on and answers how many bytes it wrote.
+
 ghost use Rattle.std.specs.Prelude.{◌≡◌, ◌≤◌, length};
 ghost use Rattle.text.specs.Buffer.{Wrote};
 ghost use Rattle.curve.specs.Service.{letter_number};
-ghost use Rattle.checks.specs.Numbers.{number};
+ghost use Rattle.refusals.specs.Numbers.{number};
 ghost use Rattle.replies.specs.Texts.{letter_byte, answer_text, refusal_text, longest_answer, line_text};
 
 use answer::evaluate;
 use answer::evaluate::Grade;
-use checks::Refusal;
+use refusals::Refusal;
 use curve::service::Letter;
 use lines::read;
 
+/// Room for any answer.
 pub const LONGEST_ANSWER: usize = 64;
 
 fn letter_byte(letter: Letter) -> u8
@@ -30,6 +28,7 @@ fn letter_byte(letter: Letter) -> u8
     }
 }
 
+/// The eleven figures of an answer.
 #[tactic(auto, unfolding(crate::specs::Texts::text_of))]
 pub fn write_grade(grade: &Grade, out: &mut [u8]) -> usize
     requires { length (answer_text (Ok grade.now)) ≤ length out.old }
@@ -46,6 +45,7 @@ fn write_refusal(refusal: Refusal, out: &mut [u8]) -> usize
     text::decimal::put_row(b'X', &[refusal.number()], out)
 }
 
+/// An answer, or X and its refusal's number.
 #[tactic(auto, unfolding(crate::specs::Texts::text_of))]
 pub fn write_answer(answer: Result<Grade, Refusal>, out: &mut [u8]) -> usize
     requires { length (answer_text answer) ≤ length out.old }
@@ -57,6 +57,7 @@ pub fn write_answer(answer: Result<Grade, Refusal>, out: &mut [u8]) -> usize
     }
 }
 
+/// The answer to a line.
 #[tactic(auto, using(crate::proofs::TextsLaws::by_line))]
 pub fn answer_line(line: &[u8], out: &mut [u8]) -> usize
     requires { longest_answer ≤ length out.old }

@@ -1,14 +1,5 @@
 -- What is taken off a base speed (specs/Adjustments): how much at most, and never more with more lanes. What is said of a row's line is a
 -- test, computed at every tenth.
---   lane_width_adjustment-le, per_missing_foot-le, right_clearance_adjustment-le, counted_left_clearance-le, total_clearance-le,
---   total_clearance_adjustment-le, median_adjustment-le, access_adjustment-le   the most that it is
---   right_clearance_adjustment-antitone, total_clearance_adjustment-antitone    with more lanes it is no more
---   right_clearance_adjustment-whole, total_clearance_adjustment-whole          the interpolation rounds nothing
---   right_clearance_adjustment-tenths, right_clearance_adjustment-by            a missing tenth takes off a tenth of what a foot takes
---   total_clearance_row-line-le                                                 the line of a row of kind M is at most 5,400
---   total_clearance_row-rises, total_clearance_row-after-le                     its entries on both sides of a place
---   adjustment_laws, line_laws                                                  for tactics
--- Assumes nothing.
 use Rattle.std.proofs.Common.{◌≡◌, Bool, List, ℕ, ◌*◌, ◌-◌, ◌/◌, ◌≤◌, min, arith, mul-le-mul, mul-le-mul_left, le_refl, le_trans, le-leb, T}
 use Rattle.std.proofs.Common.{leb, eqb, leb→le, eqb→eq, get_or}
 use Rattle.std.proofs.Math.Decide.{dec_le}
@@ -49,6 +40,7 @@ at-rate p p600 p400 p200 p100 r n =
     every_up_to-at (p (per_missing_foot n)) 60 (per_missing_foot-all (λ f. T (every_up_to (p f) 60)) p600 p400 p200 p100 n) (60 - min 60 r)
     (omega arith)
 
+-- right_clearance_adjustment-whole, total_clearance_adjustment-whole: the interpolation rounds nothing
 pub right_clearance_adjustment-whole : (r n : ℕ)
     → 10 * right_clearance_adjustment r n ≡ weighted_sum (right_clearance_row (per_missing_foot n)) 10 (60 - min 60 r)
 unfolding div_up right_clearance_row entry_before entry_after weighted_sum interpolated right_clearance_adjustment
@@ -56,6 +48,8 @@ right_clearance_adjustment-whole r n =
     eqb→eq (10 * right_clearance_adjustment r n) (weighted_sum (right_clearance_row (per_missing_foot n)) 10 (60 - min 60 r))
     (at-rate (λ p x. eqb (10 * interpolated (right_clearance_row p) 10 x) (weighted_sum (right_clearance_row p) 10 x)) tt tt tt tt r n)
 
+-- right_clearance_adjustment-tenths, right_clearance_adjustment-by: a missing tenth takes off a tenth of what
+-- a foot takes
 pub right_clearance_adjustment-tenths : (r n : ℕ) → 10 * right_clearance_adjustment r n ≡ (60 - min 60 r) * per_missing_foot n
 unfolding div_up right_clearance_row entry_before entry_after weighted_sum interpolated right_clearance_adjustment
 right_clearance_adjustment-tenths r n =
@@ -75,6 +69,7 @@ right_clearance_adjustment-le r n =
     let product : (60 - min 60 r) * per_missing_foot n ≤ 36000 = mul-le-mul {n₂ = 60} {m₂ = 600} (omega arith) (per_missing_foot-le n) in
     omega (arith, right_clearance_adjustment-tenths r n)
 
+-- right_clearance_adjustment-antitone, total_clearance_adjustment-antitone: with more lanes it is no more
 pub right_clearance_adjustment-antitone : (r m n : ℕ) → m ≤ n → right_clearance_adjustment r n ≤ right_clearance_adjustment r m
 right_clearance_adjustment-antitone r m n h =
     omega (
@@ -106,11 +101,13 @@ total_clearance_adjustment-whole n s =
     eqb→eq (20 * total_clearance_adjustment n s) (weighted_sum (total_clearance_row n) 20 (120 - s))
     (at-row (λ row x. eqb (20 * interpolated row 20 x) (weighted_sum row 20 x)) tt tt n (120 - s) (omega arith))
 
+-- the line of a row of kind M is at most 5,400
 pub total_clearance_row-line-le : (n x : ℕ) → x ≤ 120 → interpolated (total_clearance_row n) 20 x ≤ 5400
 unfolding div_up entry_before entry_after weighted_sum interpolated
 total_clearance_row-line-le n x h =
     leb→le (interpolated (total_clearance_row n) 20 x) 5400 (at-row (λ row y. leb (interpolated row 20 y) 5400) tt tt n x h)
 
+-- total_clearance_adjustment-le, median_adjustment-le, access_adjustment-le: the most that it is
 pub total_clearance_adjustment-le : (n s : ℕ) → total_clearance_adjustment n s ≤ 5400
 unfolding total_clearance_adjustment
 total_clearance_adjustment-le n s = total_clearance_row-line-le n (120 - s) (omega arith)

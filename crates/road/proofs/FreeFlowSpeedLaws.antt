@@ -1,12 +1,4 @@
 -- Free-flow speed (specs/FreeFlowSpeed): no subtraction goes below 0, and F never falls with more lanes.
---   freeway_terms-le          what is taken off on kind F is at most 30,000
---   multilane_terms-le        what is taken off on kind M is at most 30,000
---   estimate_terms            for tactics: the most that each of them is
---   uncapped_speed-mono       F before its upper end never falls with more lanes
---   free_flow_speed_of-mono   F never falls with more lanes
---   free_flow_speed_of-le     F is at most its upper end
---   free_flow_speed_of-given  a given F is the same with any lanes
--- Assumes nothing.
 use Rattle.std.proofs.Common.{◌≡◌, ℕ, ◌+◌, ◌-◌, ◌≤◌, arith, le_refl}
 use Rattle.curve.specs.declared.kind.Kind.{Kind}
 use Rattle.curve.specs.Kinds.{highest_speed}
@@ -22,6 +14,7 @@ use Rattle.road.proofs.AdjustmentLaws.{access_adjustment-le, adjustment_laws}
 use Rattle.road.proofs.RampLaws.{ramp_term-le}
 use Rattle.road.proofs.RefusalLaws.{road_ends}
 
+-- what is taken off on kind F is at most 30,000
 pub freeway_terms-le : (w r n k : ℕ) → lane_width_adjustment w + right_clearance_adjustment r n + ramp_term k ≤ 30000
 freeway_terms-le w r n k = omega (arith, lane_width_adjustment-le w, right_clearance_adjustment-le r n, ramp_term-le k)
 
@@ -29,6 +22,7 @@ freeway_terms-le w r n k = omega (arith, lane_width_adjustment-le w, right_clear
 abbrev total : Road → ℕ
 total road = total_clearance road.median road.right_clearance road.left_clearance
 
+-- what is taken off on kind M is at most 30,000
 pub multilane_terms-le : (road : Road) (n : ℕ)
     → lane_width_adjustment road.lane_width + total_clearance_adjustment n (total road) + median_adjustment
     road.median + access_adjustment road.access ≤ 30000
@@ -61,17 +55,21 @@ unfolding uncapped_by
 uncapped_by-mono Way.Given road m n h = le_refl road.speed
 uncapped_by-mono Way.Estimated road m n h = estimated_by-mono road.kind road m n h
 
+-- F before its upper end never falls with more lanes
 pub uncapped_speed-mono : (road : Road) (m n : ℕ) → m ≤ n → uncapped_speed road m ≤ uncapped_speed road n
 uncapped_speed-mono road m n h = uncapped_by-mono road.way road m n h
 
+-- F never falls with more lanes
 pub free_flow_speed_of-mono : (road : Road) (m n : ℕ) → m ≤ n → free_flow_speed_of road m ≤ free_flow_speed_of road n
 unfolding free_flow_speed_of
 free_flow_speed_of-mono road m n h = omega (arith, uncapped_speed-mono road m n h)
 
+-- F is at most its upper end
 pub free_flow_speed_of-le : (road : Road) (n : ℕ) → free_flow_speed_of road n ≤ highest_speed road.kind
 unfolding free_flow_speed_of
 free_flow_speed_of-le road n = omega arith
 
+-- a given F is the same with any lanes
 pub free_flow_speed_of-given : (road : Road) (m n : ℕ) → road.way ≡ Way.Given → free_flow_speed_of road m ≡ free_flow_speed_of road n
 unfolding free_flow_speed_of uncapped_by
 free_flow_speed_of-given road m n e = simp e

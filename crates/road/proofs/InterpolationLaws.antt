@@ -1,7 +1,4 @@
 -- Interpolation over a row (specs/Interpolation).
---   weighted_sum-between   from each entry to the next it is the straight line, both ends included
---   interpolated-rise      where the entries rise: the entry before and its part of the rise
--- Assumes nothing.
 use Rattle.std.proofs.Common.{◌≡◌, List, ℕ, zero, suc, ◌+◌, ◌*◌, ◌-◌, ◌/◌, ◌%◌, ◌≤◌, ◌<◌, arith, div-add-mod', mod-lt, mul_comm}
 use Rattle.std.proofs.Common.{mul-le-mul_left, get_or}
 use Rattle.std.proofs.Math.Decide.{dec_le}
@@ -34,6 +31,7 @@ unfolding entry_before entry_after weighted_sum
 within row step j zero h = simp (place step j 0 h, past step j 0 h) (omega arith)
 within row step j (suc t) h = simp (place step j (suc t) h, past step j (suc t) h, next step j t h)
 
+-- from each entry to the next it is the straight line, both ends included
 pub weighted_sum-between : (row : List ℕ) (step j t : ℕ) → 0 < step → t ≤ step → Straight row step j t
 weighted_sum-between row step j t p h = go (dec_le (suc t) step)
   where

@@ -1,7 +1,4 @@
 -- The laws that specs/Laws states, proved: each by the law of the file beside its definition.
---   straight-between-entries, clearances-are-whole, right-clearance-by-tenths, ramp-term-is-nearest, estimate-never-below-zero,
---   free-flow-speed-never-falls-with-lanes, weather-fits-exactly
--- Assumes nothing.
 use Rattle.std.proofs.Common.{◌≡◌, ◌≤◌, min, arith}
 use Rattle.road.specs.FreeFlowSpeed.{estimated_by}
 use Rattle.road.specs.Laws.{StraightBetweenEntries, ClearancesAreWhole, RightClearanceByTenths, RampTermIsNearest, EstimateNeverBelowZero}

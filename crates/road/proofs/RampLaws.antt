@@ -1,10 +1,4 @@
 -- The ramp term (specs/RampTerm): the table's rule, by one test that is computed over all 49 entries.
---   ramp_term-eq       it is t where t fits the rule
---   ramp_term-le       it is at most 19,000
---   ramp_table-at      the entry at k is the term of k ramps
---   ramp_term-nearest  with up to 48 ramps it fits the rule, no other number does, and with one or more it is above 0
---   table_entries      for tactics: ramp_table-at
--- Assumes nothing.
 use Rattle.std.proofs.Common.{◌≡◌, refl, Bool, ◌&&◌, ℕ, zero, suc, ◌+◌, ◌*◌, ◌-◌, ◌^◌, ◌≤◌, ◌<◌, arith, T, leb, ltb}
 use Rattle.std.proofs.Common.{leb→le, ltb→lt, eqb→eq, le_trans, le_antisymm, lt_of_lt_of_le, lt_irrefl, mul-le-mul_left, mul-le-mul_right}
 use Rattle.std.proofs.Common.{lit≤, get_or, length}
@@ -67,10 +61,12 @@ is_ramp_term-pos (suc k) zero h e =
     absurd (lt_irrefl (6440 ^ 25 * suc k ^ 21) (lt_of_lt_of_le (rounds_to k 0 e).1 more))
 is_ramp_term-pos (suc k) (suc t) h e = omega arith
 
+-- it is t where t fits the rule
 pub ramp_term-eq : (k t : ℕ) → t ≤ 19000 → T (is_ramp_term k t) → ramp_term k ≡ t
 unfolding ramp_term
 ramp_term-eq k t h e = greatest-eq (is_ramp_term k) 19000 t h e (λ s l u p. omega (arith, is_ramp_term-unique k s t p e))
 
+-- it is at most 19,000
 pub ramp_term-le : (k : ℕ) → ramp_term k ≤ 19000
 unfolding ramp_term
 ramp_term-le k = greatest-le (is_ramp_term k) 19000
@@ -86,6 +82,7 @@ module _ (k : ℕ) (h : k ≤ 48) where
   entry-term : T (is_ramp_term k entry)
   entry-term = and-right (leb entry 19000) (is_ramp_term k entry) entry-fits
 
+  -- the entry at k is the term of k ramps
   pub ramp_table-at : ramp_term k ≡ get_or ramp_table k 0
   unfolding entry
   ramp_table-at = ramp_term-eq k entry (leb→le entry 19000 (and-left (leb entry 19000) (is_ramp_term k entry) entry-fits)) entry-term
@@ -94,9 +91,11 @@ module _ (k : ℕ) (h : k ≤ 48) where
   unfolding entry
   ramp_term-fits = rw ramp_table-at entry-term
 
+-- with up to 48 ramps it fits the rule, no other number does, and with one or more it is above 0
 pub ramp_term-nearest : RampTermIsNearest
 ramp_term-nearest k h =
     let e = ramp_term-fits k h in
     (e, λ t f. is_ramp_term-unique k t (ramp_term k) f e, λ l. is_ramp_term-pos k (ramp_term k) l e)
 
+-- for tactics: ramp_table-at
 pub ruleset table_entries = (ramp_table-at)

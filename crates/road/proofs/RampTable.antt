@@ -1,6 +1,4 @@
 -- The table of ramp terms as a list: src/ramp_table.rt has its numbers.
---   ramp_table
--- Assumes nothing.
 use Rattle.std.proofs.Common.{List, ℕ}
 use Rattle.road.specs.declared.ramp_table.TheConstants.{RAMP_TERMS}
 

@@ -1,25 +1,12 @@
 -- Refusals 1 to 9 and 19 (specs/Refusals).
---   road-numbered, section-numbered, load-numbered, fields-numbered   every number is above 0
---   field_refusals-found   the number of 7 to 9 stands for them
---   found-err            what was found, where it refuses, refuses before what is behind it
---   section_in_turn, fields_in_turn, fields_found   for tactics: of code that asks one part after another, and of that number
---   with-parts           a case that 1 to 6, what was found in the place of 7 to 9, and 19 do not refuse: none of the three does
---   section-road, with-road, fields-road   a case that none of 1 to 6 refuses, or none of them: 1 to 5 do not refuse its road
---   road-speed-low, freeway-ramps-high, multilane-access-high   the ends that 1 and 5 leave to a road
---   road_ends            for tactics: the three
---   loads-exactly        a load that 7 to 9 let pass, by its ends
---   LoadEnds, load-ends  the ends that 6 to 9 leave to a case
---   weather-exactly, weather-fits, with-weather, fields-weather   the factors that 19 lets pass
---   fields-with_lanes    a case that none of them refuses is so with every lane count of the kind
--- Assumes nothing.
 use Rattle.std.proofs.Common.{arith, ◌≡◌, refl, ◌∙◌, false, List, ◌++◌, ◌↔◌, ℕ, ◌≤◌, T, lt-ltb}
 use Rattle.std.proofs.lemmas.Bool.Decides.{nat_tests}
-use Rattle.checks.specs.declared.Refusal.{Refusal}
-use Rattle.checks.specs.Refusals.{Condition, first_refusal, found, outside}
-use Rattle.checks.specs.Numbers.{number}
-use Rattle.checks.proofs.RefusalLaws.{numbered, first_refusal-none, first_refusal-join, first_refusal-found, none-met, none-of, within}
-use Rattle.checks.proofs.RefusalLaws.{inside}
-use Rattle.checks.proofs.NumberLaws.{number-above, in_turn}
+use Rattle.refusals.specs.declared.Refusal.{Refusal}
+use Rattle.refusals.specs.Refusals.{Condition, first_refusal, found, outside}
+use Rattle.refusals.specs.Numbers.{number}
+use Rattle.refusals.proofs.RefusalLaws.{numbered, first_refusal-none, first_refusal-join, first_refusal-found, none-met, none-of, within}
+use Rattle.refusals.proofs.RefusalLaws.{inside}
+use Rattle.refusals.proofs.NumberLaws.{number-above, in_turn}
 use Rattle.curve.specs.declared.kind.Kind.{Kind}
 use Rattle.curve.specs.declared.Weather.{Weather}
 use Rattle.curve.specs.Kinds.{fewest_lanes, most_lanes}
@@ -31,6 +18,7 @@ use Rattle.road.specs.Refusals.{greatest_demand, weather_unfit, road_refusals, l
 use Rattle.road.specs.Refusals.{weather_refusals, field_refusals_with, field_refusals, RoadFits, SectionFits, FieldsFit}
 
 -- ---- the parts of the list
+-- road-numbered, section-numbered, load-numbered, fields-numbered: every number is above 0
 pub road-numbered : (road : Road) → T (numbered (road_refusals road))
 unfolding road_refusals
 road-numbered road = tt
@@ -47,14 +35,18 @@ pub fields-numbered : (case : Case) → T (numbered (field_refusals case))
 unfolding field_refusals road_refusals load_refusals
 fields-numbered case = tt
 
+-- section_in_turn, fields_in_turn, fields_found: for tactics: of code that asks one part after another, and
+-- of that number
 pub ruleset section_in_turn = (in_turn, road-numbered, nat_tests)
 
 -- ---- a number in the place of 7 to 9
+-- the number of 7 to 9 stands for them
 pub field_refusals-found : (case : Case)
     → first_refusal (field_refusals_with (found (first_refusal (load_refusals case))) case) ≡ first_refusal (field_refusals case)
 unfolding field_refusals
 field_refusals-found case = first_refusal-found (section_refusals case) (load_refusals case) (weather_refusals case) (load-numbered case)
 
+-- what was found, where it refuses, refuses before what is behind it
 pub found-err : (r : Refusal) (rest : List Condition) → number r ≡ first_refusal (found (number r) ++ rest)
 found-err r rest = rw (lt-ltb 0 (number r) (number-above r)) refl
 
@@ -65,6 +57,7 @@ pub ruleset fields_found = (field_refusals-found)
 found-none : (n : ℕ) (rest : List Condition) → first_refusal (found n ++ rest) ≡ 0 → (n ≡ 0) × (first_refusal rest ≡ 0)
 found-none n rest z = (grind (arith, nat_tests), grind (arith, nat_tests))
 
+-- a case that 1 to 6, what was found in the place of 7 to 9, and 19 do not refuse: none of the three does
 pub with-parts : (n : ℕ) (case : Case) → first_refusal (field_refusals_with (found n) case) ≡ 0
     → SectionFits case × (n ≡ 0) × (first_refusal (weather_refusals case) ≡ 0)
 with-parts n case z =
@@ -91,6 +84,8 @@ section-parts case s =
     let p = first_refusal-join (road_refusals case.road) (lane_refusals case) (road-numbered case.road) s in
     (p.0, (none-met (lane_refusals case) tt p.1).0)
 
+-- section-road, with-road, fields-road: a case that none of 1 to 6 refuses, or none of them: 1 to 5 do not
+-- refuse its road
 pub section-road : (case : Case) → SectionFits case → RoadFits case.road
 section-road case s = (section-parts case s).0
 
@@ -101,6 +96,7 @@ pub fields-road : (case : Case) → FieldsFit case → RoadFits case.road
 fields-road case z = section-road case (fields-parts case z).0
 
 -- ---- the ends that they leave
+-- road-speed-low, freeway-ramps-high, multilane-access-high: the ends that 1 and 5 leave to a road
 pub road-speed-low : (road : Road) → RoadFits road → 30000 ≤ road.speed
 unfolding road_refusals
 road-speed-low road z = grind (arith, nat_tests)
@@ -113,8 +109,10 @@ pub multilane-access-high : (road : Road) → RoadFits road → road.kind ≡ Ki
 unfolding road_refusals
 multilane-access-high road z e = grind (arith, nat_tests)
 
+-- for tactics: the three
 pub ruleset road_ends = (road-speed-low, freeway-ramps-high, multilane-access-high)
 
+-- a load that 7 to 9 let pass, by its ends
 pub loads-exactly : (case : Case)
     → (first_refusal (load_refusals case) ≡ 0)
     ↔ ((case.demand ≤ greatest_demand) × (250 ≤ case.peak_hour_factor) × (case.peak_hour_factor ≤ 1000)
@@ -125,6 +123,7 @@ loads-exactly case = (
   λ (demand, low, high, share). grind (arith, nat_tests),
 )
 
+-- LoadEnds, load-ends: the ends that 6 to 9 leave to a case
 pub record LoadEnds (case : Case) : Type 0 where
   pub lanes-low : fewest_lanes case.road.kind ≤ case.lanes
   pub lanes-high : case.lanes ≤ most_lanes case.road.kind
@@ -147,6 +146,7 @@ load-ends case z =
       share-high = share;
     }
 
+-- weather-exactly, weather-fits, with-weather, fields-weather: the factors that 19 lets pass
 pub weather-exactly : (kind : Kind) (weather : Weather) → (weather_unfit kind weather ≡ false) ↔ FactorsFit kind weather
 unfolding weather_unfit
 weather-exactly kind weather = (
@@ -170,6 +170,7 @@ pub fields-weather : (case : Case) → FieldsFit case → FactorsFit case.road.k
 fields-weather case z = weather-fits case (fields-parts case z).2
 
 -- ---- a case with another lane count
+-- a case that none of them refuses is so with every lane count of the kind
 pub fields-with_lanes : (case : Case) (n : ℕ) → FieldsFit case → fewest_lanes case.road.kind ≤ n → n ≤ most_lanes case.road.kind
     → FieldsFit (with_lanes case n)
 unfolding load_refusals

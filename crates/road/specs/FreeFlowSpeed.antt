@@ -1,9 +1,4 @@
 -- Free-flow speed F, in thousandths of mi/h (document 01, "Free-flow speed F"), before the weather's factor.
---   estimated_speed road n   the base speed less what is taken off, with n lanes
---   uncapped_speed road n    F before its upper end
---   estimated_by, uncapped_by the same, by the kind and by the way F is found
---   free_flow_speed_of road n    F
--- Assumes nothing.
 use Rattle.std.specs.Prelude.{ℕ, ◌-◌, min}
 use Rattle.curve.specs.declared.kind.Kind.{Kind}
 use Rattle.road.specs.declared.Way.{Way}
@@ -25,6 +20,7 @@ estimated_by Kind.Multilane road n =
     - median_adjustment road.median
     - access_adjustment road.access
 
+-- the base speed less what is taken off, with n lanes
 abbrev pub estimated_speed : Road → ℕ → ℕ
 estimated_speed road n = estimated_by road.kind road n
 
@@ -33,9 +29,11 @@ unfoldable pub uncapped_by : Way → Road → ℕ → ℕ
 uncapped_by Way.Given road n = road.speed
 uncapped_by Way.Estimated road n = estimated_speed road n
 
+-- F before its upper end
 abbrev pub uncapped_speed : Road → ℕ → ℕ
 uncapped_speed road n = uncapped_by road.way road n
 
+-- F
 -- "A value above the upper end is taken as that end"
 unfoldable pub free_flow_speed_of : Road → ℕ → ℕ
 free_flow_speed_of road n = min (highest_speed road.kind) (uncapped_speed road n)

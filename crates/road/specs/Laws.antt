@@ -1,7 +1,4 @@
 -- The laws of free-flow speed, and of refusal 19, stated over the definitions that the contracts cite; proofs/Laws proves each.
---   StraightBetweenEntries, ClearancesAreWhole, RightClearanceByTenths, RampTermIsNearest, EstimateNeverBelowZero,
---   FreeFlowSpeedNeverFallsWithLanes, WeatherFitsExactly
--- Assumes nothing.
 use Rattle.std.specs.Prelude.{◌≡◌, false, ◌↔◌, List, ℕ, suc, ◌+◌, ◌*◌, ◌-◌, ◌≤◌, ◌<◌, min, get_or, T}
 use Rattle.curve.specs.declared.kind.Kind.{Kind}
 use Rattle.curve.specs.declared.Weather.{Weather}

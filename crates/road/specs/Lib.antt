@@ -1,15 +1,15 @@
 -- Roads and cases of document 01, with clearances, weather and ramps by document 02, a file for each part.
---   Cases           roads and cases by their fields, and with one field changed
---   Interpolation   the straight line between two entries of a table's row
---   Adjustments     what lane width, clearances, median and access take off a base speed
---   RampTerm        what ramps take off
---   FreeFlowSpeed   F, given or estimated
---   Refusals        1 to 9 and 19 in their order
---   Laws            the laws of free-flow speed and of refusal 19, stated
+-- roads and cases by their fields, and with one field changed
 pub mod Cases
+-- the straight line between two entries of a table's row
 pub mod Interpolation
+-- what lane width, clearances, median and access take off a base speed
 pub mod Adjustments
+-- what ramps take off
 pub mod RampTerm
+-- F, given or estimated
 pub mod FreeFlowSpeed
+-- 1 to 9 and 19 in their order
 pub mod Refusals
+-- the laws of free-flow speed and of refusal 19, stated
 pub mod Laws

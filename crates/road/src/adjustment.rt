@@ -1,7 +1,5 @@
-// What lane width, clearances, median and access points take off a base speed, in thousandths of mi/h.
-//   lane_width_adjustment         both kinds
-//   right_clearance_adjustment    kind F
-//   total_clearance_adjustment, median_adjustment, access_adjustment   kind M
+//! What lane width, clearances, median and access points take off a base speed, in thousandths of mi/h.
+
 ghost use Rattle.std.specs.Prelude.{◌≡◌, ◌*◌, ◌≤◌};
 ghost use Rattle.road.specs.Interpolation.{interpolated};
 ghost use Rattle.road.specs.Adjustments.{lane_width_adjustment, per_missing_foot, right_clearance_adjustment, counted_left_clearance};
@@ -10,7 +8,7 @@ ghost use Rattle.road.specs.Adjustments.{median_adjustment, access_adjustment};
 
 use crate::{Median, Road};
 
-// What total clearance takes off, for 12, 10, 8, 6, 4, 2 and 0 feet.
+/// What total clearance takes off, for 12, 10, 8, 6, 4, 2 and 0 feet.
 static TWO_LANES: [u64; 7] = [0, 400, 900, 1_300, 1_800, 3_600, 5_400];
 
 static THREE_LANES: [u64; 7] = [0, 400, 900, 1_300, 1_700, 2_800, 3_900];
@@ -34,7 +32,7 @@ fn total_clearance_row(lanes: u64) -> &'static [u64; 7]
     if lanes <= 2 { &TWO_LANES } else { &THREE_LANES }
 }
 
-// For a total clearance that is so many tenths short of 12 feet: an entry of the row, and its part of the rise to the next.
+/// For a total clearance that is so many tenths short of 12 feet: an entry of the row, and its part of the rise to the next.
 #[tactic(auto, using(crate::proofs::AdjustmentLaws::line_laws))]
 fn missing_clearance_adjustment(lanes: u64, missing: u64) -> u64
     requires { missing ≤ 120 }
@@ -47,6 +45,7 @@ fn missing_clearance_adjustment(lanes: u64, missing: u64) -> u64
 }
 
 impl Road {
+    /// Both kinds.
     #[tactic(auto, unfolding(crate::specs::Adjustments::lane_width_adjustment))]
     pub(crate) fn lane_width_adjustment(&self) -> u64
         ensures { result ≡ lane_width_adjustment self.now.lane_width }
@@ -58,6 +57,7 @@ impl Road {
         }
     }
 
+    /// Kind F.
     #[tactic(auto, using(crate::proofs::AdjustmentLaws::adjustment_laws))]
     pub(crate) fn right_clearance_adjustment(&self, lanes: u64) -> u64
         ensures { result ≡ right_clearance_adjustment self.now.right_clearance lanes }
@@ -81,6 +81,7 @@ impl Road {
         self.right_clearance.min(60) + self.counted_left_clearance()
     }
 
+    /// Kind M.
     #[tactic(auto, using(crate::proofs::AdjustmentLaws::adjustment_laws), unfolding(crate::specs::Adjustments::total_clearance_adjustment))]
     pub(crate) fn total_clearance_adjustment(&self, lanes: u64) -> u64
         ensures { result ≡ total_clearance_adjustment lanes

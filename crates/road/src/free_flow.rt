@@ -1,6 +1,5 @@
-// Free-flow speed, in thousandths of mi/h, before the weather's factor.
-//   FitRoad           a road that none of 1 to 5 refuses
-//   free_flow_speed   F, given or estimated, at most the kind's upper end
+//! Free-flow speed, in thousandths of mi/h, before the weather's factor.
+
 ghost use Rattle.std.specs.Prelude.{◌≡◌};
 ghost use Rattle.curve.specs.declared.kind.Kind.TheVariants as Kind;
 ghost use Rattle.road.specs.FreeFlowSpeed.{estimated_by, uncapped_speed, free_flow_speed_of};
@@ -10,7 +9,7 @@ use crate::ramp::ramp_term;
 use crate::{Road, Way};
 use curve::kind::Kind;
 
-// A road that none of 1 to 5 refuses.
+/// A road that none of 1 to 5 refuses.
 #[derive(Clone, Copy)]
 pub struct FitRoad {
     pub road: Road,
@@ -54,6 +53,7 @@ impl FitRoad {
         }
     }
 
+    /// F, given or estimated, at most the kind's upper end.
     #[tactic(auto, unfolding(crate::specs::FreeFlowSpeed::free_flow_speed_of))]
     pub fn free_flow_speed(&self, lanes: u64) -> u64
         ensures { result ≡ free_flow_speed_of self.now.road lanes }

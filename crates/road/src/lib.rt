@@ -1,10 +1,5 @@
-// Road: a road and its load, from their fields to the free-flow speed, and refusals 1 to 9 and 19.
-//   Road, Case   a road, and a road with its load and weather; Case::with_demand: with another demand; Way, Median, Terrain: the types of
-//                their fields
-//   adjustment   what lane width, clearances, median and access take off a base speed
-//   ramp         what ramps take off
-//   free_flow    free-flow speed
-//   refusal      refusals 1 to 9 and 19
+//! Road: a road and its load, from their fields to the free-flow speed, and refusals 1 to 9 and 19.
+
 #![tactic(auto)]
 
 mod adjustment;
@@ -19,14 +14,14 @@ ghost use Rattle.road.specs.Cases.{with_demand};
 use curve::Weather;
 use curve::kind::Kind;
 
-// How free-flow speed is had: E from a base speed, G as it is given.
+/// How free-flow speed is had: E from a base speed, G as it is given.
 #[derive(Clone, Copy, PartialEq, Eq)]
 pub enum Way {
     Estimated,
     Given,
 }
 
-// U, D and T.
+/// U, D and T.
 #[derive(Clone, Copy, PartialEq, Eq)]
 pub enum Median {
     Undivided,
@@ -34,26 +29,26 @@ pub enum Median {
     TwoWayLeftTurnLane,
 }
 
-// L and R.
+/// L and R.
 #[derive(Clone, Copy, PartialEq, Eq)]
 pub enum Terrain {
     Level,
     Rolling,
 }
 
-// What is the same on the same road. Lengths are tenths of a foot. Any number may stand in a number's field, here and in a case; refusals
-// say which are fit.
+/// What is the same on the same road. Lengths are tenths of a foot. Any number may stand in a number's field, here and in a case; refusals
+/// say which are fit.
 #[derive(Clone, Copy, PartialEq, Eq)]
 pub struct Road {
     pub kind: Kind,
     pub way: Way,
-    // free-flow or base speed, thousandths of mi/h
+    /// free-flow or base speed, thousandths of mi/h
     pub speed: u64,
     pub lane_width: u64,
     pub right_clearance: u64,
     pub left_clearance: u64,
     pub median: Median,
-    // kind F: ramps in six miles; kind M: access points per mile
+    /// kind F: ramps in six miles; kind M: access points per mile
     pub access: u64,
 }
 
@@ -61,11 +56,11 @@ pub struct Road {
 pub struct Case {
     pub road: Road,
     pub lanes: u64,
-    // vehicles per hour
+    /// vehicles per hour
     pub demand: u64,
-    // thousandths
+    /// thousandths
     pub peak_hour_factor: u64,
-    // thousandths
+    /// thousandths
     pub heavy_share: u64,
     pub terrain: Terrain,
     pub weather: Weather,

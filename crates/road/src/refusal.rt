@@ -1,22 +1,17 @@
-// Refusals 1 to 9 and 19 of a case, in the documents' order.
-//   GREATEST_DEMAND   the greatest demand that 7 lets pass
-//   check_section     none of 1 to 6 refuses a case, or the first that does
-//   check_load        the same of 7 to 9
-//   check_weather     the same of 19
-//   check_fields_with   the same of 1 to 6, of what was found in the place of 7 to 9, and of 19
-//   check_fields      the same of 1 to 9 and 19
+//! Refusals 1 to 9 and 19 of a case, in the documents' order.
+
 ghost use Rattle.std.specs.Prelude.{◌≡◌};
-ghost use Rattle.checks.specs.Refusals.{first_refusal, found};
-ghost use Rattle.checks.specs.Numbers.{refusal_number};
+ghost use Rattle.refusals.specs.Refusals.{first_refusal, found};
+ghost use Rattle.refusals.specs.Numbers.{refusal_number};
 ghost use Rattle.road.specs.Refusals.{median_unfit, most_access, weather_unfit, road_refusals, section_refusals, load_refusals};
 ghost use Rattle.road.specs.Refusals.{weather_refusals, field_refusals_with, field_refusals};
 
 use crate::{Case, Median, Road};
-use checks::Refusal;
+use refusals::Refusal;
 use curve::Weather;
 use curve::kind::Kind;
 
-// The greatest demand that refusal 7 lets pass.
+/// The greatest demand that refusal 7 lets pass.
 pub const GREATEST_DEMAND: u64 = 999_999;
 
 fn median_unfit(kind: Kind, median: Median) -> bool
@@ -43,7 +38,7 @@ fn weather_unfit(kind: Kind, weather: Weather) -> bool
 }
 
 impl Road {
-    // 1 to 5.
+    /// 1 to 5.
     #[tactic(auto, unfolding(crate::specs::Refusals::road_refusals))]
     fn check(&self) -> Result<(), Refusal>
         ensures { refusal_number result ≡ first_refusal (road_refusals self.now) }
@@ -68,6 +63,7 @@ impl Road {
 }
 
 impl Case {
+    /// None of 1 to 6 refuses a case, or the first that does.
     #[tactic(auto, using(crate::proofs::RefusalLaws::section_in_turn))]
     pub fn check_section(&self) -> Result<(), Refusal>
         ensures { refusal_number result ≡ first_refusal (section_refusals self.now) }
@@ -80,6 +76,7 @@ impl Case {
         Ok(())
     }
 
+    /// The same of 7 to 9.
     #[tactic(auto, unfolding(crate::specs::Refusals::load_refusals))]
     pub fn check_load(&self) -> Result<(), Refusal>
         ensures { refusal_number result ≡ first_refusal (load_refusals self.now) }
@@ -96,6 +93,7 @@ impl Case {
         Ok(())
     }
 
+    /// The same of 19.
     pub fn check_weather(&self) -> Result<(), Refusal>
         ensures { refusal_number result ≡ first_refusal (weather_refusals self.now) }
     {
@@ -105,6 +103,7 @@ impl Case {
         Ok(())
     }
 
+    /// The same of 1 to 6, of what was found in the place of 7 to 9, and of 19.
     #[tactic(auto, using(crate::proofs::RefusalLaws::fields_in_turn))]
     pub fn check_fields_with(&self, loads: Result<(), Refusal>) -> Result<(), Refusal>
         ensures { refusal_number result ≡ first_refusal (field_refusals_with (found (refusal_number loads)) self.now) }
@@ -114,6 +113,7 @@ impl Case {
         self.check_weather()
     }
 
+    /// The same of 1 to 9 and 19.
     #[tactic(auto, using(crate::proofs::RefusalLaws::fields_found))]
     pub fn check_fields(&self) -> Result<(), Refusal>
         ensures { refusal_number result ≡ first_refusal (field_refusals self.now) }

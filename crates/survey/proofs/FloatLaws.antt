@@ -1,10 +1,7 @@
 -- A float's exact value in a unit, rounded down (specs/Survey), by the bits of the float.
---   by_bits        what survey::speed_of_bits goes by:
 --     bits-low       the bits of a float below 1, subnormals and 0 among them: refused
 --     bits-high      of 512 and more, infinite, NaN or negative, -0 among them: refused
 --     bits-between   of 1 up to 512: by the range, the floor that the code works out or refused
---   by_float       what survey::speed_of_float goes by: a NaN is refused, and any other float is that of its bits
--- Assumes nothing.
 use Rattle.std.proofs.Common.{◌≡◌, refl, sym, ap, ◌∙◌, subst, ⊎_elim, Bool, true, false, cond, true≢false, leb, eqb, lit≤, pos}
 use Rattle.std.proofs.Common.{ℕ, zero, suc, ◌+◌, ◌-◌, ◌*◌, ◌/◌, ◌%◌, ◌^◌, ◌≤◌, ◌<◌, arith, leb-false, ne_eqb, mod-eq_of_lt}
 use Rattle.std.proofs.Common.{le_trans, lt_of_le_of_lt, le_of_suc-le-suc, eq-or-lt_of_le, pow-add, pow_pos, pow_mono}
@@ -21,7 +18,7 @@ use lib.Ieee.Fits.{down_pos}
 use lib.Ieee.Nearest.{div_same}
 use Rattle.numbers.specs.declared.Fraction.{Fraction}
 use Rattle.numbers.specs.Fraction.{times, rounded_up}
-use Rattle.checks.specs.Refusals.{outside}
+use Rattle.refusals.specs.Refusals.{outside}
 use Rattle.survey.specs.Survey.{thousandths, exact_value, rounded_in, speed_refused, thousandths_in}
 use Rattle.survey.specs.Units.{UnitFits}
 use Rattle.survey.proofs.SurveyLaws.{speed_refused-low, speed_refused-high, speed_refused-negative}
@@ -191,6 +188,8 @@ module _ (unit : Fraction) where
         rw (of_bits-fields b (omega arith)) (fields-between (b / 8388608) (b % 8388608) h l) in
         (ap speed_refused e, ap thousandths_in e)
 
+-- what survey::speed_of_bits goes by:
 pub ruleset by_bits = (bits-low, bits-high, bits-between, nat_tests, one_shifted)
 
+-- what survey::speed_of_float goes by: a NaN is refused, and any other float is that of its bits
 pub ruleset by_float = (rounded_in-nan, of_bits-to_bits)

@@ -1,6 +1,4 @@
 -- The laws of specs/Laws, proved.
---   answers-within-ends, below-zero-rounds-down
--- Assumes nothing.
 use mathlib.Core.Path.{refl}
 use Rattle.numbers.specs.Division.{div_up}
 use Rattle.survey.specs.Survey.{rounded_in}

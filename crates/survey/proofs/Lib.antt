@@ -1,9 +1,9 @@
 -- The laws of the definitions in specs/, and the figures shown.
---   SurveyLaws   the answer to a survey
---   FloatLaws    a float's exact value by its bits
---   Laws         the laws of specs/Laws
---   Boundary     the boundary sections
+-- the answer to a survey
 pub mod SurveyLaws
+-- a float's exact value by its bits
 pub mod FloatLaws
+-- the laws of specs/Laws
 pub mod Laws
+-- the boundary sections
 pub mod Boundary

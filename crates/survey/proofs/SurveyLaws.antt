@@ -1,26 +1,25 @@
 -- The answer to a survey (specs/Survey).
---   speed_refused-low, speed_refused-high, speed_refused-negative   13 refuses what lies below 30,000, above 90,000, and at 0 or below
---   by_survey      what survey::surveyed_speed goes by:
 --     survey_answer-cars    fewer than 100 cars: 11
 --     survey_answer-flow    a flow of 1,000 or more: 12
 --     survey_answer-speed   else 13 alone decides
 --     survey_answer-in      every answer is within its ends
--- Assumes nothing.
 use Rattle.std.proofs.Common.{◌≡◌, refl, sym, ℕ, zero, suc, ◌≤◌, ◌<◌, Bool, true, false, cond, pos, negsuc, neg_ℤ, Ok, Err}
 use Rattle.std.proofs.Common.{arith, lt-ltb, le-ltb, le-leb}
 use native.Mathlib.Decide.{dec_le}
 use borrow.Author.Tests.{lt-leb}
-use Rattle.checks.specs.declared.Refusal.{Refusal}
-use Rattle.checks.specs.Refusals.{outside}
-use Rattle.checks.specs.Numbers.{ok_unless}
-use Rattle.checks.proofs.RefusalLaws.{within}
-use Rattle.checks.proofs.NumberLaws.{ok_unless-err}
+use Rattle.refusals.specs.declared.Refusal.{Refusal}
+use Rattle.refusals.specs.Refusals.{outside}
+use Rattle.refusals.specs.Numbers.{ok_unless}
+use Rattle.refusals.proofs.RefusalLaws.{within}
+use Rattle.refusals.proofs.NumberLaws.{ok_unless-err}
 use Rattle.survey.specs.declared.Survey.{Survey}
 use Rattle.survey.specs.Survey.{RoundedSpeed, not_finite, thousandths, rounded_speed, speed_refused, thousandths_in, survey_refusals}
 use Rattle.survey.specs.Survey.{survey_answer}
 use Rattle.survey.specs.Units.{speed_answer}
 use Rattle.survey.specs.Laws.{AnswerWithinEnds}
 
+-- speed_refused-low, speed_refused-high, speed_refused-negative: 13 refuses what lies below 30,000, above
+-- 90,000, and at 0 or below
 pub speed_refused-low : (n : ℕ) → n < 30000 → speed_refused (thousandths (pos n)) ≡ true
 speed_refused-low n h = simp (lt-ltb n 30000 h)
 

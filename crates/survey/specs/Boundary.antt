@@ -1,19 +1,17 @@
 -- The boundary sections of document 01 about a surveyed speed; the layer above puts them into its list.
---   survey_of speed    a survey of that speed with the fewest cars and the greatest flow that are accepted
---   miles x            the same of x mi/h
---   survey_figures     the list
--- Assumes nothing.
 use Rattle.std.specs.Prelude.{true, false, List, [], ◌∷◌, ℕ, pos, negsuc, Float}
 use Rattle.std.specs.Float.{nan, inf, fin}
-use Rattle.checks.specs.Numbers.{refusal_number}
-use Rattle.checks.specs.Figures.{Figure, figure}
+use Rattle.refusals.specs.Numbers.{refusal_number}
+use Rattle.refusals.specs.Figures.{Figure, figure}
 use Rattle.survey.specs.declared.SurveyedSpeed.{SurveyedSpeed}
 use Rattle.survey.specs.declared.Survey.{Survey}
 use Rattle.survey.specs.Survey.{survey_answer, values}
 
+-- a survey of that speed with the fewest cars and the greatest flow that are accepted
 abbrev pub survey_of : SurveyedSpeed → Survey
 survey_of speed = record { speed = speed; cars = 100; flow = 999 }
 
+-- the same of x mi/h
 abbrev pub miles : Float → Survey
 miles x = survey_of (SurveyedSpeed.MilesPerHour x)
 
@@ -21,6 +19,7 @@ miles x = survey_of (SurveyedSpeed.MilesPerHour x)
 abbrev answered : Survey → List ℕ
 answered survey = refusal_number (survey_answer survey) ∷ values (survey_answer survey)
 
+-- the list
 -- Of a survey that is accepted 0 and the speed, of one that is refused its number. A float is written m × 2 ^ e with an odd m: 100 is
 -- 25 × 2 ^ 2. Starred: 100.0 km/h. Not starred: 30 and 90 mi/h; the float below 30 mi/h; 99 cars with a flow of 1,000 and NaN; a flow of
 -- 1,000 with NaN; NaN, both infinities, -0, -100 and the least float above 0.

@@ -1,21 +1,20 @@
 -- Laws of the surveyed speed, stated; proofs/Laws proves them.
---   AnswerWithinEnds a   a speed from 30,000 to 90,000, or a refusal from 11 to 13
---   AnswersWithinEnds    every survey is answered so
---   BelowZeroRoundsDown  -1/2048 mi/h, just below 0, rounded down is -1 thousandth
--- Assumes nothing.
 use Rattle.std.specs.Prelude.{ℕ, ◌≤◌, ◌≡◌, true, negsuc, Result, Ok, Err}
 use Rattle.std.specs.Float.{fin}
-use Rattle.checks.specs.declared.Refusal.{Refusal}
-use Rattle.checks.specs.Numbers.{number}
+use Rattle.refusals.specs.declared.Refusal.{Refusal}
+use Rattle.refusals.specs.Numbers.{number}
 use Rattle.survey.specs.declared.Survey.{Survey}
 use Rattle.survey.specs.Survey.{mile_an_hour, thousandths, rounded_in, survey_answer}
 
+-- a speed from 30,000 to 90,000, or a refusal from 11 to 13
 abbrev pub AnswerWithinEnds : Result ℕ Refusal → Type 0
 AnswerWithinEnds (Ok n) = (30000 ≤ n) × (n ≤ 90000)
 AnswerWithinEnds (Err r) = (11 ≤ number r) × (number r ≤ 13)
 
+-- every survey is answered so
 abbrev pub AnswersWithinEnds : Type 0
 AnswersWithinEnds = (survey : Survey) → AnswerWithinEnds (survey_answer survey)
 
+-- -1/2048 mi/h, just below 0, rounded down is -1 thousandth
 abbrev pub BelowZeroRoundsDown : Type 0
 BelowZeroRoundsDown = rounded_in mile_an_hour (fin true 1 (negsuc 10)) ≡ thousandths (negsuc 0)

@@ -1,9 +1,9 @@
 -- A surveyed speed.
---   Survey     the speed of a survey, or its refusal
---   Units      what the code's helpers need and hand back
---   Laws       laws of the surveyed speed
---   Boundary   the boundary sections about it
+-- the speed of a survey, or its refusal
 pub mod Survey
+-- what the code's helpers need and hand back
 pub mod Units
+-- laws of the surveyed speed
 pub mod Laws
+-- the boundary sections about it
 pub mod Boundary

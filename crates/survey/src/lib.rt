@@ -1,7 +1,5 @@
-// Survey: a surveyed speed in thousandths of mi/h, or its refusal.
-//   SurveyedSpeed    the speed in its unit
-//   Survey           that speed, the cars counted and the flow
-//   surveyed_speed   for any survey at all
+//! Survey: a surveyed speed in thousandths of mi/h, or its refusal.
+
 #![tactic(auto)]
 
 ghost use Rattle.std.specs.Prelude.{◌≡◌};
@@ -11,7 +9,7 @@ ghost use Rattle.survey.specs.Survey.{rounded_in, survey_answer};
 ghost use Rattle.survey.specs.Laws.{AnswerWithinEnds};
 ghost use Rattle.survey.specs.Units.{UnitFits, speed_answer};
 
-use checks::Refusal;
+use refusals::Refusal;
 use numbers::Fraction;
 
 const FEWEST_CARS: u64 = 100;
@@ -20,12 +18,12 @@ const FLOW_LIMIT: u64 = 1_000;
 
 const THOUSANDTHS: u64 = 1_000;
 
-// 1 mi = 1.609344 km, both in millimetres.
+/// 1 mi = 1.609344 km, both in millimetres.
 const MILE: u64 = 1_609_344;
 
 const KILOMETRE: u64 = 1_000_000;
 
-// The units of a survey, in thousandths of mi/h.
+/// The units of a survey, in thousandths of mi/h.
 const MILE_AN_HOUR: Fraction = Fraction {
     numerator: THOUSANDTHS,
     denominator: 1,
@@ -36,15 +34,17 @@ const KILOMETRE_AN_HOUR: Fraction = Fraction {
     denominator: MILE,
 };
 
-// Of an f32's bits 1 is the sign, 8 are the exponent and 23 the digits below the leading one. This is the leading one's weight.
+/// Of an f32's bits 1 is the sign, 8 are the exponent and 23 the digits below the leading one. This is the leading one's weight.
 const LEADING: u64 = 1 << 23;
 
+/// The speed in its unit.
 #[derive(Clone, Copy, PartialEq)]
 pub enum SurveyedSpeed {
     MilesPerHour(f32),
     KilometresPerHour(f32),
 }
 
+/// That speed, the cars counted and the flow.
 #[derive(Clone, Copy, PartialEq)]
 pub struct Survey {
     pub speed: SurveyedSpeed,
@@ -52,7 +52,7 @@ pub struct Survey {
     pub flow: u64,
 }
 
-// The float that has these bits, in a unit.
+/// The float that has these bits, in a unit.
 #[tactic(auto, using(crate::proofs::FloatLaws::by_bits))]
 fn speed_of_bits(bits: u64, unit: Fraction) -> Result<u64, Refusal>
     requires { UnitFits unit }
@@ -73,7 +73,7 @@ fn speed_of_bits(bits: u64, unit: Fraction) -> Result<u64, Refusal>
     Ok(thousandths)
 }
 
-// A float, in a unit. A NaN has no bits of its own, so it is refused first.
+/// A float, in a unit. A NaN has no bits of its own, so it is refused first.
 #[tactic(auto, using(crate::proofs::FloatLaws::by_float))]
 fn speed_of_float(x: f32, unit: Fraction) -> Result<u64, Refusal>
     requires { UnitFits unit }
@@ -85,6 +85,7 @@ fn speed_of_float(x: f32, unit: Fraction) -> Result<u64, Refusal>
     speed_of_bits(u64::from(x.to_bits()), unit)
 }
 
+/// For any survey at all.
 #[tactic(auto, using(crate::proofs::SurveyLaws::by_survey))]
 pub fn surveyed_speed(survey: Survey) -> Result<u64, Refusal>
     ensures value { result ≡ survey_answer survey }

@@ -1,18 +1,18 @@
 -- Text, or numbers as they are, in a lent buffer, piece by piece (specs/Buffer). A byte of a law may be any number.
---   rest_of m xs, put_rest m xs ys   what a buffer that holds xs lends from place m on; the buffer when that holds ys
---   nothing, then, then-byte         no piece; after one a piece in the rest of the buffer, or a byte
--- Assumes nothing.
 use Rattle.std.proofs.Common.{◌≡◌, ℕ, suc, ◌+◌, ◌-◌, ◌<◌, List, [], ◌∷◌, ◌++◌, length, set, take, drop, refl, sym, ap, ◌∙◌, append_assoc, append-nil, length-append, length-drop, drop-cons, drop-drop, arith}
 use Rattle.std.proofs.lemmas.List.{take_at, take_rest, drop_at, set_at, drop_all, length_push}
 use borrow.Rule.Slice.PartMut.{mid_of, put_mid}
 use Rattle.text.specs.Buffer.{written, Wrote}
 
+-- rest_of m xs, put_rest m xs ys: what a buffer that holds xs lends from place m on; the buffer when that
+-- holds ys
 abbrev pub rest_of : ℕ → List ℕ → List ℕ
 rest_of m xs = mid_of m (length xs - m) xs
 
 abbrev pub put_rest : ℕ → List ℕ → List ℕ → List ℕ
 put_rest m xs ys = put_mid m (length xs - m) xs ys
 
+-- nothing, then, then-byte: no piece; after one a piece in the rest of the buffer, or a byte
 pub nothing : {old : List ℕ} → Wrote [] old old 0
 unfolding written
 nothing = record { content = refl; count = refl }

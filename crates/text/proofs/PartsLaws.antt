@@ -1,13 +1,4 @@
 -- The parts of a list, by where its first part ends (specs/Parts).
---   count_before-le           at most all bytes stand before the first t
---   found-Some, found-None    where `position` finds a t, so many bytes stand before it; where it finds none, all
---   count_before-cases        no t, or one
---   parts-one, parts-more     a list with no t is one part; with one it is the part before it and the parts after it
---   parts-pos                 there is one part at least
---   count_before-hit, count_before-miss, count_before-end   the count from place i on, one byte further
---   parts-append              two lists with a t between them have the parts of both
---   spread, parts-spread      the lengths of parts, each with one byte more, added up: one more than the list has bytes
--- Assumes nothing.
 use Rattle.std.proofs.Common.{◌≡◌, ℕ, suc, ◌+◌, ◌≤◌, ◌<◌, ◌⊎◌, eqb, List, [], ◌∷◌, ◌++◌, length, take, drop, one-add, refl, position, cond, ltb, None, Some, get_or, drop-cons, add-one, add-zero, length-drop, arith, eq-eqb, ne_eqb, eq-or-lt_of_le}
 use Rattle.std.specs.List.{position_or_len}
 use Rattle.std.proofs.lemmas.Bool.Decides.{nat_tests}
@@ -20,9 +11,11 @@ count_before-is : (t : ℕ) (bs : List ℕ) → count_before t bs ≡ position_o
 unfolding count_before
 count_before-is t = is_position_or_len (count_before t) (λ b. eqb b t) refl (λ _ _. simp one-add)
 
+-- at most all bytes stand before the first t
 pub count_before-le : (t : ℕ) (bs : List ℕ) → count_before t bs ≤ length bs
 count_before-le t bs = rw count_before-is (prefix_len-le-length _ bs)
 
+-- no t, or one
 pub count_before-cases : (t : ℕ) (bs : List ℕ) → (count_before t bs ≡ length bs) ⊎ (count_before t bs < length bs)
 count_before-cases t bs = eq-or-lt_of_le (count_before-le t bs)
 
@@ -30,6 +23,7 @@ found : (t : ℕ) (bs : List ℕ)
     → position (λ b. eqb b t) bs ≡ cond (ltb (count_before t bs) (length bs)) (Some (count_before t bs)) None
 found t bs = rw count_before-is refl
 
+-- found-Some, found-None: where `position` finds a t, so many bytes stand before it; where it finds none, all
 pub found-Some : (t : ℕ) (bs : List ℕ) (i : ℕ) → position (λ b. eqb b t) bs ≡ Some i → (i ≡ count_before t bs) × (i < length bs)
 found-Some t bs i h = grind (arith, nat_tests, found t bs)
 
@@ -55,6 +49,7 @@ unfolding on_first
 on_first-length b [] = omega arith
 on_first-length b (p ∷ ps) = omega arith
 
+-- there is one part at least
 pub parts-pos : (t : ℕ) (bs : List ℕ) → 0 < length (parts t bs)
 unfolding parts
 parts-pos t [] = omega arith
@@ -79,11 +74,14 @@ unfolding on_first
 on_first-append b [] qs h = absurd (omega arith)
 on_first-append b (p ∷ ps) qs h = refl
 
+-- two lists with a t between them have the parts of both
 pub parts-append : (t : ℕ) (xs ys : List ℕ) → parts t (xs ++ (t ∷ ys)) ≡ parts t xs ++ parts t ys
 unfolding parts
 parts-append t [] ys = rw (eq-eqb t t refl)
 parts-append t (b ∷ xs) ys = grind (arith, nat_tests, parts-append t xs ys, on_first-append b (parts t xs) (parts t ys) (parts-pos t xs))
 
+-- spread, parts-spread: the lengths of parts, each with one byte more, added up: one more than the list has
+-- bytes
 abbrev pub spread : List (List ℕ) → ℕ
 spread [] = 0
 spread (p ∷ ps) = suc (length p) + spread ps

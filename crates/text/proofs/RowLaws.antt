@@ -1,9 +1,4 @@
 -- Numbers and rows written into a buffer (specs/Decimal), over proofs/DigitLaws and proofs/BufferLaws.
---   Filling, nothing-filled, one-filled, all-filled   digits written from the last to the first; filling: what put_number asks for
---   next-number, row-written       a turn of put_figures; a whole row; pieces: what put_figures and put_row ask for
---   figures_text-next, figures_text-room, next-room, row_text-length, row_text-one   the room that figures and rows take
---   figures_text-mono   smaller numbers take no more room
--- Assumes nothing.
 use Rattle.std.proofs.Common.{◌≡◌, ℕ, ◌+◌, ◌-◌, ◌/◌, ◌%◌, ◌^◌, suc, ◌≤◌, ◌<◌, List, [], ◌∷◌, ◌++◌, length, get_or, take, drop, set, sym, refl, ap, ◌∙◌, append_assoc, append-nil, arith, length-append, take-append-drop, drop-drop, length-take-le, length-set}
 use mathlib.Core.List.{flat_map}
 use Rattle.std.proofs.lemmas.List.{length_push, take_more, set_at}
@@ -69,6 +64,8 @@ module _ {n rest place : ℕ} {old new : List ℕ} (f : Filling n old new rest p
 pub ruleset filling = (decimal_pos, nothing-filled, one-filled)
 
 -- ---- numbers after tabs
+-- figures_text-next, figures_text-room, next-room, row_text-length, row_text-one: the room that figures and
+-- rows take
 pub figures_text-next : (ns : List ℕ) (i : ℕ) → i < length ns
     → figures_text (take (i + 1) ns) ≡ figures_text (take i ns) ++ (9 ∷ decimal (get_or ns i 0))
 unfolding figures_text
@@ -121,6 +118,7 @@ pub row_text-one : (b n : ℕ) → length (row_text b (n ∷ [])) ≤ 23
 unfolding row_text figures_text flat_map
 row_text-one b n = omega (arith, decimal-room n, length-append ((decimal n ++ [])) (10 ∷ []), length-append (decimal n) [])
 
+-- smaller numbers take no more room
 pub figures_text-mono : (ms ns : List ℕ) → AllAtMost ms ns → length (figures_text ms) ≤ length (figures_text ns)
 unfolding figures_text flat_map
 figures_text-mono [] [] h = omega arith

@@ -1,9 +1,15 @@
 -- Bytes and numbers as text.
---   Bytes     text as bytes
---   Parts     bytes parted at a byte
---   Decimal   numbers in decimal
---   Buffer    text, or numbers as they are, in a lent buffer
+-- text as bytes
 pub mod Bytes
+-- bytes parted at a byte
 pub mod Parts
+-- numbers in decimal
 pub mod Decimal
+-- text, or numbers as they are, in a lent buffer
 pub mod Buffer
+-- an input answered line by line
+pub mod Stream
+-- what one turn over the held bytes does
+pub mod Turns
+-- an input in pieces, and the theorem
+pub mod Runs

@@ -1,8 +1,9 @@
-// Numbers written as they are into a lent buffer.
-//   put_numbers   each number of a slice, from the buffer's start on; answers how many
+//! Numbers written as they are into a lent buffer.
+
 ghost use Rattle.std.specs.Prelude.{◌≤◌, length};
 ghost use Rattle.text.specs.Buffer.{Wrote};
 
+/// Each number of a slice, from the buffer's start on; answers how many.
 #[tactic(auto, unfolding(crate::specs::Buffer::written))]
 pub fn put_numbers(numbers: &[u64], out: &mut [u64]) -> usize
     requires { length numbers.now ≤ length out.old }

@@ -1,12 +1,10 @@
-// Numbers written in decimal into a lent buffer. Each function writes from the buffer's start on and answers how many bytes it wrote.
-//   put_number    a number
-//   put_figures   each number of a slice after a tab
-//   put_row       a byte, each number after a tab, and a newline
+//! Numbers written in decimal into a lent buffer. Each function writes from the buffer's start on and answers how many bytes it wrote.
+
 ghost use Rattle.std.specs.Prelude.{◌≡◌, ◌≤◌, length};
 ghost use Rattle.text.specs.Decimal.{decimal, figures_text, row_text};
 ghost use Rattle.text.specs.Buffer.{Wrote};
 
-// How many digits n has.
+/// How many digits n has.
 #[tactic(auto, using(crate::proofs::DigitLaws::length_from_log))]
 fn digit_count(n: u64) -> usize
     ensures { result ≡ length (decimal n) }
@@ -14,7 +12,7 @@ fn digit_count(n: u64) -> usize
     n.checked_ilog10().unwrap_or(0) as usize + 1
 }
 
-// From the last digit to the first, which is what the divisions leave. `los` takes 2 % longer with a `for` over the places.
+/// From the last digit to the first, which is what the divisions leave. `los` takes 2 % longer with a `for` over the places.
 #[tactic(auto, using(crate::proofs::RowLaws::filling))]
 pub fn put_number(n: u64, out: &mut [u8]) -> usize
     requires { length (decimal n) ≤ length out.old }
@@ -32,6 +30,7 @@ pub fn put_number(n: u64, out: &mut [u8]) -> usize
     count
 }
 
+/// Each number of a slice after a tab.
 #[tactic(auto, using(crate::proofs::RowLaws::pieces))]
 pub fn put_figures(figures: &[u64], out: &mut [u8]) -> usize
     requires { length (figures_text figures.now) ≤ length out.old }
@@ -46,6 +45,7 @@ pub fn put_figures(figures: &[u64], out: &mut [u8]) -> usize
     count
 }
 
+/// A byte, each number after a tab, and a newline.
 #[tactic(auto, using(crate::proofs::RowLaws::pieces))]
 pub fn put_row(first: u8, figures: &[u64], out: &mut [u8]) -> usize
     requires { length (row_text first figures.now) ≤ length out.old }

@@ -1,5 +1,4 @@
 -- `daily::evaluate_daily` meets its contract: 20 and 21 come first, and then the engine's refusal.
--- Assumes nothing.
 use Rattle.std.proofs.lemmas.Result.{err_from_is_err_and}
 use Rattle.daily.proofs.DailyLaws.{answer-stopped}
 use Rattle.daily.proofs.evaluate_daily.Goals as goal

@@ -1,9 +1,8 @@
 -- `day::evaluate_day` meets its contract: 18 writes nothing, and otherwise every answer is written.
--- Assumes nothing.
 use Rattle.std.proofs.Common.{sym, ◌∙◌, length}
 use Rattle.std.proofs.lemmas.Result.{err_from_is_err_and}
-use Rattle.checks.specs.Refusals.{first_refusal}
-use Rattle.checks.proofs.NumberLaws.{number-above, ok_unless-err}
+use Rattle.refusals.specs.Refusals.{first_refusal}
+use Rattle.refusals.proofs.NumberLaws.{number-above, ok_unless-err}
 use Rattle.day.specs.Days.{lent_refusals}
 use Rattle.day.proofs.DayLaws.{day-refused, day-answered}
 use Rattle.day.proofs.evaluate_day.Goals as goal

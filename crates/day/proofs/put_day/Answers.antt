@@ -1,8 +1,7 @@
 -- `day::put_day` meets its contract: each turn writes the answer with one demand behind those before it.
--- Assumes nothing.
 use Rattle.std.proofs.Common.{◌≡◌, ap, ◌∙◌, subst, Result, Ok, Err, get_or, arith}
 use mathlib.Core.List.{flat_map}
-use Rattle.checks.specs.declared.Refusal.{Refusal}
+use Rattle.refusals.specs.declared.Refusal.{Refusal}
 use Rattle.text.proofs.BufferLaws.{nothing}
 use Rattle.road.specs.declared.Case.{Case}
 use Rattle.road.specs.Cases.{with_demand}

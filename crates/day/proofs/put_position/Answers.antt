@@ -1,5 +1,4 @@
 -- `day::put_position` meets its contract: the figures are written behind the number.
--- Assumes nothing.
 use Rattle.std.proofs.Common.{arith}
 use Rattle.text.proofs.BufferLaws.{nothing, then, then-byte}
 use Rattle.day.proofs.put_position.Goals as goal

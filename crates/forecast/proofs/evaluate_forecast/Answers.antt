@@ -1,6 +1,5 @@
 -- `forecast::evaluate_forecast` meets its contract: the check finds a refusal, or the curve on which the letters at the ends are the best
 -- and the worst.
--- Assumes nothing.
 use Rattle.std.proofs.Common.{sym}
 use Rattle.std.proofs.lemmas.Result.{err_from_is_err_and}
 use Rattle.forecast.proofs.ForecastLaws.{refused-with, answer-passed}

@@ -1,10 +1,9 @@
 -- `los::advance` meets its contract: where nothing is answered, no newline is left in what is held.
--- Assumes nothing.
 use Rattle.std.proofs.Common.{◌≡◌, ◌↔◌, false, ◌∙◌, length, arith}
 use Rattle.std.proofs.lemmas.Result.{IfOk-weaker}
 use Rattle.text.specs.Bytes.{newline}
 use Rattle.text.specs.Parts.{count_before}
-use Rattle.stream.proofs.StreamLaws.{nothing-left, carried-newline}
+use Rattle.text.proofs.StreamLaws.{nothing-left, carried-newline}
 use Rattle.replies.specs.Output.{line_texts}
 use Rattle.replies.proofs.TextsLaws.{line_text-pos}
 use Rattle.los.proofs.advance.Goals as goal

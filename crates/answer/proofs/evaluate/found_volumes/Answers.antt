@@ -1,6 +1,5 @@
 -- `answer::evaluate::found_volumes` meets its contract: each search hands back what it would up to the greatest demand, and the counts are
 -- added.
--- Assumes nothing.
 use Rattle.std.proofs.Common.{◌≡◌, ap, ◌∙◌, ℕ, ◌+◌, ◌-◌, ◌<◌, arith}
 use Rattle.curve.specs.declared.Curve.{Curve}
 use Rattle.curve.specs.Service.{density_limit}

@@ -1,6 +1,5 @@
 -- The loop of `answer::evaluate::found_volumes`: each search hands back what it would up to the greatest demand, and the counts are
 -- added.
--- Assumes nothing.
 use Rattle.answer.proofs.TriesLaws.{Done}
 use Rattle.answer.proofs.evaluate.found_volumes.Given as goal
 

@@ -1,6 +1,5 @@
 -- `answer::evaluate::greatest_meeting` meets its contract: the halving keeps a demand that passes below one that fails or is past the
 -- end, until they are neighbours, and counts what it tries.
--- Assumes nothing.
 use Rattle.std.proofs.Common.{sym, ◌∙◌, arith}
 use Rattle.numbers.specs.Halving.{middle}
 use Rattle.numbers.proofs.HalvingLaws.{halved-start, halved-passes, halved-fails, halved-done}

@@ -1,5 +1,4 @@
 -- The loop of `answer::evaluate::greatest_meeting`: it has come so far as the halving has.
--- Assumes nothing.
 use Rattle.std.proofs.Common.{◌-◌}
 use Rattle.numbers.proofs.HalvingLaws.{Halved}
 use Rattle.answer.specs.Search.{demand_meets}

@@ -1,5 +1,4 @@
 -- `answer::lanes::lanes_meet` meets its contract: the curve of the case with these lanes is found anew, or 10 refuses it.
--- Assumes nothing.
 use Rattle.std.proofs.Common.{◌≡◌, ℕ, ap, sym, ◌∙◌, arith}
 use Rattle.curve.specs.declared.Weather.{Weather}
 use Rattle.curve.proofs.ServiceLaws.{density_limit-le}

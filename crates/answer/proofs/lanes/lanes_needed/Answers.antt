@@ -1,5 +1,4 @@
 -- `answer::lanes::lanes_needed` meets its contract: 16 first, then 1 to 9 and 19, then the count or 14.
--- Assumes nothing.
 use Rattle.std.proofs.Common.{ap, refl, Ok, T, ◌+◌, ◌<◌, sym, ◌∙◌, ℕ, ◌≤◌, rules, arith, below_more}
 use Rattle.std.proofs.lemmas.Result.{err_from_is_err_and}
 use Rattle.numbers.proofs.BoolLaws.{T-true, T-false}

@@ -1,5 +1,4 @@
 -- The loop of `answer::lanes::lanes_needed`: no lane count that was tried meets the letter.
--- Assumes nothing.
 use Rattle.std.proofs.Common.{ℕ, ◌≤◌, ◌<◌, T}
 use Rattle.curve.specs.Kinds.{fewest_lanes}
 use Rattle.answer.specs.Lanes.{lanes_meet}

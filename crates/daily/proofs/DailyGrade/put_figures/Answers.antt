@@ -1,5 +1,4 @@
 -- `daily::DailyGrade::put_figures` meets its contract: the eleven figures of the grade, and the daily volumes behind them.
--- Assumes nothing.
 use Rattle.text.proofs.BufferLaws.{then}
 use Rattle.daily.proofs.DailyGrade.put_figures.Goals as goal
 

@@ -1,8 +1,7 @@
 -- `forecast::Forecast::check_ranges` meets its contract: of 7 to 9 at the two ends the lesser, as they are asked by turns.
--- Assumes nothing.
 use Rattle.std.proofs.Common.{◌≡◌, sym, ap₂, ◌∙◌}
-use Rattle.checks.specs.Numbers.{refusal_number}
-use Rattle.checks.specs.Refusals.{first_refusal, lesser_refusal}
+use Rattle.refusals.specs.Numbers.{refusal_number}
+use Rattle.refusals.specs.Refusals.{first_refusal, lesser_refusal}
 use Rattle.road.specs.Refusals.{load_refusals}
 use Rattle.forecast.proofs.RangeLaws.{range-ends}
 use Rattle.forecast.proofs.ForecastLaws.{best_case, worst_case}

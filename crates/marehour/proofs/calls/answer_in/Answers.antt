@@ -1,5 +1,4 @@
 -- `marehour::calls::answer_in` meets its contract: a grade is written at the start of the buffer; a refusal writes nothing.
--- Assumes nothing.
 use Rattle.std.proofs.Common.{◌≡◌, ◌≤◌, sym, ap, subst, ◌∙◌, arith, length, Ok}
 use Rattle.road.specs.declared.Case.{Case}
 use Rattle.answer.specs.declared.evaluate.Grade.{Grade}

@@ -1,5 +1,4 @@
 -- `marehour::calls::case_of` meets its contract: a line that is not read is malformed.
--- Assumes nothing.
 use Rattle.std.proofs.Common.{sym, ap, ◌∙◌}
 use Rattle.lines.specs.Reading.{read_line}
 use Rattle.lines.proofs.ReadingLaws.{read_line-refused}

@@ -1,9 +1,8 @@
 -- `marehour::calls::lanes_in` meets its contract: a count is one digit, so two bytes are its text; a refusal writes nothing.
--- Assumes nothing.
 use Rattle.std.proofs.Common.{◌≡◌, ℕ, ◌+◌, List, [], ◌∷◌, Result, Ok, pos, set, sym, ap, ◌∙◌, arith, length, length-set}
-use Rattle.checks.specs.declared.Refusal.{Refusal}
-use Rattle.checks.specs.Refusals.{first_refusal}
-use Rattle.checks.specs.Numbers.{refusal_number}
+use Rattle.refusals.specs.declared.Refusal.{Refusal}
+use Rattle.refusals.specs.Refusals.{first_refusal}
+use Rattle.refusals.specs.Numbers.{refusal_number}
 use Rattle.text.specs.Bytes.{newline}
 use Rattle.road.specs.declared.Case.{Case}
 use Rattle.answer.specs.Lanes.{lanes_answer}

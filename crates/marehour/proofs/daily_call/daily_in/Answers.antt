@@ -1,5 +1,4 @@
 -- `marehour::daily_call::daily_in` meets its contract: the buffer has room for the sixteen figures.
--- Assumes nothing.
 use Rattle.std.proofs.Common.{length}
 use Rattle.daily.specs.Daily.{figure_count}
 use Rattle.marehour.proofs.CallLaws.{call-room}

@@ -1,9 +1,8 @@
 -- `marehour::day_call::day_in` meets its contract: the answers to a day are as many as its demands, which are at most 24.
--- Assumes nothing.
 use Rattle.std.proofs.Common.{◌≡◌, ◌≤◌, ℕ, List, Result, Ok, refl, sym, ◌∙◌, arith, length}
-use Rattle.checks.specs.declared.Refusal.{Refusal}
-use Rattle.checks.specs.Refusals.{first_refusal}
-use Rattle.checks.specs.Numbers.{refusal_number}
+use Rattle.refusals.specs.declared.Refusal.{Refusal}
+use Rattle.refusals.specs.Refusals.{first_refusal}
+use Rattle.refusals.specs.Numbers.{refusal_number}
 use Rattle.road.specs.declared.Case.{Case}
 use Rattle.day.specs.Days.{most_demands, lent_refusals}
 use Rattle.day.proofs.DayLaws.{day_figures-count}

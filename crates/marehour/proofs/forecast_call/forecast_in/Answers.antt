@@ -1,5 +1,4 @@
 -- `marehour::forecast_call::forecast_in` meets its contract: the buffer has room for the eight figures.
--- Assumes nothing.
 use Rattle.std.proofs.Common.{length}
 use Rattle.forecast.specs.Forecasts.{figure_count}
 use Rattle.marehour.proofs.CallLaws.{call-room}

@@ -1,14 +1,13 @@
 -- `replies::block::answer_block` meets its contract: the lines answered so far, and what is left to do, are the lines that the block's turn
 -- answers.
--- Assumes nothing.
 use Rattle.std.proofs.Common.{◌≡◌, drop, eqb, position, rules, tests, sym, ◌∙◌, arith}
 use Rattle.std.proofs.lemmas.Iterator.{YieldsList-from_slice}
 use Rattle.std.proofs.lemmas.Iterator.Search.{position_from_yields_List}
 use Rattle.std.proofs.lemmas.List.{take_rest}
 use Rattle.text.specs.Bytes.{newline}
 use Rattle.text.proofs.PartsLaws.{found-Some, found-None}
-use Rattle.stream.proofs.StreamLaws.{none-left, full}
-use Rattle.stream.proofs.BlockLaws.{begun, answered-one, stopped}
+use Rattle.text.proofs.StreamLaws.{none-left, full}
+use Rattle.text.proofs.BlockLaws.{begun, answered-one, stopped}
 use Rattle.replies.specs.Output.{line_texts}
 use Rattle.replies.proofs.TextsLaws.{line_text-le}
 use Rattle.replies.proofs.block.answer_block.Goals as goal

@@ -1,9 +1,8 @@
 -- The loop of `replies::block::answer_block`: the lines answered so far, and what is left to do, are the lines that the block's turn
 -- answers.
--- Assumes nothing.
 use Prim.Native.Nat.{◌-◌}
 use lib.ListN.{length}
-use Rattle.stream.proofs.BlockLaws.{Answering}
+use Rattle.text.proofs.BlockLaws.{Answering}
 use Rattle.replies.specs.Output.{line_texts}
 use Rattle.replies.proofs.block.answer_block.Given as goal
 

@@ -1,9 +1,8 @@
 -- `replies::block::answer_turn` meets its contract: where nothing is answered, no whole line is left, and 81 bytes at most are carried over.
--- Assumes nothing.
 use Rattle.std.proofs.Common.{length, arith}
-use Rattle.stream.specs.Turns.{carried}
-use Rattle.stream.proofs.StreamLaws.{nothing-left}
-use Rattle.stream.proofs.CarryLaws.{carried-short}
+use Rattle.text.specs.Turns.{carried}
+use Rattle.text.proofs.StreamLaws.{nothing-left}
+use Rattle.text.proofs.CarryLaws.{carried-short}
 use Rattle.replies.specs.Output.{line_texts}
 use Rattle.replies.proofs.TextsLaws.{line_text-pos}
 use Rattle.replies.proofs.block.answer_turn.Goals as goal

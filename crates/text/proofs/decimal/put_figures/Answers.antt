@@ -1,5 +1,4 @@
 -- `text::decimal::put_figures` meets its contract: each turn writes a tab and a number behind what the figures before it took.
--- Assumes nothing.
 use mathlib.Core.List.{flat_map}
 use Rattle.std.proofs.Common.{arith}
 use Rattle.text.specs.Decimal.{figures_text}

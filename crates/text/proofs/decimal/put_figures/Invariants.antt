@@ -1,5 +1,4 @@
 -- The loop of `text::decimal::put_figures`: each turn writes a tab and a number behind what the figures before it took.
--- Assumes nothing.
 use Rattle.std.proofs.Common.{take}
 use Rattle.text.specs.Decimal.{figures_text}
 use Rattle.text.specs.Buffer.{Wrote}

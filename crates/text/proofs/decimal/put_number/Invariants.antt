@@ -1,5 +1,4 @@
 -- The loop of `text::decimal::put_number`: the digits behind those of the rest are written.
--- Assumes nothing.
 use Rattle.text.proofs.RowLaws.{Filling}
 use Rattle.text.proofs.decimal.put_number.Given as goal
 

@@ -1,5 +1,4 @@
 -- `curve::speed::CurveTerms::exact_speed` meets its contract: it is the speed of proofs/TermsLaws, whose value is S.
--- Assumes nothing.
 use Rattle.curve.proofs.TermsLaws.{terms-exact}
 use Rattle.curve.proofs.speed.CurveTerms.exact_speed.Goals as goal
 

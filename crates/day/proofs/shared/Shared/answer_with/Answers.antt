@@ -1,5 +1,4 @@
 -- `day::shared::Shared::answer_with` meets its contract: the service volumes are those with any demand.
--- Assumes nothing.
 use Rattle.std.proofs.Common.{refl, arith}
 use Rattle.road.specs.Cases.{with_demand}
 use Rattle.method.proofs.RefusalLaws.{accepted-with_demand}

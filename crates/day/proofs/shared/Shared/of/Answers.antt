@@ -1,5 +1,4 @@
 -- `day::shared::Shared::of` meets its contract: what refuses the case with no demand, or its volumes with none.
--- Assumes nothing.
 use Rattle.std.proofs.Common.{sym, ap, ◌∙◌}
 use Rattle.std.proofs.lemmas.Result.{err_from_is_err_and}
 use Rattle.road.specs.Cases.{with_demand}

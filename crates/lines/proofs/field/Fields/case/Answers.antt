@@ -1,5 +1,4 @@
 -- `lines::field::Fields::case` meets its contract: the first 13 fields are read in turn, and then the weather.
--- Assumes nothing.
 use Rattle.lines.specs.Fields.{layout}
 use Rattle.lines.proofs.FieldsLaws.{more, stop, short, long}
 use Rattle.lines.proofs.field.Fields.case.Goals as goal

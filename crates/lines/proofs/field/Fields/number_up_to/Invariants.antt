@@ -1,5 +1,4 @@
 -- The loop of `lines::field::Fields::number_up_to`: the digits read so far spell the value, and it fits.
--- Assumes nothing.
 use Rattle.std.proofs.Common.{◌≡◌, ◌^◌, ◌≤◌, ◌<◌, None}
 use Rattle.lines.proofs.DigitsLaws.{DigitsRead}
 use Rattle.lines.proofs.field.Fields.number_up_to.Given as goal

@@ -1,5 +1,4 @@
 -- `lines::field::Fields::road` meets its contract: its fields are read in turn.
--- Assumes nothing.
 use Rattle.lines.specs.Fields.{layout}
 use Rattle.lines.proofs.FieldsLaws.{more}
 use Rattle.lines.proofs.field.Fields.road.Goals as goal

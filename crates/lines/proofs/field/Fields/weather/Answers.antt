@@ -1,5 +1,4 @@
 -- `lines::field::Fields::weather` meets its contract where no field is left, and where the first factor is malformed.
--- Assumes nothing.
 use Rattle.std.proofs.Common.{refl}
 use Rattle.lines.specs.Fields.{layout, values_of, field_as, number, spelled}
 use Rattle.lines.proofs.FieldsLaws.{stop, some-left}

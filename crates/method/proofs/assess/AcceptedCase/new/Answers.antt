@@ -1,5 +1,4 @@
 -- `method::assess::AcceptedCase::new` meets its contract: the curve of a case that is found with one is well formed, and its load fits.
--- Assumes nothing.
 use Rattle.method.proofs.RefusalLaws.{accepted-fields}
 use Rattle.method.proofs.CheckedLaws.{checked-accepted, checked-curve}
 use Rattle.method.proofs.FlowLaws.{case_load-fits}
