@@ -90,7 +90,7 @@ $(PROGRAM): $(SOURCES)
 	$(call rt,run,los,los)
 
 $(LIBRARY): $(SOURCES)
-	$(call rt,lib,marehour_c,libmarehour_c.a)
+	$(call rt,lib,marehour,libmarehour.a)
 
 $(BUILD)/calls: tests/calls.c tests/overrun.c tests/calls.h include/marehour.h $(LIBRARY)
 	@mkdir -p $(BUILD)

@@ -9,7 +9,7 @@ use Rattle.curve.specs.Speed.{shown_speed}
 use Rattle.road.specs.declared.Case.{Case}
 use Rattle.method.specs.Refusals.{Accepted}
 use Rattle.answer.specs.declared.evaluate.Grade.{Grade}
-use Rattle.answer.specs.Answers.{answer_to, values}
+use Rattle.answer.specs.Answers.{answer_to, grade_figures}
 use Rattle.answer.specs.Promises.{letter_in}
 use Rattle.accuracy.specs.ManualCurve.{AtMostManualCurve}
 
@@ -33,16 +33,16 @@ ShownSpeedJustBelow =
 -- free_flow_speed_in a, capacity_in a, flow_rate_in a, speed_in a: these figures of a graded answer
 -- of the eleven figures of an answer F is the second, c the third, v the fourth and the speed the fifth
 abbrev pub free_flow_speed_in : Result Grade Refusal → ℕ
-free_flow_speed_in answer = get_or (values answer) 1 0
+free_flow_speed_in answer = get_or (grade_figures answer) 1 0
 
 abbrev pub capacity_in : Result Grade Refusal → ℕ
-capacity_in answer = get_or (values answer) 2 0
+capacity_in answer = get_or (grade_figures answer) 2 0
 
 abbrev pub flow_rate_in : Result Grade Refusal → ℕ
-flow_rate_in answer = get_or (values answer) 3 0
+flow_rate_in answer = get_or (grade_figures answer) 3 0
 
 abbrev pub speed_in : Result Grade Refusal → ℕ
-speed_in answer = get_or (values answer) 4 0
+speed_in answer = get_or (grade_figures answer) 4 0
 
 -- the speed in it is just below the manual's curve at the F and the v in it
 -- of the speed in an answer, at the F and the v in it

@@ -5,9 +5,9 @@ use Rattle.numbers.specs.Search.{least_from, least, ends_at}
 use Rattle.numbers.proofs.SearchLaws.{greatest-last}
 use Rattle.numbers.proofs.BoolLaws.{and-left, and-right}
 use Rattle.refusals.specs.Refusals.{refuses}
-use Rattle.refusals.specs.Figures.{Shown}
+use Rattle.refusals.specs.Facts.{Shown}
 use Rattle.refusals.specs.Numbers.{in_order, refusal_of, refusal_number}
-use Rattle.refusals.proofs.FigureLaws.{Shown-append}
+use Rattle.refusals.proofs.FactLaws.{Shown-append}
 use Rattle.curve.specs.declared.kind.Kind.TheVariants as Kind
 use Rattle.curve.specs.declared.Curve.{Curve}
 use Rattle.curve.specs.Curves.{capacity, breakpoint}
@@ -36,7 +36,7 @@ use Rattle.answer.specs.Lanes.{lanes_found, lanes_refusals, lanes_answer}
 use Rattle.answer.specs.Search.{demand_meets}
 use Rattle.answer.specs.SearchOrder.{eight_lanes}
 use Rattle.answer.specs.Boundary.{example_with, example_in_snow, estimated, given_in_snow, refused_by19, greatest_flow, answered, counted}
-use Rattle.answer.specs.Boundary.{added_figures, boundary_figures}
+use Rattle.answer.specs.Boundary.{added_facts, boundary_facts}
 use Rattle.answer.proofs.VolumeLaws.{case_meets, case_meets-down, service_volume-eq}
 
 -- F by the lanes, of the printed case and of the one that 10 refuses
@@ -209,7 +209,7 @@ pub example-in-snow : answered (example_in_snow 2000)
     ≡ 0 ∷ 3 ∷ 52272 ∷ 173372 ∷ 1196 ∷ 52222 ∷ 230 ∷ 960 ∷ 1572 ∷ 2221 ∷ 2636 ∷ 2898 ∷ []
 example-in-snow = answers-shown.3
 
-pub example-figures : answers.values (answer_to example) ≡ 3 ∷ 60782 ∷ 230782 ∷ 1196 ∷ 60782 ∷ 197 ∷ 1117 ∷ 1829 ∷ 2642 ∷ 3360 ∷ 3858 ∷ []
+pub example-figures : answers.grade_figures (answer_to example) ≡ 3 ∷ 60782 ∷ 230782 ∷ 1196 ∷ 60782 ∷ 197 ∷ 1117 ∷ 1829 ∷ 2642 ∷ 3360 ∷ 3858 ∷ []
 example-figures = ap (drop 1) example-answer
 
 -- the lanes of the printed case, with more demand, with a letter number past E; in snow; the order 16, 1, 19
@@ -256,12 +256,12 @@ estimated-shown = simp (estimated-speeds.0, estimated-speeds.1, estimated-speeds
 pub none-at-999999 : refusal_number (lanes_answer (example_with 999999) 3) ≡ 14
 none-at-999999 = ap (λ ns. get_or ns 0 0) lanes-shown.2
 
-added-shown : Shown added_figures
-unfolding added_figures
+added-shown : Shown added_facts
+unfolding added_facts
 added-shown =
     let a = answers-shown in
     let l = lanes-shown in (a.0, (l.0, (l.1, (l.2, (l.3, (a.1, (estimated-shown, (a.2, (a.3, (l.4, (l.5, (a.4, tt))))))))))))
 
--- each figure of the list is what is to be shown
-pub boundary-shown : Shown boundary_figures
-boundary-shown = Shown-append specs-method.boundary_figures added_figures method.boundary-shown added-shown
+-- each fact of the list is what is to be shown
+pub boundary-shown : Shown boundary_facts
+boundary-shown = Shown-append specs-method.boundary_facts added_facts method.boundary-shown added-shown

@@ -20,7 +20,7 @@ use Rattle.method.proofs.RefusalLaws.{accepted-with_demand}
 use Rattle.method.proofs.Boundary.{power-500}
 use Rattle.answer.specs.Volumes.{meets, service_volume}
 use Rattle.answer.specs.Answers.{graded, answer_to}
-use Rattle.answer.specs.Lanes.{lanes_answer, values}
+use Rattle.answer.specs.Lanes.{lanes_answer, lanes_figures}
 use Rattle.answer.specs.Promises.{letter_in, Meets, AcceptedCount, volume_in}
 use Rattle.answer.specs.Boundary.{example_with, example_in_snow, estimated, given_in_snow}
 use Rattle.answer.specs.Instances.{lighter, multilane_with, NoBetterLetterUnderMoreLoad, NoBetterLetterUnderMoreDemand}
@@ -171,7 +171,7 @@ four-lanes-for-every-letter = (refused, needed)
     refused : refusal_number (answer_to estimated) ≡ 10
     refused = answer_to-number estimated ∙ counts.0
 
-    needed : (n : ℕ) → 1 ≤ n → n ≤ 5 → values (lanes_answer estimated n) ≡ 4 ∷ []
+    needed : (n : ℕ) → 1 ≤ n → n ≤ 5 → lanes_figures (lanes_answer estimated n) ≡ 4 ∷ []
     needed n h k =
         ((least-accepted-count estimated n h k fields-fit).0 4).1 (
           (omega arith, omega arith, counts.2),

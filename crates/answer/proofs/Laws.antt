@@ -28,7 +28,7 @@ use Rattle.method.proofs.CheckedLaws.{case_curve-well_formed, case_curve-sized}
 use Rattle.method.proofs.FlowLaws.{case_load-fits}
 use Rattle.answer.specs.Volumes.{meets, service_volume}
 use Rattle.answer.specs.Answers.{graded}
-use Rattle.answer.specs.Lanes.{lanes_meet, lanes_found, lanes_refusals, lanes_answer, values}
+use Rattle.answer.specs.Lanes.{lanes_meet, lanes_found, lanes_refusals, lanes_answer, lanes_figures}
 use Rattle.answer.specs.Search.{demand_meets}
 use Rattle.answer.specs.Laws.{FiguresWithinEnds, RefusalsWithinEnds, RefusalsReachEnds, LanesRefusalsInOrder}
 use Rattle.answer.specs.Laws.{LanesRefusedAsTheCase, CountsAreDigits, VolumesUpToAnyEnd}
@@ -165,7 +165,7 @@ pub counts-are-digits : CountsAreDigits
 unfolding lanes_found
 counts-are-digits case n count e =
     ok_unless-by (first_refusal (lanes_refusals case n)) (lanes_found case n)
-    (λ a. values a ≡ count ∷ [] → count ≤ 9)
+    (λ a. lanes_figures a ≡ count ∷ [] → count ≤ 9)
     (λ z l. omega (
       arith,
       ap (λ vs. get_or vs 0 0) l,
@@ -177,4 +177,4 @@ counts-are-digits case n count e =
 
 -- the same of a count that is answered
 pub found-digit : (case : Case) (n count : ℕ) → lanes_answer case n ≡ Ok count → count ≤ 9
-found-digit case n count e = counts-are-digits case n count (ap values e)
+found-digit case n count e = counts-are-digits case n count (ap lanes_figures e)

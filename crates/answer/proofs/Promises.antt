@@ -24,7 +24,7 @@ use Rattle.method.proofs.CheckedLaws.{case_curve-well_formed}
 use Rattle.method.proofs.FlowLaws.{case_flow_rate-mono}
 use Rattle.answer.specs.Volumes.{meets, service_volume}
 use Rattle.answer.specs.Answers.{graded, answer_to}
-use Rattle.answer.specs.Lanes.{lanes_found, lanes_answer, values}
+use Rattle.answer.specs.Lanes.{lanes_found, lanes_answer, lanes_figures}
 use Rattle.answer.specs.Promises.{letter_in, volume_in, Meets, AcceptedCount, hardness, NoBetterUnderMoreLoad}
 use Rattle.answer.specs.Promises.{NoBetterInClearWeather, MeetsUpToTheServiceVolume, LeastAcceptedCount, DemandThree}
 use Rattle.answer.proofs.VolumeLaws.{meets-only-accepted, service_volume-iff}
@@ -147,19 +147,19 @@ module _ (case : Case) (n : ℕ) (h : 1 ≤ n) (k : n ≤ 5) (z : FieldsFit case
   none : (lanes_found case n ≤ most_lanes case.road.kind → ⊥) → lanes_answer case n ≡ Err Refusal.NoLaneCount
   none l = lanes_answer-none case n h k z (omega arith)
 
-  answers : (count : ℕ) → (values (lanes_answer case n) ≡ count ∷ []) ↔ Least count
+  answers : (count : ℕ) → (lanes_figures (lanes_answer case n) ≡ count ∷ []) ↔ Least count
   answers count = (to (dec_le (lanes_found case n) (most_lanes case.road.kind)), from)
     where
-      to : Dec (lanes_found case n ≤ most_lanes case.road.kind) → values (lanes_answer case n) ≡ count ∷ [] → Least count
+      to : Dec (lanes_found case n ≤ most_lanes case.road.kind) → lanes_figures (lanes_answer case n) ≡ count ∷ [] → Least count
       to (yes l) e =
-          let same : lanes_found case n ≡ count = ap (λ xs. get_or xs 0 0) (sym (ap values (found l)) ∙ e) in
+          let same : lanes_found case n ≡ count = ap (λ xs. get_or xs 0 0) (sym (ap lanes_figures (found l)) ∙ e) in
           rw same at (found-least l)
-      to (no l) e = absurd (let o : ◌≡◌ {A = ℕ} 0 1 = ap length (sym (ap values (none l)) ∙ e) in omega arith)
+      to (no l) e = absurd (let o : ◌≡◌ {A = ℕ} 0 1 = ap length (sym (ap lanes_figures (none l)) ∙ e) in omega arith)
 
-      from : Least count → values (lanes_answer case n) ≡ count ∷ []
+      from : Least count → lanes_figures (lanes_answer case n) ≡ count ∷ []
       from least =
           let same : lanes_found case n ≡ count = least-found count least in
-          ap values (found (rw same least.0.1)) ∙ ap (λ c. c ∷ []) same
+          ap lanes_figures (found (rw same least.0.1)) ∙ ap (λ c. c ∷ []) same
 
   refuses-14 : (refusal_number (lanes_answer case n) ≡ 14) ↔ ((count : ℕ) → AcceptedCount case count → Meets (with_lanes case count) n → ⊥)
   refuses-14 = (to (dec_le (lanes_found case n) (most_lanes case.road.kind)), from)

@@ -33,8 +33,8 @@ abbrev pub answer_to : Case → Result Grade Refusal
 answer_to case = ok_unless (refusal case) (graded case)
 
 -- the eleven figures as a list, the letter by its number; of a refusal no value
-abbrev pub values : Result Grade Refusal → List ℕ
-values (Ok g) =
+abbrev pub grade_figures : Result Grade Refusal → List ℕ
+grade_figures (Ok g) =
     letter_number g.letter ∷ g.free_flow_speed ∷ g.capacity ∷ g.flow_rate ∷ g.speed ∷ g.density
     ∷ g.volumes.a ∷ g.volumes.b ∷ g.volumes.c ∷ g.volumes.d ∷ g.volumes.e ∷ []
-values (Err r) = []
+grade_figures (Err r) = []

@@ -8,7 +8,7 @@ use Rattle.road.specs.declared.Median.TheVariants as Median
 use Rattle.road.specs.declared.Terrain.TheVariants as Terrain
 use Rattle.road.specs.declared.Case.{Case}
 use Rattle.method.specs.Boundary as method
-use Rattle.refusals.specs.Figures.{Figure, figure}
+use Rattle.refusals.specs.Facts.{Fact, fact}
 use Rattle.refusals.specs.Numbers.{refusal_number}
 use Rattle.method.specs.Boundary.{example, given, two_lanes_under, refused_by_all}
 use Rattle.road.specs.Cases.{road, loaded, with_demand, with_lanes, with_weather}
@@ -43,34 +43,34 @@ greatest_flow = loaded (given Kind.Freeway 75000 120) 2 999999 250 1000 Terrain.
 
 -- the number of its answer's refusal, 0 for none, and the answer's values
 abbrev pub answered : Case → List ℕ
-answered case = refusal_number (answer_to case) ∷ answers.values (answer_to case)
+answered case = refusal_number (answer_to case) ∷ answers.grade_figures (answer_to case)
 
 -- the same of the lanes question with letter number n
 abbrev pub counted : Case → ℕ → List ℕ
-counted case n = refusal_number (lanes_answer case n) ∷ lanes.values (lanes_answer case n)
+counted case n = refusal_number (lanes_answer case n) ∷ lanes.lanes_figures (lanes_answer case n)
 
 -- what this layer adds
 -- Of what is accepted 0 and its values, of what is refused its number. Starred: the printed line. Not starred: the lanes question at the
 -- printed case with letter C, with V = 2,643, with 999,999 and with 99,999; a letter number past E; a case that 10 refuses, and its lanes;
 -- answers in snow, at a given and at an estimated speed; the lanes of the latter; the order 16, 1, 19 in the lanes question; the greatest
 -- flow rate.
-unfoldable pub added_figures : List Figure
-added_figures =
-    figure (answered example) (0 ∷ 3 ∷ 60782 ∷ 230782 ∷ 1196 ∷ 60782 ∷ 197 ∷ 1117 ∷ 1829 ∷ 2642 ∷ 3360 ∷ 3858 ∷ [])
-    ∷ figure (counted example 3) (0 ∷ 2 ∷ [])
-    ∷ figure (counted (example_with 2643) 3) (0 ∷ 3 ∷ [])
-    ∷ figure (counted (example_with 999999) 3 ++ counted (example_with 99999) 3) (14 ∷ 14 ∷ [])
-    ∷ figure (counted example 6) (16 ∷ [])
-    ∷ figure (answered estimated) (10 ∷ [])
-    ∷ figure (counted estimated 1) (0 ∷ 4 ∷ [])
-    ∷ figure (answered (given_in_snow 2 3000)) (0 ∷ 3 ∷ 71250 ∷ 216000 ∷ 1500 ∷ 66271 ∷ 227 ∷ 1566 ∷ 2506 ∷ 3294 ∷ 3884 ∷ 4320 ∷ [])
-    ∷ figure (answered (example_in_snow 2000)) (0 ∷ 3 ∷ 52272 ∷ 173372 ∷ 1196 ∷ 52222 ∷ 230 ∷ 960 ∷ 1572 ∷ 2221 ∷ 2636 ∷ 2898 ∷ [])
-    ∷ figure (counted (example_in_snow 2222) 3) (0 ∷ 3 ∷ [])
-    ∷ figure (counted refused_by19 1 ++ (counted refused_by19 6 ++ (counted refused_by_all 1 ++ counted refused_by_all 0)))
+unfoldable pub added_facts : List Fact
+added_facts =
+    fact (answered example) (0 ∷ 3 ∷ 60782 ∷ 230782 ∷ 1196 ∷ 60782 ∷ 197 ∷ 1117 ∷ 1829 ∷ 2642 ∷ 3360 ∷ 3858 ∷ [])
+    ∷ fact (counted example 3) (0 ∷ 2 ∷ [])
+    ∷ fact (counted (example_with 2643) 3) (0 ∷ 3 ∷ [])
+    ∷ fact (counted (example_with 999999) 3 ++ counted (example_with 99999) 3) (14 ∷ 14 ∷ [])
+    ∷ fact (counted example 6) (16 ∷ [])
+    ∷ fact (answered estimated) (10 ∷ [])
+    ∷ fact (counted estimated 1) (0 ∷ 4 ∷ [])
+    ∷ fact (answered (given_in_snow 2 3000)) (0 ∷ 3 ∷ 71250 ∷ 216000 ∷ 1500 ∷ 66271 ∷ 227 ∷ 1566 ∷ 2506 ∷ 3294 ∷ 3884 ∷ 4320 ∷ [])
+    ∷ fact (answered (example_in_snow 2000)) (0 ∷ 3 ∷ 52272 ∷ 173372 ∷ 1196 ∷ 52222 ∷ 230 ∷ 960 ∷ 1572 ∷ 2221 ∷ 2636 ∷ 2898 ∷ [])
+    ∷ fact (counted (example_in_snow 2222) 3) (0 ∷ 3 ∷ [])
+    ∷ fact (counted refused_by19 1 ++ (counted refused_by19 6 ++ (counted refused_by_all 1 ++ counted refused_by_all 0)))
     (19 ∷ 16 ∷ 1 ∷ 16 ∷ [])
-    ∷ figure (answered greatest_flow) (0 ∷ 6 ∷ 75000 ∷ 240000 ∷ 5999994 ∷ 0 ∷ 0 ∷ 137 ∷ 221 ∷ 296 ∷ 355 ∷ 400 ∷ [])
+    ∷ fact (answered greatest_flow) (0 ∷ 6 ∷ 75000 ∷ 240000 ∷ 5999994 ∷ 0 ∷ 0 ∷ 137 ∷ 221 ∷ 296 ∷ 355 ∷ 400 ∷ [])
     ∷ []
 
 -- the longer list
-abbrev pub boundary_figures : List Figure
-boundary_figures = method.boundary_figures ++ added_figures
+abbrev pub boundary_facts : List Fact
+boundary_facts = method.boundary_facts ++ added_facts

@@ -9,7 +9,7 @@ use Rattle.road.specs.declared.Case.{Case}
 use Rattle.method.specs.Boundary.{example, given, two_lanes}
 use Rattle.road.specs.Cases.{loaded, with_lanes, with_weather}
 use Rattle.answer.specs.Answers.{answer_to}
-use Rattle.answer.specs.Lanes.{lanes_answer, values}
+use Rattle.answer.specs.Lanes.{lanes_answer, lanes_figures}
 use Rattle.answer.specs.Promises.{letter_in, Meets, AcceptedCount}
 use Rattle.answer.specs.Boundary.{example_with, example_in_snow, estimated, given_in_snow}
 
@@ -72,7 +72,7 @@ FirstAndLastServiceVolume =
 -- part 3: a case that 10 refuses needs 4 lanes, for every letter
 abbrev pub FourLanesForEveryLetter : Type 0
 FourLanesForEveryLetter =
-    (refusal_number (answer_to estimated) ≡ 10) × ((n : ℕ) → 1 ≤ n → n ≤ 5 → values (lanes_answer estimated n) ≡ 4 ∷ [])
+    (refusal_number (answer_to estimated) ≡ 10) × ((n : ℕ) → 1 ≤ n → n ≤ 5 → lanes_figures (lanes_answer estimated n) ≡ 4 ∷ [])
 
 -- part 3: with V = 999,999 no accepted count of the printed case meets C
 abbrev pub NoLanesForTheGreatestDemand : Type 0
@@ -81,7 +81,7 @@ NoLanesForTheGreatestDemand =
 
 -- part 3 on kind M: with V = 3,600 C needs 3 lanes
 abbrev pub ThreeLanesOnAMultilane : Type 0
-ThreeLanesOnAMultilane = values (lanes_answer (multilane_with 3600) 3) ≡ 3 ∷ []
+ThreeLanesOnAMultilane = lanes_figures (lanes_answer (multilane_with 3600) 3) ≡ 3 ∷ []
 
 -- F E 75400 110 20 0 D 24 2 2000 920 50 R 815 1000: 10 refuses 2 lanes after the factor
 abbrev pub narrow_in_snow : Case
@@ -89,4 +89,4 @@ narrow_in_snow = with_weather example (factors 815 1000)
 
 -- part 3 in snow: it needs 3 lanes for C
 abbrev pub ThreeLanesInSnow : Type 0
-ThreeLanesInSnow = (refusal_number (answer_to narrow_in_snow) ≡ 10) × (values (lanes_answer narrow_in_snow 3) ≡ 3 ∷ [])
+ThreeLanesInSnow = (refusal_number (answer_to narrow_in_snow) ≡ 10) × (lanes_figures (lanes_answer narrow_in_snow 3) ≡ 3 ∷ [])

@@ -34,6 +34,6 @@ abbrev pub lanes_answer : Case → ℕ → Result ℕ Refusal
 lanes_answer case n = ok_unless (first_refusal (lanes_refusals case n)) (lanes_found case n)
 
 -- the count; of a refusal no value
-abbrev pub values : Result ℕ Refusal → List ℕ
-values (Ok n) = n ∷ []
-values (Err r) = []
+abbrev pub lanes_figures : Result ℕ Refusal → List ℕ
+lanes_figures (Ok n) = n ∷ []
+lanes_figures (Err r) = []

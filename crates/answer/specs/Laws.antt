@@ -23,7 +23,7 @@ figure_ends =
 
 -- no figure of an answer is above its end; the room for an answer rests on it
 abbrev pub FiguresWithinEnds : Type 0
-FiguresWithinEnds = (case : Case) → Accepted case → AllAtMost (answers.values (answer_to case)) figure_ends
+FiguresWithinEnds = (case : Case) → Accepted case → AllAtMost (answers.grade_figures (answer_to case)) figure_ends
 
 -- searched for up to any end from 19,200 on, the service volumes are the same
 -- so they are the same searched for up to 99,999, the greatest demand before T-09
@@ -63,4 +63,4 @@ LanesRefusedAsTheCase =
 
 -- a lane count is one digit
 abbrev pub CountsAreDigits : Type 0
-CountsAreDigits = (case : Case) (n count : ℕ) → lanes.values (lanes_answer case n) ≡ count ∷ [] → count ≤ 9
+CountsAreDigits = (case : Case) (n count : ℕ) → lanes.lanes_figures (lanes_answer case n) ≡ count ∷ [] → count ≤ 9

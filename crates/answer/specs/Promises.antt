@@ -21,10 +21,10 @@ use Rattle.answer.specs.Lanes.{lanes_answer}
 -- a graded answer
 -- of the eleven figures of an answer the first is the letter, and the last five are the service volumes A to E
 abbrev pub letter_in : Result Grade Refusal → ℕ
-letter_in answer = get_or (answers.values answer) 0 0
+letter_in answer = get_or (answers.grade_figures answer) 0 0
 
 abbrev pub volume_in : Result Grade Refusal → ℕ → ℕ
-volume_in answer n = get_or (answers.values answer) (5 + n) 0
+volume_in answer n = get_or (answers.grade_figures answer) (5 + n) 0
 
 -- the answer to the case is graded, with letter number n or a better one; a refused case meets nothing
 -- "meets it, that is, gets it or a better one"
@@ -86,7 +86,7 @@ abbrev pub LeastAcceptedCount : Type 0
 LeastAcceptedCount =
     (case : Case) (n : ℕ) → 1 ≤ n → n ≤ 5 → FieldsFit case
     → ((count : ℕ)
-    → (lanes.values (lanes_answer case n) ≡ count ∷ [])
+    → (lanes.lanes_figures (lanes_answer case n) ≡ count ∷ [])
     ↔ (AcceptedCount case count
     × Meets (with_lanes case count) n
     × ((fewer : ℕ) → AcceptedCount case fewer → fewer < count → Meets (with_lanes case fewer) n → ⊥)))

@@ -4,7 +4,7 @@ ghost use Rattle.std.specs.Prelude.{◌≡◌, ◌≤◌};
 ghost use Rattle.road.specs.Refusals.{greatest_demand};
 ghost use Rattle.answer.specs.Volumes.{service_volumes};
 ghost use Rattle.answer.specs.Search.{demand_meets, searched_volumes};
-ghost use Rattle.answer.specs.Answers.{grade_of, answer_to, values};
+ghost use Rattle.answer.specs.Answers.{grade_of, answer_to, grade_figures};
 ghost use Rattle.answer.specs.Tries.{found, found_volumes, counted_answer};
 
 use refusals::Refusal;
@@ -61,8 +61,8 @@ impl Grade {
     }
 
     /// The eleven figures of a grade, the letter by its number.
-    pub fn values(&self) -> [u64; 11]
-        ensures { result ≡ values (Ok self.now) }
+    pub fn figures(&self) -> [u64; 11]
+        ensures { result ≡ grade_figures (Ok self.now) }
     {
         let volumes = self.volumes;
         [

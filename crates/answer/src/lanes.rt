@@ -37,8 +37,8 @@ pub fn lanes_needed(case: Case, letter: u64) -> Result<u64, Refusal>
     }
     case.check_fields()?;
     let fit = FitRoad { road: case.road };
-    let figures = case.road.kind.figures();
-    for lanes in figures.fewest_lanes..=figures.most_lanes {
+    let limits = case.road.kind.limits();
+    for lanes in limits.fewest_lanes..=limits.most_lanes {
         if lanes_meet(&case, &fit, letter, lanes) {
             return Ok(lanes);
         }

@@ -6,7 +6,7 @@ ghost use Rattle.curve.specs.Kinds.{lowest_capacity, highest_capacity};
 
 /// The ends of F, of the weather's factors, of the lane count and of capacity.
 #[derive(Clone, Copy)]
-pub struct Figures {
+pub struct Limits {
     /// the ends of F, thousandths of mi/h
     pub lowest_speed: u64,
     pub highest_speed: u64,
@@ -31,7 +31,7 @@ pub struct Freeway;
 pub struct Multilane;
 
 impl Freeway {
-    pub const FIGURES: Figures = Figures {
+    pub const LIMITS: Limits = Limits {
         lowest_speed: 55_000,
         highest_speed: 75_000,
         lowest_adjusted_speed: 50_000,
@@ -44,7 +44,7 @@ impl Freeway {
 }
 
 impl Multilane {
-    pub const FIGURES: Figures = Figures {
+    pub const LIMITS: Limits = Limits {
         lowest_speed: 45_000,
         highest_speed: 70_000,
         lowest_adjusted_speed: 45_000,
@@ -64,7 +64,7 @@ pub enum Kind {
 }
 
 impl Kind {
-    pub fn figures(self) -> Figures
+    pub fn limits(self) -> Limits
         ensures lowest_speed { result.lowest_speed ≡ lowest_speed self }
         ensures highest_speed { result.highest_speed ≡ highest_speed self }
         ensures lowest_adjusted_speed { result.lowest_adjusted_speed ≡ lowest_adjusted_speed self }
@@ -75,8 +75,8 @@ impl Kind {
         ensures highest_capacity { result.highest_capacity ≡ highest_capacity self }
     {
         match self {
-            Kind::Freeway => Freeway::FIGURES,
-            Kind::Multilane => Multilane::FIGURES,
+            Kind::Freeway => Freeway::LIMITS,
+            Kind::Multilane => Multilane::LIMITS,
         }
     }
 }

@@ -42,12 +42,12 @@ impl Kind {
         requires { speed ≤ highest_speed self }
         ensures { result ≡ capacity self speed }
     {
-        let figures = self.figures();
+        let limits = self.limits();
         let by_speed = match self {
-            Kind::Freeway => figures.lowest_capacity + speed - figures.lowest_speed,
-            Kind::Multilane => figures.lowest_capacity + 2 * speed - 2 * figures.lowest_speed,
+            Kind::Freeway => limits.lowest_capacity + speed - limits.lowest_speed,
+            Kind::Multilane => limits.lowest_capacity + 2 * speed - 2 * limits.lowest_speed,
         };
-        by_speed.min(figures.highest_capacity)
+        by_speed.min(limits.highest_capacity)
     }
 
     #[tactic(auto, unfolding(crate::specs::Curves::breakpoint))]

@@ -1,7 +1,7 @@
 -- Instances that are worked out with no law (specs/Instances), shown.
 use Rattle.std.proofs.Common.{refl}
 use Rattle.numbers.specs.Division.{div_up}
-use Rattle.refusals.specs.Figures.{Shown}
+use Rattle.refusals.specs.Facts.{Shown}
 use Rattle.refusals.specs.Numbers.{in_order, refusal_of}
 use Rattle.road.specs.Refusals.{weather_unfit, road_refusals, load_refusals, field_refusals}
 use Rattle.method.specs.Refusals.{refusals}

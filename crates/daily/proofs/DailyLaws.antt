@@ -26,7 +26,7 @@ use Rattle.answer.proofs.Promises.{meets-up-to-the-service-volume}
 use Rattle.daily.specs.declared.Shares.{Shares}
 use Rattle.daily.specs.declared.DailyGrade.{DailyGrade}
 use Rattle.daily.specs.Daily.{greatest_daily_traffic, traffic_refusals, TrafficFits, hourly_demand, hourly_case, daily_volume}
-use Rattle.daily.specs.Daily.{daily_volumes, with_volumes, daily_answer, values}
+use Rattle.daily.specs.Daily.{daily_volumes, with_volumes, daily_answer, daily_figures}
 use Rattle.daily.specs.Within.{traffic_within, VolumesFit, volumes_within}
 use Rattle.daily.specs.Promises.{AcceptedTraffic, letter_in, MeetsByDay}
 use Rattle.daily.proofs.WithinLaws.{fits-ends}
@@ -113,7 +113,7 @@ module _ (case : Case) (shares : Shares) (daily : ℕ) where
   )
 
 -- a refusal has no value
-pub refused-values : (a : Result DailyGrade Refusal) → 0 < refusal_number a → values a ≡ []
+pub refused-values : (a : Result DailyGrade Refusal) → 0 < refusal_number a → daily_figures a ≡ []
 refused-values (Ok daily) p = absurd (omega arith)
 refused-values (Err r) p = refl
 

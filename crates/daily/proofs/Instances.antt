@@ -5,7 +5,7 @@ use Rattle.numbers.specs.Search.{ends_at}
 use Rattle.numbers.proofs.BoolLaws.{and-left, and-right}
 use Rattle.refusals.specs.declared.Refusal.{Refusal}
 use Rattle.refusals.specs.Numbers.{in_order, refusal_of, refusal_number}
-use Rattle.refusals.specs.Figures.{Shown}
+use Rattle.refusals.specs.Facts.{Shown}
 use Rattle.curve.specs.Curves.{capacity, breakpoint}
 use Rattle.curve.specs.Weather.{adjusted_speed, adjusted_capacity, adjusted_breakpoint, curve_under}
 use Rattle.curve.specs.Speed.{fall_share_by, speed, shown_speed}
@@ -26,7 +26,7 @@ use Rattle.answer.proofs.Boundary.{example-accepted, snow-accepted, example-figu
 use Rattle.daily.specs.declared.Shares.{Shares}
 use Rattle.daily.specs.declared.DailyGrade.{DailyGrade}
 use Rattle.daily.specs.Daily.{shares_of, shares_unfit, traffic_refusals, hourly_demand, hourly_case, daily_answer}
-use Rattle.daily.specs.Daily.{values}
+use Rattle.daily.specs.Daily.{daily_figures}
 use Rattle.daily.specs.Promises.{AcceptedTraffic, letter_in, daily_volume_in, MeetsByDay, by_the_day}
 use Rattle.daily.specs.Instances.{urban, rural, eight_lanes, told, letters_at, volumes_in, printed_figures, rural_figures, snow_figures}
 use Rattle.daily.specs.Instances.{NoTrafficMeetsA, daily_instances}
@@ -36,7 +36,7 @@ use Rattle.daily.proofs.Promises.{figures-of-the-hour, meets-up-to-the-daily-vol
 -- ---- figures and letters by the promises
 -- the sixteen figures of an accepted case by the eleven of its hour
 told-by : (case : Case) (shares : Shares) (daily : ℕ) (figures : List ℕ) → AcceptedTraffic case shares daily
-    → answers.values (answer_to (hourly_case case shares daily)) ≡ figures
+    → answers.grade_figures (answer_to (hourly_case case shares daily)) ≡ figures
     → told (daily_answer case shares daily) ≡ 0 ∷ (figures ++ map (by_the_day shares) (drop 6 figures))
 told-by case shares daily figures z e = rw (z, (figures-of-the-hour case shares daily z).0, e)
 
@@ -73,10 +73,10 @@ all-told = (
   told-by (example_in_snow 0) urban 40404 _ accepted.2 (ap (drop 1) example-in-snow),
 )
 
-pub printed-figures : values (daily_answer example urban 40404) ≡ printed_figures
+pub printed-figures : daily_figures (daily_answer example urban 40404) ≡ printed_figures
 printed-figures = ap (drop 1) all-told.0
 
-rural-figures : values (daily_answer example rural 33057) ≡ rural_figures
+rural-figures : daily_figures (daily_answer example rural 33057) ≡ rural_figures
 rural-figures = ap (drop 1) all-told.1
 
 letters : (letters_at example urban (53373 ∷ 53374 ∷ []) ≡ 3 ∷ 4 ∷ []) × (letters_at example rural (53373 ∷ []) ≡ 4 ∷ [])

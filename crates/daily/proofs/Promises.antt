@@ -54,7 +54,7 @@ module _ (case : Case) (shares : Shares) (asked : ℕ) (z : AcceptedTraffic case
       ap (λ ns. get_or ns (10 + n) 0) (figures-of-the-hour case shares asked z).0
       ∙ rw (answer_to-accepted (hourly_case case shares asked) (accepted-parts case shares asked z).1)
       (by-letter (λ i.
-      let figures = answers.values (Ok (graded (hourly_case case shares asked))) in
+      let figures = answers.grade_figures (Ok (graded (hourly_case case shares asked))) in
       get_or (figures ++ map (by_the_day shares) (drop 6 figures)) (10 + i) 0 ≡ by_the_day shares (get_or figures (5 + i) 0))
       refl refl refl refl refl n h k)
 

@@ -89,6 +89,6 @@ abbrev pub figure_count : ℕ
 figure_count = 16
 
 -- the eleven figures of the engine's answer, then the daily service volumes A to E; of a refusal no value
-abbrev pub values : Result DailyGrade Refusal → List ℕ
-values (Ok d) = answers.values (Ok d.grade) ++ (d.volumes.a ∷ d.volumes.b ∷ d.volumes.c ∷ d.volumes.d ∷ d.volumes.e ∷ [])
-values (Err r) = []
+abbrev pub daily_figures : Result DailyGrade Refusal → List ℕ
+daily_figures (Ok d) = answers.grade_figures (Ok d.grade) ++ (d.volumes.a ∷ d.volumes.b ∷ d.volumes.c ∷ d.volumes.d ∷ d.volumes.e ∷ [])
+daily_figures (Err r) = []

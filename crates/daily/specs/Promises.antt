@@ -12,7 +12,7 @@ use Rattle.answer.specs.Answers.{answer_to}
 use Rattle.daily.specs.declared.Shares.{Shares}
 use Rattle.daily.specs.declared.DailyGrade.{DailyGrade}
 use Rattle.daily.specs.Daily.{greatest_daily_traffic, SharesInRange, traffic_refusals, hourly_demand, daily_answer}
-use Rattle.daily.specs.Daily.{figure_count, values}
+use Rattle.daily.specs.Daily.{figure_count, daily_figures}
 
 -- neither 20 nor 21 nor the engine refuses the case with the daily traffic
 abbrev pub AcceptedTraffic : Case → Shares → ℕ → Type 0
@@ -22,10 +22,10 @@ AcceptedTraffic case shares daily = refusal_number (daily_answer case shares dai
 -- 1 to 5, in an answer
 -- of the sixteen figures the first is the letter, and the last five are the daily service volumes A to E
 abbrev pub letter_in : Result DailyGrade Refusal → ℕ
-letter_in answer = get_or (values answer) 0 0
+letter_in answer = get_or (daily_figures answer) 0 0
 
 abbrev pub daily_volume_in : Result DailyGrade Refusal → ℕ → ℕ
-daily_volume_in answer n = get_or (values answer) (10 + n) 0
+daily_volume_in answer n = get_or (daily_figures answer) (10 + n) 0
 
 -- the answer has letter number n or a better one; what is refused meets nothing
 abbrev pub MeetsByDay : Case → Shares → ℕ → ℕ → Type 0
@@ -56,9 +56,9 @@ by_the_day shares volume = min (volume * 1000000 / (shares.peak * shares.directi
 abbrev pub FiguresOfTheHour : Type 0
 FiguresOfTheHour =
     (case : Case) (shares : Shares) (daily : ℕ) → AcceptedTraffic case shares daily
-    → let figures = answers.values (answer_to (with_demand case (hourly_demand shares daily))) in
-    (values (daily_answer case shares daily) ≡ figures ++ map (by_the_day shares) (drop 6 figures))
-    × (length (values (daily_answer case shares daily)) ≡ figure_count)
+    → let figures = answers.grade_figures (answer_to (with_demand case (hourly_demand shares daily))) in
+    (daily_figures (daily_answer case shares daily) ≡ figures ++ map (by_the_day shares) (drop 6 figures))
+    × (length (daily_figures (daily_answer case shares daily)) ≡ figure_count)
 
 -- the hourly demand is at most a number exactly when daily traffic × K × D is at most as many millions
 abbrev pub RoundedUpOnce : Type 0

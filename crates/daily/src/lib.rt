@@ -8,7 +8,7 @@ ghost use Rattle.refusals.specs.Numbers.{refusal_number};
 ghost use Rattle.text.specs.Buffer.{Wrote};
 ghost use Rattle.road.specs.Refusals.{greatest_demand};
 ghost use Rattle.daily.specs.Daily.{SharesInRange, traffic_refusals, TrafficFits, hourly_demand, daily_answer};
-ghost use Rattle.daily.specs.Daily.{figure_count, values};
+ghost use Rattle.daily.specs.Daily.{figure_count, daily_figures};
 ghost use Rattle.daily.specs.Within.{traffic_within, VolumesFit, volumes_within};
 
 use answer::evaluate;
@@ -24,7 +24,7 @@ pub const GREATEST_DAILY_TRAFFIC: u64 = 4_000_000_000;
 const MILLION: u64 = 1_000_000;
 
 /// How many numbers an answer has.
-pub const FIGURES: usize = 16;
+pub const FIGURE_COUNT: usize = 16;
 
 /// K and D in thousandths: the peak hour's share of the daily traffic, and the direction's share of the peak hour.
 #[derive(Clone, Copy, PartialEq, Eq)]
@@ -92,9 +92,9 @@ impl Shares {
 impl DailyGrade {
     pub fn put_figures(&self, out: &mut [u64]) -> usize
         requires { figure_count ≤ length out.old }
-        ensures { Wrote (values (Ok self.now)) out.old out.new result }
+        ensures { Wrote (daily_figures (Ok self.now)) out.old out.new result }
     {
-        let count = buffer::put_numbers(&self.grade.values(), out);
+        let count = buffer::put_numbers(&self.grade.figures(), out);
         let Volumes { a, b, c, d, e } = self.volumes;
         count + buffer::put_numbers(&[a, b, c, d, e], &mut out[count..])
     }

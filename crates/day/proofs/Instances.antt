@@ -3,7 +3,7 @@ use mathlib.Core.Path.{◌≡◌, refl, ap, ◌∙◌}
 use mathlib.Core.List.{[], ◌∷◌, flat_map}
 use lib.ListN.{drop, get_or, replicate}
 use Rattle.numbers.specs.Division.{div_up}
-use Rattle.refusals.specs.Figures.{Shown}
+use Rattle.refusals.specs.Facts.{Shown}
 use Rattle.refusals.specs.Numbers.{in_order, refusal_of}
 use Rattle.curve.specs.Curves.{capacity, breakpoint}
 use Rattle.curve.specs.Weather.{adjusted_speed, adjusted_capacity, adjusted_breakpoint, curve_under}

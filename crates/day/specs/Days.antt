@@ -30,7 +30,7 @@ figures_of number (v ∷ vs) = number ∷ v ∷ vs
 -- the numbers of an answer
 -- the refusal's number, 0 for none, and then the figures, the letter by its number
 abbrev pub answer_figures : Result Grade Refusal → List ℕ
-answer_figures a = figures_of (refusal_number a) (answers.values a)
+answer_figures a = figures_of (refusal_number a) (answers.grade_figures a)
 
 -- those of the answers to the case with each demand, in order
 -- "Each answer equals that of the single call with that demand, in the same position"
@@ -66,6 +66,6 @@ day_content case demands old =
     unless_refused (first_refusal (lent_refusals (length demands) (length old))) (day_written case demands old) (λ number. old)
 
 -- the count of answers; of a refusal no value
-abbrev pub values : Result ℕ Refusal → List ℕ
-values (Ok n) = n ∷ []
-values (Err r) = []
+abbrev pub count_figures : Result ℕ Refusal → List ℕ
+count_figures (Ok n) = n ∷ []
+count_figures (Err r) = []

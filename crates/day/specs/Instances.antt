@@ -1,6 +1,6 @@
 -- Instances of a day, with every hypothesis of its promises met; proofs/Instances shows each.
 use Rattle.std.specs.Prelude.{List, [], ◌∷◌, ◌++◌, ℕ, replicate}
-use Rattle.refusals.specs.Figures.{Figure, figure}
+use Rattle.refusals.specs.Facts.{Fact, fact}
 use Rattle.curve.specs.declared.kind.Kind.TheVariants as Kind
 use Rattle.curve.specs.Weather.{clear}
 use Rattle.road.specs.declared.Terrain.TheVariants as Terrain
@@ -9,7 +9,7 @@ use Rattle.road.specs.Cases.{loaded, with_lanes}
 use Rattle.method.specs.Boundary.{example, given, two_lanes}
 use Rattle.answer.specs.Boundary.{given_in_snow, refused_by19}
 use Rattle.refusals.specs.Numbers.{refusal_number}
-use Rattle.day.specs.Days.{day_answer, day_content, values}
+use Rattle.day.specs.Days.{day_answer, day_content, count_figures}
 
 -- at2000, at2643: the numbers of the printed road of document 01 with these demands
 abbrev pub at2000 : List ℕ
@@ -51,26 +51,26 @@ snow_day = (0 ∷ 3 ∷ 71250 ∷ 216000 ∷ 1500 ∷ 66271 ∷ 227 ∷ 1566 ∷
 
 -- the number of the call's refusal, 0 for none, and the count of answers, of so many demands and so many lent numbers
 abbrev called : ℕ → ℕ → List ℕ
-called n room = refusal_number (day_answer n room) ∷ values (day_answer n room)
+called n room = refusal_number (day_answer n room) ∷ count_figures (day_answer n room)
 
 -- what is worked out, and what is to be shown
 -- Three demands on the printed road, of which 7 refuses the second; the same with one number too few; a road that 8 refuses, one that 10
 -- does, one that 6 does and one that 19 does, each with demands that 7 refuses and one that it lets pass, and the first with 100,000 too; a
 -- day in snow; no demand, 1, 24 and 25 with room for all, 3 with room for two and eleven numbers more, and for three.
-unfoldable pub day_instances : List Figure
+unfoldable pub day_instances : List Fact
 day_instances =
-    figure (day_content example example_demands (replicate 38 9)) example_day
-    ∷ figure (day_content example example_demands (replicate 35 9)) (replicate 35 9)
-    ∷ figure (day_content refused_by8 (1000000 ∷ 5 ∷ []) (replicate 24 9)) (refused_with 7 ++ refused_with 8)
-    ∷ figure (day_content refused_by8 (100000 ∷ 5 ∷ []) (replicate 24 9)) (refused_with 8 ++ refused_with 8)
-    ∷ figure (day_content refused_by10 (1000000 ∷ 5 ∷ 1000000 ∷ []) (replicate 36 9)) (refused_with 7 ++ (refused_with 10 ++ refused_with 7))
-    ∷ figure (day_content refused_by6 (1000000 ∷ 5 ∷ []) (replicate 24 9)) (refused_with 6 ++ refused_with 6)
-    ∷ figure (day_content refused_by19 (1000000 ∷ 5 ∷ []) (replicate 24 9)) (refused_with 7 ++ refused_with 19)
-    ∷ figure (day_content (given_in_snow 2 0) snow_demands (replicate 24 9)) snow_day
-    ∷ figure (called 0 300) (18 ∷ [])
-    ∷ figure (called 1 300) (0 ∷ 1 ∷ [])
-    ∷ figure (called 24 300) (0 ∷ 24 ∷ [])
-    ∷ figure (called 25 300) (18 ∷ [])
-    ∷ figure (called 3 35) (18 ∷ [])
-    ∷ figure (called 3 36) (0 ∷ 3 ∷ [])
+    fact (day_content example example_demands (replicate 38 9)) example_day
+    ∷ fact (day_content example example_demands (replicate 35 9)) (replicate 35 9)
+    ∷ fact (day_content refused_by8 (1000000 ∷ 5 ∷ []) (replicate 24 9)) (refused_with 7 ++ refused_with 8)
+    ∷ fact (day_content refused_by8 (100000 ∷ 5 ∷ []) (replicate 24 9)) (refused_with 8 ++ refused_with 8)
+    ∷ fact (day_content refused_by10 (1000000 ∷ 5 ∷ 1000000 ∷ []) (replicate 36 9)) (refused_with 7 ++ (refused_with 10 ++ refused_with 7))
+    ∷ fact (day_content refused_by6 (1000000 ∷ 5 ∷ []) (replicate 24 9)) (refused_with 6 ++ refused_with 6)
+    ∷ fact (day_content refused_by19 (1000000 ∷ 5 ∷ []) (replicate 24 9)) (refused_with 7 ++ refused_with 19)
+    ∷ fact (day_content (given_in_snow 2 0) snow_demands (replicate 24 9)) snow_day
+    ∷ fact (called 0 300) (18 ∷ [])
+    ∷ fact (called 1 300) (0 ∷ 1 ∷ [])
+    ∷ fact (called 24 300) (0 ∷ 24 ∷ [])
+    ∷ fact (called 25 300) (18 ∷ [])
+    ∷ fact (called 3 35) (18 ∷ [])
+    ∷ fact (called 3 36) (0 ∷ 3 ∷ [])
     ∷ []

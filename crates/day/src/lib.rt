@@ -19,13 +19,13 @@ use shared::{Shared, refusal_with};
 pub const MOST_DEMANDS: usize = 24;
 
 /// How many numbers an answer has.
-pub const FIGURES: usize = 12;
+pub const FIGURE_COUNT: usize = 12;
 
 #[tactic(auto, unfolding(crate::specs::Days::lent_unfit))]
 fn lent_unfit(demands: usize, numbers: usize) -> bool
     ensures { result ≡ lent_unfit demands numbers }
 {
-    !(1..=MOST_DEMANDS).contains(&demands) || numbers / FIGURES < demands
+    !(1..=MOST_DEMANDS).contains(&demands) || numbers / FIGURE_COUNT < demands
 }
 
 /// Whether demands and lent numbers fit, or 18.
@@ -53,7 +53,7 @@ fn put_answer(answer: Result<Grade, Refusal>, out: &mut [u64]) -> usize
     ensures { Wrote (answer_figures answer) out.old out.new result }
 {
     match answer {
-        Ok(grade) => put_position(0, &grade.values(), out),
+        Ok(grade) => put_position(0, &grade.figures(), out),
         Err(refusal) => put_position(refusal.number(), &[0; 11], out),
     }
 }

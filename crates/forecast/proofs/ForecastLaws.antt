@@ -27,7 +27,7 @@ use Rattle.forecast.specs.declared.Forecast.{Forecast}
 use Rattle.forecast.specs.declared.Combination.{Combination}
 use Rattle.forecast.specs.declared.Outcomes.{Outcomes}
 use Rattle.forecast.specs.Forecasts.{with_combination, every_combination, some_combination, best_letter, worst_letter, letter_of}
-use Rattle.forecast.specs.Forecasts.{best_combination, worst_combination, range_refusals, forecast_refusals, forecast_answer, values}
+use Rattle.forecast.specs.Forecasts.{best_combination, worst_combination, range_refusals, forecast_refusals, forecast_answer, outcome_figures}
 use Rattle.forecast.specs.Ends.{outcome_of}
 use Rattle.forecast.specs.Promises.{AcceptedForecast, case_with, EveryInside, Ordered, DemandPasses, FactorPasses, SharePasses}
 use Rattle.forecast.proofs.RangeLaws.{range-numbered, range-exactly}
@@ -56,7 +56,7 @@ meets-exactly : (case : Case) → Accepted case → (n : ℕ) → (letter_in (an
 meets-exactly case a n = (λ h. (Meets-iff case n).0 (answer_to-number case ∙ a, h), λ t. ((Meets-iff case n).1 t).1)
 
 -- an answer with a number above 0 has no values
-pub refused-values : (a : Result Outcomes Refusal) → 0 < refusal_number a → values a ≡ []
+pub refused-values : (a : Result Outcomes Refusal) → 0 < refusal_number a → outcome_figures a ≡ []
 refused-values (Ok o) p = absurd (omega arith)
 refused-values (Err r) p = refl
 

@@ -1,7 +1,7 @@
 -- Instances of the promises (specs/Instances), shown by the promises.
 use Rattle.std.proofs.Common.{◌≡◌, refl, ap, ℕ, arith, drop, get_or, [], ◌∷◌}
 use Rattle.numbers.specs.Division.{div_up}
-use Rattle.refusals.specs.Figures.{Shown}
+use Rattle.refusals.specs.Facts.{Shown}
 use Rattle.curve.specs.Curves.{capacity, breakpoint}
 use Rattle.curve.specs.Weather.{adjusted_speed, adjusted_capacity, adjusted_breakpoint, curve_under}
 use Rattle.curve.specs.Speed.{fall_share_by, speed, shown_speed}

@@ -14,7 +14,7 @@ use Rattle.answer.specs.Promises.{letter_in, Meets}
 use Rattle.answer.proofs.AnswerLaws.{answer_to-number}
 use Rattle.forecast.specs.declared.Forecast.{Forecast}
 use Rattle.forecast.specs.Forecasts.{forecast_of, best_letter, worst_letter, range_refusals, forecast_refusals}
-use Rattle.forecast.specs.Forecasts.{forecast_answer, values}
+use Rattle.forecast.specs.Forecasts.{forecast_answer, outcome_figures}
 use Rattle.forecast.specs.Promises.{AcceptedForecast, best_letter_in, worst_letter_in, case_with, EveryLetterBetween}
 use Rattle.forecast.specs.Promises.{ShownAtTheEnds, MetThroughout, EqualEnds, OwnLoadIsNotRead, AcceptedExactly}
 use Rattle.forecast.specs.Promises.{own_ends, RefusalsInOrder}
@@ -34,11 +34,11 @@ refusals-in-order case forecast = (forecast-number case forecast, refl)
 
 module _ (case : Case) (forecast : Forecast) (z : AcceptedForecast case forecast) where
   -- the figures by the letters at the ends
-  pub shown : values (forecast_answer case forecast)
+  pub shown : outcome_figures (forecast_answer case forecast)
       ≡ letter_in (answer_to (best_case case forecast)) ∷ forecast.demand.low ∷ forecast.heavy_share.low ∷ forecast.peak_hour_factor.high
       ∷ letter_in (answer_to (worst_case case forecast)) ∷ forecast.demand.high ∷ forecast.heavy_share.high ∷ forecast.peak_hour_factor.low ∷ []
   shown =
-      ap values (answer-accepted case forecast z)
+      ap outcome_figures (answer-accepted case forecast z)
       ∙ rw (
         letter-accepted (best_case case forecast) (best-accepted case forecast z),
         letter-accepted (worst_case case forecast) (worst-accepted case forecast z),

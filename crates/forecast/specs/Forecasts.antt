@@ -127,9 +127,9 @@ figure_count = 8
 
 -- best letter, its demand, share and factor; worst letter, its demand, share and factor; of a refusal no
 -- value
-abbrev pub values : Result Outcomes Refusal → List ℕ
-values (Ok o) =
+abbrev pub outcome_figures : Result Outcomes Refusal → List ℕ
+outcome_figures (Ok o) =
     letter_number o.best.letter ∷ o.best.combination.demand ∷ o.best.combination.heavy_share ∷ o.best.combination.peak_hour_factor
     ∷ letter_number o.worst.letter ∷ o.worst.combination.demand ∷ o.worst.combination.heavy_share
     ∷ o.worst.combination.peak_hour_factor ∷ []
-values (Err r) = []
+outcome_figures (Err r) = []

@@ -13,7 +13,7 @@ use Rattle.answer.specs.Promises.{letter_in, Meets}
 use Rattle.forecast.specs.declared.Range.{Range}
 use Rattle.forecast.specs.declared.Forecast.{Forecast}
 use Rattle.forecast.specs.declared.Outcomes.{Outcomes}
-use Rattle.forecast.specs.Forecasts.{forecast_of, Within, forecast_refusals, forecast_answer, values}
+use Rattle.forecast.specs.Forecasts.{forecast_of, Within, forecast_refusals, forecast_answer, outcome_figures}
 
 -- nothing refuses the case with the forecast
 abbrev pub AcceptedForecast : Case → Forecast → Type 0
@@ -22,10 +22,10 @@ AcceptedForecast case forecast = refusal_number (forecast_answer case forecast) 
 -- best_letter_in a, worst_letter_in a: the numbers of the two letters in an answer
 -- of the eight figures the first is the best letter, and the fifth the worst
 abbrev pub best_letter_in : Result Outcomes Refusal → ℕ
-best_letter_in answer = get_or (values answer) 0 0
+best_letter_in answer = get_or (outcome_figures answer) 0 0
 
 abbrev pub worst_letter_in : Result Outcomes Refusal → ℕ
-worst_letter_in answer = get_or (values answer) 4 0
+worst_letter_in answer = get_or (outcome_figures answer) 4 0
 
 -- the case with these three in the place of its own, all other fields kept
 -- from the fields, and not by this crate's own with_combination
@@ -56,7 +56,7 @@ ShownAtTheEnds =
     (case : Case) (demand_low demand_high share_low share_high factor_low factor_high : ℕ)
     → let forecast = forecast_of demand_low demand_high share_low share_high factor_low factor_high in
     AcceptedForecast case forecast
-    → values (forecast_answer case forecast)
+    → outcome_figures (forecast_answer case forecast)
     ≡ letter_in (answer_to (case_with case demand_low share_low factor_high)) ∷ demand_low ∷ share_low ∷ factor_high
     ∷ letter_in (answer_to (case_with case demand_high share_high factor_low)) ∷ demand_high ∷ share_high ∷ factor_low
     ∷ []
@@ -88,7 +88,7 @@ EqualEnds =
     let letter = letter_in (answer_to case) in
     (refusal_number answer ≡ refusal_number (answer_to case))
     × (refusal_number answer ≡ 0
-    → values answer
+    → outcome_figures answer
     ≡ letter ∷ case.demand ∷ case.heavy_share ∷ case.peak_hour_factor
     ∷ letter ∷ case.demand ∷ case.heavy_share ∷ case.peak_hour_factor ∷ [])
 

@@ -8,7 +8,7 @@ ghost use Rattle.refusals.specs.Numbers.{refusal_number};
 ghost use Rattle.text.specs.Buffer.{Wrote};
 ghost use Rattle.method.specs.Checked.{checked};
 ghost use Rattle.forecast.specs.Forecasts.{with_combination, reversed, best_combination, worst_combination, range_refusals};
-ghost use Rattle.forecast.specs.Forecasts.{forecast_answer, figure_count, values};
+ghost use Rattle.forecast.specs.Forecasts.{forecast_answer, figure_count, outcome_figures};
 ghost use Rattle.forecast.specs.Ends.{outcome_of};
 
 use refusals::Refusal;
@@ -20,7 +20,7 @@ use road::Case;
 use text::buffer;
 
 /// How many numbers an answer has.
-pub const FIGURES: usize = 8;
+pub const FIGURE_COUNT: usize = 8;
 
 /// A low and a high end.
 #[derive(Clone, Copy, PartialEq, Eq)]
@@ -133,8 +133,8 @@ impl Outcome {
 }
 
 impl Outcomes {
-    pub fn values(&self) -> [u64; FIGURES]
-        ensures { result ≡ values (Ok self.now) }
+    pub fn figures(&self) -> [u64; FIGURE_COUNT]
+        ensures { result ≡ outcome_figures (Ok self.now) }
     {
         let Outcomes { best, worst } = *self;
         [
@@ -151,9 +151,9 @@ impl Outcomes {
 
     pub fn put_figures(&self, out: &mut [u64]) -> usize
         requires { figure_count ≤ length out.old }
-        ensures { Wrote (values (Ok self.now)) out.old out.new result }
+        ensures { Wrote (outcome_figures (Ok self.now)) out.old out.new result }
     {
-        buffer::put_numbers(&self.values(), out)
+        buffer::put_numbers(&self.figures(), out)
     }
 }
 

@@ -13,7 +13,7 @@ use Rattle.road.specs.declared.Case.{Case}
 use Rattle.lines.specs.Fields.{Field, letters, digits, layout, clear_factors, completed, spelled, number, one_of}
 use Rattle.lines.specs.Fields.{letter, field_as, joined, values_of}
 use Rattle.lines.specs.Reading.{kind_of, way_of, median_of, terrain_of, case_of, read_values, longest_line, read_line, kind_byte, way_byte}
-use Rattle.lines.specs.Reading.{median_byte, terrain_byte, values}
+use Rattle.lines.specs.Reading.{median_byte, terrain_byte, case_values}
 use Rattle.lines.specs.Laws.{LengthNeverDecidesAlone, longest_well_formed, WellFormedLinesAreShort, ClearWeatherMayBeLeftOut}
 use Rattle.lines.specs.Laws.{OtherCountsAreMalformed, ValuesAreTheFields, DemandOnALine, RefusalHasItsNumber}
 use Rattle.lines.specs.Laws.{older_layout, FiveDigitsReadAsBefore, OlderReaderRefusesMore}
@@ -148,7 +148,7 @@ terrain-byte : (b : ℕ) → one_of b (bytes_of "LR") ≡ true → terrain_byte 
 terrain-byte b e = grind (arith, common_steps)
 
 -- ---- the laws
-case-values : (vs : List ℕ) → Fits layout vs → values (Ok (case_of vs)) ≡ vs
+case-values : (vs : List ℕ) → Fits layout vs → case_values (Ok (case_of vs)) ≡ vs
 unfolding layout case_of
 case-values vs f =
     rw (

@@ -6,7 +6,7 @@ use Rattle.text.specs.Parts.{parts}
 use Rattle.refusals.specs.declared.Refusal.{Refusal}
 use Rattle.road.specs.declared.Case.{Case}
 use Rattle.lines.specs.Fields.{layout, completed, values_of}
-use Rattle.lines.specs.Reading.{case_of, read_values, longest_line, read_line, values}
+use Rattle.lines.specs.Reading.{case_of, read_values, longest_line, read_line, case_values}
 
 -- what holds of each case and of refusal 15 holds of each line
 pub read_line-by : (P : Result Case Refusal → Type 0) → ((case : Case) → P (Ok case)) → P (Err Refusal.LineMalformed) → (bs : List ℕ)
@@ -29,6 +29,6 @@ unfolding read_line
 read_line-long bs h = rw (lt-ltb longest_line (length bs) h)
 
 -- a case is that of its values
-pub case_of-values : (case : Case) → case_of (values (Ok case)) ≡ case
+pub case_of-values : (case : Case) → case_of (case_values (Ok case)) ≡ case
 unfolding case_of
 case_of-values case = grind (arith, common_steps)

@@ -7,7 +7,7 @@ use Rattle.road.specs.Refusals.{greatest_demand}
 use Rattle.refusals.specs.declared.Refusal.{Refusal}
 use Rattle.refusals.specs.Numbers.{number, refusal_number}
 use Rattle.lines.specs.Fields.{Field, digits, layout, completed, values_of}
-use Rattle.lines.specs.Reading.{read_values, read_by, read_line, values}
+use Rattle.lines.specs.Reading.{read_values, read_by, read_line, case_values}
 
 -- a line is read by its fields: none of more than 80 bytes has well-formed ones
 abbrev pub LengthNeverDecidesAlone : Type 0
@@ -34,11 +34,11 @@ OtherCountsAreMalformed =
 
 -- the values of a line that is read are those of its fields, in their order
 abbrev pub ValuesAreTheFields : Type 0
-ValuesAreTheFields = (bs vs : List ℕ) → values_of layout (completed (parts tab bs)) ≡ Some vs → values (read_line bs) ≡ vs
+ValuesAreTheFields = (bs vs : List ℕ) → values_of layout (completed (parts tab bs)) ≡ Some vs → case_values (read_line bs) ≡ vs
 
 -- the number of a refused line is the documents' number of its refusal, and it has no values
 abbrev pub RefusalHasItsNumber : Type 0
-RefusalHasItsNumber = (r : Refusal) → (refusal_number {A = Case} (Err r) ≡ number r) × (values (Err r) ≡ [])
+RefusalHasItsNumber = (r : Refusal) → (refusal_number {A = Case} (Err r) ≡ number r) × (case_values (Err r) ≡ [])
 
 -- no line can hold a demand that 7 refuses
 -- "Refusal 7, now for V above 999,999, is still met only by a caller who hands over numbers"

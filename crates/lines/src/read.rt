@@ -2,7 +2,7 @@
 
 ghost use Rattle.std.specs.Prelude.{◌≡◌, Ok, take, drop, option_map};
 ghost use Rattle.lines.specs.Fields.{layout, completed};
-ghost use Rattle.lines.specs.Reading.{read_line, values};
+ghost use Rattle.lines.specs.Reading.{read_line, case_values};
 ghost use Rattle.lines.specs.Places.{left, or_clear, weather_values, road_values, Reads};
 
 use crate::field::Fields;
@@ -52,7 +52,7 @@ impl<'a> Fields<'a> {
     }
 
     fn case(&mut self) -> Option<Case>
-        ensures { Reads layout (option_map (λ c. values (Ok c)) result) (completed (left self.old)) (left self.new) }
+        ensures { Reads layout (option_map (λ c. case_values (Ok c)) result) (completed (left self.old)) (left self.new) }
     {
         Some(Case {
             road: self.road()?,

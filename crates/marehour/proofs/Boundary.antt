@@ -6,11 +6,11 @@ use Rattle.text.specs.Bytes.{bytes_of}
 use Rattle.text.specs.Parts.{on_first, parts}
 use Rattle.text.specs.Decimal.{decimal_up_to, decimal, figures_text, row_text}
 use Rattle.refusals.specs.Numbers.{in_order, refusal_of, refusal_number}
-use Rattle.refusals.specs.Figures.{Shown}
+use Rattle.refusals.specs.Facts.{Shown}
 use Rattle.road.specs.Refusals.{weather_unfit, road_refusals, load_refusals, field_refusals}
 use Rattle.method.specs.Refusals.{refusals}
 use Rattle.method.specs.Boundary.{example}
-use Rattle.refusals.proofs.FigureLaws.{Shown-append}
+use Rattle.refusals.proofs.FactLaws.{Shown-append}
 use Rattle.answer.specs.Answers.{answer_to}
 use Rattle.answer.specs.Boundary as answer
 use Rattle.answer.specs.Boundary.{example_in_snow}
@@ -21,18 +21,18 @@ use Rattle.daily.specs.Instances.{urban, printed_figures}
 use Rattle.daily.proofs.Instances.{printed-accepted, printed-figures}
 use Rattle.forecast.specs.Instances.{wide}
 use Rattle.forecast.proofs.Instances.{wide-told}
-use Rattle.survey.specs.Boundary.{survey_figures}
+use Rattle.survey.specs.Boundary.{survey_facts}
 use Rattle.survey.proofs.Boundary.{survey-shown}
 use Rattle.lines.specs.Laws.{longest_well_formed}
 use Rattle.lines.specs.Fields.{layout, completed, spelled, number, letter, field_as, values_of}
-use Rattle.lines.specs.Reading.{case_of, read_values, read_line, values}
+use Rattle.lines.specs.Reading.{case_of, read_values, read_line, case_values}
 use Rattle.replies.specs.Texts.{refusal_text, text_of, line_text}
 use Rattle.text.specs.Stream.{texts, last_line, without_empty_last, lines_of, output_of}
 use Rattle.replies.specs.Output.{line_texts}
 use Rattle.replies.proofs.TextsLaws.{line_text-refused, line_text-case}
 use Rattle.marehour.specs.Calls.{day_call, daily_call, forecast_call, content}
 use Rattle.marehour.proofs.Laws.{day-call-is-the-day, daily-hands-back, forecast-hands-back}
-use Rattle.marehour.specs.Boundary.{printed_line, printed_answer, snow_answer, longest, added_figures, boundary_figures}
+use Rattle.marehour.specs.Boundary.{printed_line, printed_answer, snow_answer, longest, added_facts, boundary_facts}
 
 -- the printed line is the printed case
 pub line-read : read_line (bytes_of printed_line) ≡ Ok example
@@ -57,7 +57,7 @@ unfolding in_order refusal_of flat_map on_first parts decimal_up_to decimal figu
     read_values read_line weather_unfit road_refusals load_refusals field_refusals refusals refusal_text text_of line_text
 factor-shown = refl
 
-longest-shown : length (bytes_of longest) ∷ (refusal_number (read_line (bytes_of longest)) ∷ values (read_line (bytes_of longest)))
+longest-shown : length (bytes_of longest) ∷ (refusal_number (read_line (bytes_of longest)) ∷ case_values (read_line (bytes_of longest)))
     ≡ longest_well_formed ∷ 0 ∷ 77 ∷ 71 ∷ 99999 ∷ 99999 ∷ 99999 ∷ 99999 ∷ 84 ∷ 99999 ∷ 99999 ∷ 999999 ∷ 99999 ∷ 99999 ∷ 76 ∷ 99999 ∷ 99999 ∷ []
 unfolding on_first parts layout completed spelled number letter field_as values_of case_of read_values read_line
 longest-shown = refl
@@ -88,9 +88,9 @@ forecast-shown =
     (((forecast-hands-back wide (bytes_of printed_line) (replicate 9 9)).2 (lit≤ tt) example line-read).1 (ap (λ ns. get_or ns 0 0) wide-told)).1
     ∙ ap (λ figures. drop 1 figures ++ (9 ∷ [])) wide-told
 
-added-shown : Shown added_figures
+added-shown : Shown added_facts
 unfolding flat_map on_first parts layout completed spelled number letter field_as values_of case_of read_values read_line texts last_line
-    without_empty_last lines_of output_of added_figures
+    without_empty_last lines_of output_of added_facts
 added-shown = (
   line-shown,
   (
@@ -104,7 +104,7 @@ added-shown = (
           (
             forecast-shown,
             (
-              ap (λ r. refusal_number r ∷ values r) line-read,
+              ap (λ r. refusal_number r ∷ case_values r) line-read,
               (refl, (refl, (refl, (refl, (snow-shown, (factor-shown, (longest-shown, tt))))))),
             ),
           ),
@@ -114,8 +114,8 @@ added-shown = (
   ),
 )
 
--- each figure of the list is what is to be shown
-pub boundary-shown : Shown boundary_figures
+-- each fact of the list is what is to be shown
+pub boundary-shown : Shown boundary_facts
 boundary-shown =
-    Shown-append answer.boundary_figures (survey_figures ++ added_figures) answer-proofs.boundary-shown
-    (Shown-append survey_figures added_figures survey-shown added-shown)
+    Shown-append answer.boundary_facts (survey_facts ++ added_facts) answer-proofs.boundary-shown
+    (Shown-append survey_facts added_facts survey-shown added-shown)

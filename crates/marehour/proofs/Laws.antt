@@ -15,10 +15,10 @@ use Rattle.road.specs.Refusals.{weather_unfit, road_refusals, load_refusals, fie
 use Rattle.method.specs.Refusals.{refusals, refusal}
 use Rattle.method.proofs.RefusalLaws.{refusal-le}
 use Rattle.answer.specs.Answers.{graded}
-use Rattle.answer.specs.Lanes.{lanes_found, lanes_refusals, values}
+use Rattle.answer.specs.Lanes.{lanes_found, lanes_refusals, lanes_figures}
 use Rattle.answer.proofs.AnswerLaws.{answer_to-accepted}
 use Rattle.answer.proofs.Laws.{refusals-within-ends, counts-are-digits, lanes_answer-number}
-use Rattle.day.specs.Days.{most_demands, figure_count, lent_unfit, lent_refusals, LentFits, values as day_values}
+use Rattle.day.specs.Days.{most_demands, figure_count, lent_unfit, lent_refusals, LentFits, count_figures as day_values}
 use Rattle.day.specs.Promises.{position}
 use Rattle.day.proofs.DayLaws.{day_figures-length, day_figures-count, day-refused, day-answered}
 use Rattle.day.proofs.Promises.{position-holds-the-answer, lent-fits-exactly}
@@ -61,7 +61,7 @@ count-ends letter case =
     let number : ℕ = first_refusal (lanes_refusals case letter) in
     let most : number ≤ last_refusal = omega (arith, (refusals-within-ends case letter).1, lanes_answer-number case letter) in
     ok_unless-by number (lanes_found case letter) (λ a. WithinEnds 1 longest_answer last_refusal (count_reply a))
-    (λ z. let long = count-length _ (counts-are-digits case letter _ (ap values (ok_unless-none number (lanes_found case letter) z))) in
+    (λ z. let long = count-length _ (counts-are-digits case letter _ (ap lanes_figures (ok_unless-none number (lanes_found case letter) z))) in
     (omega arith, omega arith))
     (λ p. refused-ends number last_refusal p most (lit≤ tt))
 
@@ -82,7 +82,7 @@ figures-ends count last h number values fit =
 
 daily-fit : (shares : Shares) (traffic : ℕ) (case : Case)
     → let answer = daily_answer case shares traffic in
-    FiguresFit daily.figure_count last_daily_refusal (refusal_number answer) (daily.values answer)
+    FiguresFit daily.figure_count last_daily_refusal (refusal_number answer) (daily.daily_figures answer)
 daily-fit shares traffic case =
     record {
       some = λ z. (figures-of-the-hour case shares traffic z).1;
@@ -92,7 +92,7 @@ daily-fit shares traffic case =
 
 forecast-fit : (forecast : Forecast) (case : Case)
     → let answer = forecast_answer case forecast in
-    FiguresFit forecasts.figure_count last_forecast_refusal (refusal_number answer) (forecasts.values answer)
+    FiguresFit forecasts.figure_count last_forecast_refusal (refusal_number answer) (forecasts.outcome_figures answer)
 forecast-fit forecast case =
     record {
       some = λ z. ap length (shown case forecast z);

@@ -4,16 +4,16 @@ use mathlib.Core.List.{flat_map}
 use Rattle.std.specs.Prelude.{ℕ, Result, List, [], ◌∷◌, ◌++◌, length, map, replicate}
 use Prim.Native.String.{String, ◌++◌ as ◌then◌}
 use Rattle.text.specs.Bytes.{bytes_of}
-use Rattle.refusals.specs.Figures.{Figure, figure}
+use Rattle.refusals.specs.Facts.{Fact, fact}
 use Rattle.answer.specs.Boundary as answer
 use Rattle.day.specs.Instances.{example_demands, example_day}
 use Rattle.daily.specs.Instances.{urban, printed_figures}
 use Rattle.forecast.specs.Instances.{wide}
-use Rattle.survey.specs.Boundary.{survey_figures}
+use Rattle.survey.specs.Boundary.{survey_facts}
 use Rattle.refusals.specs.declared.Refusal.{Refusal}
 use Rattle.refusals.specs.Numbers.{refusal_number}
 use Rattle.road.specs.declared.Case.{Case}
-use Rattle.lines.specs.Reading.{read_line, values}
+use Rattle.lines.specs.Reading.{read_line, case_values}
 use Rattle.lines.specs.Laws.{longest_well_formed, older_read_line}
 use Rattle.replies.specs.Texts.{line_text}
 use Rattle.text.specs.Stream.{output_of}
@@ -31,7 +31,7 @@ printed_line = printed_line_with "2000" "R"
 
 -- the number of the refusal of what was read, 0 for none, and its values
 abbrev told : Result Case Refusal → List ℕ
-told r = refusal_number r ∷ values r
+told r = refusal_number r ∷ case_values r
 
 abbrev read_as : String → List ℕ
 read_as line = told (read_line (bytes_of line))
@@ -87,25 +87,25 @@ longest = "M\tG\t99999\t99999\t99999\t99999\tT\t99999\t99999\t999999\t99999\t999
 -- a share of 0 to 100 and a factor of 850 to 950; its 15 values, letters by their bytes; malformed lines; the line with a demand of six
 -- digits, by the reader before T-09 too, and by that with five; in snow, and with a factor of 99999, which is 19; the longest line that is
 -- read.
-unfoldable pub added_figures : List Figure
-added_figures =
-    figure (line_text (bytes_of printed_line)) (bytes_of printed_answer)
-    ∷ figure (output_of line_texts (bytes_of ("\n" then (printed_line then "\nF")))) (bytes_of ("X\t15\n" then (printed_answer then "X\t15\n")))
-    ∷ figure (output_of line_texts (bytes_of "")) (bytes_of "")
-    ∷ figure (content (day_call (bytes_of printed_line) example_demands 38) (replicate 38 9)) example_day
-    ∷ figure (content (daily_call (bytes_of printed_line) urban 40404 17) (replicate 17 9)) (printed_figures ++ (9 ∷ []))
-    ∷ figure (content (forecast_call (bytes_of printed_line) wide 9) (replicate 9 9)) (1 ∷ 1000 ∷ 0 ∷ 950 ∷ 6 ∷ 4000 ∷ 100 ∷ 850 ∷ 9 ∷ [])
-    ∷ figure (read_as printed_line) (printed_case_with 2000)
-    ∷ figure (flat_map read_as malformed_lines) (replicate (length malformed_lines) 15)
-    ∷ figure (read_as (printed_line_with "100000" "R")) (printed_case_with 100000)
-    ∷ figure (read_before (printed_line_with "100000" "R")) (15 ∷ [])
-    ∷ figure (read_before (printed_line_with "99999" "R")) (printed_case_with 99999)
-    ∷ figure (line_text (bytes_of (printed_line then "\t860\t780"))) (bytes_of snow_answer)
-    ∷ figure (line_text (bytes_of (printed_line then "\t99999\t1000"))) (bytes_of "X\t19\n")
-    ∷ figure (length (bytes_of longest) ∷ read_as longest)
+unfoldable pub added_facts : List Fact
+added_facts =
+    fact (line_text (bytes_of printed_line)) (bytes_of printed_answer)
+    ∷ fact (output_of line_texts (bytes_of ("\n" then (printed_line then "\nF")))) (bytes_of ("X\t15\n" then (printed_answer then "X\t15\n")))
+    ∷ fact (output_of line_texts (bytes_of "")) (bytes_of "")
+    ∷ fact (content (day_call (bytes_of printed_line) example_demands 38) (replicate 38 9)) example_day
+    ∷ fact (content (daily_call (bytes_of printed_line) urban 40404 17) (replicate 17 9)) (printed_figures ++ (9 ∷ []))
+    ∷ fact (content (forecast_call (bytes_of printed_line) wide 9) (replicate 9 9)) (1 ∷ 1000 ∷ 0 ∷ 950 ∷ 6 ∷ 4000 ∷ 100 ∷ 850 ∷ 9 ∷ [])
+    ∷ fact (read_as printed_line) (printed_case_with 2000)
+    ∷ fact (flat_map read_as malformed_lines) (replicate (length malformed_lines) 15)
+    ∷ fact (read_as (printed_line_with "100000" "R")) (printed_case_with 100000)
+    ∷ fact (read_before (printed_line_with "100000" "R")) (15 ∷ [])
+    ∷ fact (read_before (printed_line_with "99999" "R")) (printed_case_with 99999)
+    ∷ fact (line_text (bytes_of (printed_line then "\t860\t780"))) (bytes_of snow_answer)
+    ∷ fact (line_text (bytes_of (printed_line then "\t99999\t1000"))) (bytes_of "X\t19\n")
+    ∷ fact (length (bytes_of longest) ∷ read_as longest)
     (longest_well_formed ∷ 0 ∷ 77 ∷ 71 ∷ 99999 ∷ 99999 ∷ 99999 ∷ 99999 ∷ 84 ∷ 99999 ∷ 99999 ∷ 999999 ∷ 99999 ∷ 99999 ∷ 76 ∷ 99999 ∷ 99999 ∷ [])
     ∷ []
 
 -- the list
-abbrev pub boundary_figures : List Figure
-boundary_figures = answer.boundary_figures ++ (survey_figures ++ added_figures)
+abbrev pub boundary_facts : List Fact
+boundary_facts = answer.boundary_facts ++ (survey_facts ++ added_facts)

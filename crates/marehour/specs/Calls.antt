@@ -36,7 +36,7 @@ reply_of number (v ∷ vs) text = writes text
 
 -- the reply of an answer
 abbrev pub answer_reply : Result Grade Refusal → Reply
-answer_reply a = reply_of (refusal_number a) (answers.values a) (answer_text a)
+answer_reply a = reply_of (refusal_number a) (answers.grade_figures a) (answer_text a)
 
 -- the text of a lane count
 -- "For the lanes question the answer is the one digit of the count and a newline"
@@ -46,7 +46,7 @@ count_text (count ∷ vs) = decimal count ++ (newline ∷ [])
 
 -- the reply of an answer to the lanes question
 abbrev pub count_reply : Result ℕ Refusal → Reply
-count_reply a = reply_of (refusal_number a) (lanes.values a) (count_text (lanes.values a))
+count_reply a = reply_of (refusal_number a) (lanes.lanes_figures a) (count_text (lanes.lanes_figures a))
 
 -- the reply to a case
 abbrev pub case_reply : Case → Reply
@@ -69,12 +69,12 @@ figures_reply number values = reply_of number values values
 -- the reply to a case for a daily traffic and its shares
 abbrev pub daily_reply : Shares → ℕ → Case → Reply
 daily_reply shares traffic case =
-    let answer = daily_answer case shares traffic in figures_reply (refusal_number answer) (daily.values answer)
+    let answer = daily_answer case shares traffic in figures_reply (refusal_number answer) (daily.daily_figures answer)
 
 -- the same for a forecast
 abbrev pub forecast_reply : Forecast → Case → Reply
 forecast_reply forecast case =
-    let answer = forecast_answer case forecast in figures_reply (refusal_number answer) (forecasts.values answer)
+    let answer = forecast_answer case forecast in figures_reply (refusal_number answer) (forecasts.outcome_figures answer)
 
 -- the reply to a line that was read, by the reply to its case
 -- "15 malformed line", before 16, 20 and 1
@@ -159,4 +159,4 @@ result_of number (v ∷ vs) = pos v
 -- what a survey call hands back
 -- the speed, or minus the refusal number
 abbrev pub survey_result : Result ℕ Refusal → ℤ
-survey_result a = result_of (refusal_number a) (survey.values a)
+survey_result a = result_of (refusal_number a) (survey.survey_figures a)

@@ -4,7 +4,7 @@ use Rattle.text.specs.Bytes.{bytes_of}
 use Rattle.road.specs.declared.Case.{Case}
 use Rattle.road.specs.Cases.{with_demand}
 use Rattle.answer.specs.Answers.{answer_to}
-use Rattle.day.specs.Days.{most_demands, figure_count, answer_figures, LentFits, day_answer, day_content, values}
+use Rattle.day.specs.Days.{most_demands, figure_count, answer_figures, LentFits, day_answer, day_content, count_figures}
 use Rattle.day.specs.Promises.{position}
 use Rattle.daily.specs.declared.Shares.{Shares}
 use Rattle.daily.specs.Daily as daily
@@ -85,7 +85,7 @@ abbrev pub DayCallIsTheDay : Type 0
 DayCallIsTheDay =
     (line : List ℕ) (case : Case) → read_line line ≡ Ok case → (demands old : List ℕ)
     → (day_result (day_call line demands (length old))
-    ≡ result_of (refusal_number (day_answer (length demands) (length old))) (values (day_answer (length demands) (length old))))
+    ≡ result_of (refusal_number (day_answer (length demands) (length old))) (count_figures (day_answer (length demands) (length old))))
     × (content (day_call line demands (length old)) old ≡ day_content case demands old)
 
 -- position i and the reply to a line with demand i are those of one answer
@@ -115,11 +115,11 @@ abbrev pub DailyHandsBack : Type 0
 DailyHandsBack =
     (shares : Shares) (traffic : ℕ)
     → HandsBackFigures daily.figure_count (λ case. refusal_number (daily_answer case shares traffic))
-    (λ case. daily.values (daily_answer case shares traffic)) (λ line room. daily_call line shares traffic room)
+    (λ case. daily.daily_figures (daily_answer case shares traffic)) (λ line room. daily_call line shares traffic room)
 
 -- and the call with a forecast, with eight and the forecast's answer
 abbrev pub ForecastHandsBack : Type 0
 ForecastHandsBack =
     (forecast : Forecast)
     → HandsBackFigures forecasts.figure_count (λ case. refusal_number (forecast_answer case forecast))
-    (λ case. forecasts.values (forecast_answer case forecast)) (λ line room. forecast_call line forecast room)
+    (λ case. forecasts.outcome_figures (forecast_answer case forecast)) (λ line room. forecast_call line forecast room)

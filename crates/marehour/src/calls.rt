@@ -71,7 +71,8 @@ fn lanes_in(line: &[u8], letter: u64, answer: &mut [u8]) -> Result<i32, Refusal>
 }
 
 /// The answer to a line.
-pub fn marehour_answer(line: &[u8], answer: &mut [u8]) -> i32
+#[unsafe(no_mangle)]
+pub extern "C" fn marehour_answer(line: &[u8], answer: &mut [u8]) -> i32
     ensures result { result ≡ call_result (answer_call line.now (length answer.old)) }
     ensures buffer { answer.new
         ≡ content (answer_call line.now (length answer.old)) answer.old }
@@ -80,7 +81,8 @@ pub fn marehour_answer(line: &[u8], answer: &mut [u8]) -> i32
 }
 
 /// The lanes question for a line and a letter number.
-pub fn marehour_lanes(line: &[u8], letter: u32, answer: &mut [u8]) -> i32
+#[unsafe(no_mangle)]
+pub extern "C" fn marehour_lanes(line: &[u8], letter: u32, answer: &mut [u8]) -> i32
     ensures result { result ≡ call_result (lanes_call line.now letter (length answer.old)) }
     ensures buffer { answer.new
         ≡ content (lanes_call line.now letter (length answer.old)) answer.old }

@@ -6,7 +6,7 @@ ghost use Rattle.marehour.specs.Calls.{daily_call, call_result, content, hands_b
 
 use crate::calls::{case_of, check_room, handed_back};
 use refusals::Refusal;
-use daily::{FIGURES, Shares};
+use daily::{FIGURE_COUNT, Shares};
 
 fn daily_in(
     line: &[u8],
@@ -17,14 +17,15 @@ fn daily_in(
     ensures result { hands_back result ≡ call_result (daily_call line.now shares daily_traffic (length figures.old)) }
     ensures figures { figures.new ≡ content (daily_call line.now shares daily_traffic (length figures.old)) figures.old }
 {
-    let case = case_of(line, check_room(figures.len(), FIGURES))?;
+    let case = case_of(line, check_room(figures.len(), FIGURE_COUNT))?;
     let grade = daily::evaluate_daily(case, shares, daily_traffic)?;
     let written = grade.put_figures(figures);
     Ok(written as i32)
 }
 
 /// The answer to the line's case with the hourly demand of the daily traffic, and its daily service volumes.
-pub fn marehour_daily(
+#[unsafe(no_mangle)]
+pub extern "C" fn marehour_daily(
     line: &[u8],
     daily_traffic: u64,
     peak_share: u32,

@@ -17,7 +17,8 @@ fn day_in(line: &[u8], demands: &[u64], answers: &mut [u64]) -> Result<i32, Refu
 }
 
 /// The answers to the line's case with each demand.
-pub fn marehour_day(line: &[u8], demands: &[u64], answers: &mut [u64]) -> i32
+#[unsafe(no_mangle)]
+pub extern "C" fn marehour_day(line: &[u8], demands: &[u64], answers: &mut [u64]) -> i32
     ensures result { result ≡ day_result (day_call line.now demands.now (length answers.old)) }
     ensures answers { answers.new
         ≡ content (day_call line.now demands.now (length answers.old)) answers.old }

@@ -6,20 +6,21 @@ ghost use Rattle.marehour.specs.Calls.{forecast_call, call_result, content, hand
 
 use crate::calls::{case_of, check_room, handed_back};
 use refusals::Refusal;
-use forecast::{FIGURES, Forecast, Range};
+use forecast::{FIGURE_COUNT, Forecast, Range};
 
 fn forecast_in(line: &[u8], forecast: Forecast, figures: &mut [u64]) -> Result<i32, Refusal>
     ensures result { hands_back result ≡ call_result (forecast_call line.now forecast (length figures.old)) }
     ensures figures { figures.new ≡ content (forecast_call line.now forecast (length figures.old)) figures.old }
 {
-    let case = case_of(line, check_room(figures.len(), FIGURES))?;
+    let case = case_of(line, check_room(figures.len(), FIGURE_COUNT))?;
     let outcomes = forecast::evaluate_forecast(case, forecast)?;
     let written = outcomes.put_figures(figures);
     Ok(written as i32)
 }
 
 /// The best and the worst letter of the line's case within the ends, each with its combination.
-pub fn marehour_forecast(
+#[unsafe(no_mangle)]
+pub extern "C" fn marehour_forecast(
     line: &[u8],
     demand_low: u64,
     demand_high: u64,

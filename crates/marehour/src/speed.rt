@@ -22,14 +22,16 @@ fn survey_speed(speed: SurveyedSpeed, cars: u32, flow: u32) -> Result<i32, Refus
 }
 
 /// From a float in miles per hour.
-pub fn marehour_survey_mph(speed: f32, cars: u32, flow: u32) -> i32
+#[unsafe(no_mangle)]
+pub extern "C" fn marehour_survey_mph(speed: f32, cars: u32, flow: u32) -> i32
     ensures { result ≡ survey_result (survey_answer (record { speed = MilesPerHour speed; cars = cars; flow = flow })) }
 {
     handed_back(survey_speed(SurveyedSpeed::MilesPerHour(speed), cars, flow))
 }
 
 /// From a float in kilometres per hour.
-pub fn marehour_survey_kmh(speed: f32, cars: u32, flow: u32) -> i32
+#[unsafe(no_mangle)]
+pub extern "C" fn marehour_survey_kmh(speed: f32, cars: u32, flow: u32) -> i32
     ensures { result ≡ survey_result (survey_answer (record { speed = KilometresPerHour speed; cars = cars; flow = flow })) }
 {
     handed_back(survey_speed(SurveyedSpeed::KilometresPerHour(speed), cars, flow))

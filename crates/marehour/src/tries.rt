@@ -19,7 +19,8 @@ fn tries_for(line: &[u8]) -> Result<i32, Refusal>
 }
 
 /// For the case of a lent line.
-pub fn marehour_tries(line: &[u8]) -> i32
+#[unsafe(no_mangle)]
+pub extern "C" fn marehour_tries(line: &[u8]) -> i32
     ensures { result ≡ tries_call line.now }
 {
     handed_back(tries_for(line))

@@ -2,7 +2,7 @@
 use Rattle.std.proofs.Common.{◌≡◌, refl, arith}
 use Rattle.numbers.specs.Division.{div_up}
 use Rattle.numbers.specs.Search.{starts_at}
-use Rattle.refusals.specs.Figures.{Shown}
+use Rattle.refusals.specs.Facts.{Shown}
 use Rattle.refusals.specs.Numbers.{in_order, refusal_of}
 use Rattle.curve.specs.Power.{reaches_power, power}
 use Rattle.curve.proofs.PowerLaws.{power-eq}
@@ -21,8 +21,8 @@ use Rattle.method.specs.Refusals.{speed_refusals, refusals}
 use Rattle.method.specs.Checked.{curve_of}
 use Rattle.method.specs.Flow.{heavy_factor_of, flow_rate_of}
 use Rattle.method.specs.Assess.{measures}
-use Rattle.method.specs.Boundary.{limit_figures, order_figures, weather_figures, speed_figures, ramp_figures, clearance_figures}
-use Rattle.method.specs.Boundary.{boundary_figures}
+use Rattle.method.specs.Boundary.{limit_facts, order_facts, weather_facts, speed_facts, ramp_facts, clearance_facts}
+use Rattle.method.specs.Boundary.{boundary_facts}
 
 -- ramp-6, ramp-24, power-500: entries of the two tables
 pub ramp-6 : ramp_term 6 ≡ 3220
@@ -54,18 +54,18 @@ power-1000 : power 1000 ≡ 1000000
 unfolding starts_at reaches_power
 power-1000 = power-eq 1000 1000000 (omega arith) tt
 
-limits-shown : Shown limit_figures
-unfolding uncapped_by free_flow_speed_of weather_unfit road_refusals load_refusals field_refusals adjusted_speed speed_refusals refusals limit_figures
+limits-shown : Shown limit_facts
+unfolding uncapped_by free_flow_speed_of weather_unfit road_refusals load_refusals field_refusals adjusted_speed speed_refusals refusals limit_facts
 limits-shown = (refl, (refl, (refl, (refl, (refl, (refl, (refl, (refl, (refl, (refl, (refl, (refl, tt))))))))))))
 
-order-shown : Shown order_figures
-unfolding uncapped_by free_flow_speed_of weather_unfit road_refusals load_refusals field_refusals adjusted_speed speed_refusals refusals order_figures
+order-shown : Shown order_facts
+unfolding uncapped_by free_flow_speed_of weather_unfit road_refusals load_refusals field_refusals adjusted_speed speed_refusals refusals order_facts
 order-shown = (refl, limits-shown)
 
-weather-shown : Shown weather_figures
+weather-shown : Shown weather_facts
 unfolding in_order refusal_of div_up uncapped_by free_flow_speed_of weather_unfit road_refusals load_refusals field_refusals adjusted_speed speed_refusals refusals capacity
     breakpoint adjusted_capacity adjusted_breakpoint curve_under curve_of heavy_factor_of flow_rate_of fall_share_by speed shown_speed density shown_density
-    density_limit density_letter letter_at performance measures weather_figures
+    density_limit density_letter letter_at performance measures weather_facts
 weather-shown = (
   refl,
   (
@@ -86,30 +86,30 @@ weather-shown = (
   ),
 )
 
-speeds-shown : Shown speed_figures
+speeds-shown : Shown speed_facts
 unfolding div_up entry_before entry_after weighted_sum interpolated lane_width_adjustment per_missing_foot right_clearance_row
     right_clearance_adjustment total_clearance total_clearance_row total_clearance_adjustment access_adjustment estimated_by
-    uncapped_by free_flow_speed_of speed_figures
+    uncapped_by free_flow_speed_of speed_facts
 speeds-shown = (refl, (refl, (simp ramp-0, (refl, (refl, (refl, weather-shown))))))
 
-ramps-shown : Shown ramp_figures
+ramps-shown : Shown ramp_facts
 unfolding div_up entry_before entry_after weighted_sum interpolated lane_width_adjustment per_missing_foot right_clearance_row
     right_clearance_adjustment estimated_by uncapped_by free_flow_speed_of weather_unfit road_refusals load_refusals field_refusals adjusted_speed
-    speed_refusals refusals ramp_figures
+    speed_refusals refusals ramp_facts
 ramps-shown = let r = other-ramps in (simp (r.0, r.1, r.2, r.3), (simp ramp-24, (simp ramp-24, speeds-shown)))
 
-clearances-shown : Shown clearance_figures
+clearances-shown : Shown clearance_facts
 unfolding div_up entry_before entry_after weighted_sum interpolated per_missing_foot right_clearance_row right_clearance_adjustment total_clearance
-    total_clearance_row total_clearance_adjustment clearance_figures
+    total_clearance_row total_clearance_adjustment clearance_facts
 clearances-shown = (refl, (refl, (refl, (refl, (refl, (refl, (refl, (refl, (refl, (refl, (refl, (refl, ramps-shown))))))))))))
 
--- each figure of the list is what is to be shown
-pub boundary-shown : Shown boundary_figures
+-- each fact of the list is what is to be shown
+pub boundary-shown : Shown boundary_facts
 unfolding in_order refusal_of div_up entry_before entry_after weighted_sum interpolated lane_width_adjustment per_missing_foot right_clearance_row
     right_clearance_adjustment total_clearance total_clearance_row total_clearance_adjustment access_adjustment estimated_by uncapped_by
     free_flow_speed_of weather_unfit road_refusals load_refusals field_refusals adjusted_speed speed_refusals refusals capacity breakpoint curve_at
     adjusted_capacity adjusted_breakpoint curve_under curve_of heavy_factor_of flow_rate_of fall_share_by speed shown_speed density shown_density
-    density_limit density_letter letter_at performance measures boundary_figures
+    density_limit density_letter letter_at performance measures boundary_facts
 boundary-shown = (
   simp ramp-24,
   (

@@ -23,10 +23,10 @@ abbrev pub assessment : Case → Result Measures Refusal
 assessment case = ok_unless (refusal case) (measures case)
 
 -- letter, F, c, v, speed and density; of a refusal no value
-abbrev pub values : Result Measures Refusal → List ℕ
-values (Ok m) =
+abbrev pub measure_figures : Result Measures Refusal → List ℕ
+measure_figures (Ok m) =
     letter_number m.performance.letter ∷ m.curve.free_flow_speed ∷ m.curve.capacity ∷ m.flow_rate
     ∷ m.performance.speed
     ∷ m.performance.density
     ∷ []
-values (Err r) = []
+measure_figures (Err r) = []

@@ -1,7 +1,7 @@
 -- The boundary sections of document 01, with clearances, weather and ramps by document 02, as far as this layer can state them: one list,
 -- which the layers above make longer.
 use Rattle.std.specs.Prelude.{List, [], ◌∷◌, map, ℕ}
-use Rattle.refusals.specs.Figures.{Figure, figure}
+use Rattle.refusals.specs.Facts.{Fact, fact}
 use Rattle.refusals.specs.Numbers.{refusal_number}
 use Rattle.curve.specs.Power.{power}
 use Rattle.curve.specs.declared.kind.Kind.{Kind}
@@ -20,7 +20,7 @@ use Rattle.road.specs.RampTerm.{ramp_term}
 use Rattle.road.specs.FreeFlowSpeed.{free_flow_speed_of}
 use Rattle.method.specs.Refusals.{refusal}
 use Rattle.method.specs.Checked as checked
-use Rattle.method.specs.Assess.{assessment, values}
+use Rattle.method.specs.Assess.{assessment, measure_figures}
 
 -- density and letter at v
 abbrev density_and_letter : Kind → ℕ → ℕ → List ℕ
@@ -58,11 +58,11 @@ total_off m r l = map (λ n. total_clearance_adjustment n (total_clearance m r l
 
 -- the number of an assessment's refusal, 0 for none, and its values
 abbrev assessed : Case → List ℕ
-assessed case = refusal_number (assessment case) ∷ values (assessment case)
+assessed case = refusal_number (assessment case) ∷ measure_figures (assessment case)
 
 -- the same of the check of a case
 abbrev checked_as : Case → List ℕ
-checked_as case = refusal_number (checked.checked case) ∷ checked.values (checked.checked case)
+checked_as case = refusal_number (checked.checked case) ∷ checked.curve_figures (checked.checked case)
 
 -- a case of kind F with these fields, level, with a speed factor
 abbrev faulty : (speed width right : ℕ) → Median → (access lanes demand factor share speed_factor : ℕ) → Case
@@ -74,24 +74,24 @@ faulty speed width right median access lanes demand factor share speed_factor =
 abbrev pub refused_by_all : Case
 refused_by_all = faulty 0 99 401 Median.Undivided 49 1 1000000 249 1001 499
 
--- boundary_figures, clearance_figures, ramp_figures, speed_figures, weather_figures, order_figures,
--- limit_figures: the list, and its last parts, each the end of the one before
+-- boundary_facts, clearance_facts, ramp_facts, speed_facts, weather_facts, order_facts,
+-- limit_facts: the list, and its last parts, each the end of the one before
 -- The numbers that 1 to 9 leave at the ends of each range, and those past them: speed, width, clearance on either side, medians of kind F
 -- and of kind M, ramps and access, lanes of kind F and of kind M, demand, peak-hour factor, heavy share. 10 refuses a given speed of 30,000.
-unfoldable pub limit_figures : List Figure
-limit_figures =
-    figure (map (λ f. refusal (two_lanes (given Kind.Freeway f 120) 0)) (29999 ∷ 30000 ∷ 90000 ∷ 90001 ∷ [])) (1 ∷ 10 ∷ 0 ∷ 1 ∷ [])
-    ∷ figure (map (λ w. refusal (two_lanes (given Kind.Freeway 60000 w) 0)) (99 ∷ 100 ∷ 200 ∷ 201 ∷ [])) (2 ∷ 0 ∷ 0 ∷ 2 ∷ [])
-    ∷ figure (freeway 400 400 Median.Divided 0 ∷ freeway 401 0 Median.Divided 0 ∷ freeway 0 401 Median.Divided 0 ∷ []) (0 ∷ 3 ∷ 3 ∷ [])
-    ∷ figure (map (λ m. freeway 60 60 m 0) medians) (4 ∷ 0 ∷ 4 ∷ [])
-    ∷ figure (map (λ m. multilane_with m 0) medians) (0 ∷ 0 ∷ 0 ∷ [])
-    ∷ figure (map (freeway 60 60 Median.Divided) (48 ∷ 49 ∷ [])) (0 ∷ 5 ∷ [])
-    ∷ figure (map (multilane_with Median.Divided) (200 ∷ 201 ∷ [])) (0 ∷ 5 ∷ [])
-    ∷ figure (map (λ n. loaded_by Kind.Freeway n 0 1000 0) (1 ∷ 2 ∷ 8 ∷ 9 ∷ [])) (6 ∷ 0 ∷ 0 ∷ 6 ∷ [])
-    ∷ figure (map (λ n. loaded_by Kind.Multilane n 0 1000 0) (1 ∷ 2 ∷ 3 ∷ 4 ∷ [])) (6 ∷ 0 ∷ 0 ∷ 6 ∷ [])
-    ∷ figure (map (λ v. loaded_by Kind.Freeway 2 v 1000 0) (99999 ∷ 100000 ∷ 999999 ∷ 1000000 ∷ [])) (0 ∷ 0 ∷ 0 ∷ 7 ∷ [])
-    ∷ figure (map (λ h. loaded_by Kind.Freeway 2 0 h 0) (249 ∷ 250 ∷ 1000 ∷ 1001 ∷ [])) (8 ∷ 0 ∷ 0 ∷ 8 ∷ [])
-    ∷ figure (map (λ p. loaded_by Kind.Freeway 2 0 1000 p) (1000 ∷ 1001 ∷ [])) (0 ∷ 9 ∷ [])
+unfoldable pub limit_facts : List Fact
+limit_facts =
+    fact (map (λ f. refusal (two_lanes (given Kind.Freeway f 120) 0)) (29999 ∷ 30000 ∷ 90000 ∷ 90001 ∷ [])) (1 ∷ 10 ∷ 0 ∷ 1 ∷ [])
+    ∷ fact (map (λ w. refusal (two_lanes (given Kind.Freeway 60000 w) 0)) (99 ∷ 100 ∷ 200 ∷ 201 ∷ [])) (2 ∷ 0 ∷ 0 ∷ 2 ∷ [])
+    ∷ fact (freeway 400 400 Median.Divided 0 ∷ freeway 401 0 Median.Divided 0 ∷ freeway 0 401 Median.Divided 0 ∷ []) (0 ∷ 3 ∷ 3 ∷ [])
+    ∷ fact (map (λ m. freeway 60 60 m 0) medians) (4 ∷ 0 ∷ 4 ∷ [])
+    ∷ fact (map (λ m. multilane_with m 0) medians) (0 ∷ 0 ∷ 0 ∷ [])
+    ∷ fact (map (freeway 60 60 Median.Divided) (48 ∷ 49 ∷ [])) (0 ∷ 5 ∷ [])
+    ∷ fact (map (multilane_with Median.Divided) (200 ∷ 201 ∷ [])) (0 ∷ 5 ∷ [])
+    ∷ fact (map (λ n. loaded_by Kind.Freeway n 0 1000 0) (1 ∷ 2 ∷ 8 ∷ 9 ∷ [])) (6 ∷ 0 ∷ 0 ∷ 6 ∷ [])
+    ∷ fact (map (λ n. loaded_by Kind.Multilane n 0 1000 0) (1 ∷ 2 ∷ 3 ∷ 4 ∷ [])) (6 ∷ 0 ∷ 0 ∷ 6 ∷ [])
+    ∷ fact (map (λ v. loaded_by Kind.Freeway 2 v 1000 0) (99999 ∷ 100000 ∷ 999999 ∷ 1000000 ∷ [])) (0 ∷ 0 ∷ 0 ∷ 7 ∷ [])
+    ∷ fact (map (λ h. loaded_by Kind.Freeway 2 0 h 0) (249 ∷ 250 ∷ 1000 ∷ 1001 ∷ [])) (8 ∷ 0 ∷ 0 ∷ 8 ∷ [])
+    ∷ fact (map (λ p. loaded_by Kind.Freeway 2 0 1000 p) (1000 ∷ 1001 ∷ [])) (0 ∷ 9 ∷ [])
     ∷ []
   where
     medians : List Median
@@ -108,9 +108,9 @@ limit_figures =
     loaded_by kind lanes demand factor share = refusal (loaded (given kind 60000 120) lanes demand factor share Terrain.Level clear)
 
 -- The order of refusals: a case that breaks all of 1 to 9, 19 and 10, and then without its first fault, again and again.
-unfoldable pub order_figures : List Figure
-order_figures =
-    figure (
+unfoldable pub order_facts : List Fact
+order_facts =
+    fact (
     refusal refused_by_all
     ∷ refusal (faulty 54999 99 401 Median.Undivided 49 1 1000000 249 1001 499)
     ∷ refusal (faulty 54999 120 401 Median.Undivided 49 1 1000000 249 1001 499)
@@ -126,34 +126,34 @@ order_figures =
     ∷ []
     )
     (1 ∷ 2 ∷ 3 ∷ 4 ∷ 5 ∷ 6 ∷ 7 ∷ 8 ∷ 9 ∷ 19 ∷ 10 ∷ 0 ∷ [])
-    ∷ limit_figures
+    ∷ limit_facts
 
 -- Under snow or rain (document 02, T-03): b rounded down once; b and c from F after its factor, below the breakpoint and past it; F, c and
 -- b each with a fraction above a half; the upper end before the factor; F, c and both factors at once; 50,000 after the factor, and 55,000
 -- before it; the ends of the factors, on kind M too; 19 before 10 on kind M.
-unfoldable pub weather_figures : List Figure
-weather_figures =
-    figure (checked_as (snow 67855 1000 942 3534)) (0 ∷ 67855 ∷ 224059 ∷ 114097 ∷ [])
-    ∷ figure (assessed (snow 67855 1000 942 3534)) (0 ∷ 4 ∷ 67855 ∷ 224059 ∷ 1767 ∷ 62000 ∷ 285 ∷ [])
-    ∷ figure (assessed (snow 60000 950 1000 3000)) (0 ∷ 4 ∷ 57000 ∷ 227000 ∷ 1500 ∷ 57000 ∷ 264 ∷ [])
-    ∷ figure (assessed (snow 60000 950 1000 3800)) (0 ∷ 4 ∷ 57000 ∷ 227000 ∷ 1900 ∷ 56297 ∷ 338 ∷ [])
-    ∷ figure (checked_as (snow 60001 955 946 0)) (0 ∷ 57300 ∷ 215025 ∷ 152851 ∷ [])
-    ∷ figure (checked_as (snow 90000 900 1000 0)) (0 ∷ 67500 ∷ 237500 ∷ 130000 ∷ [])
-    ∷ figure (assessed (snow 75000 950 900 3000)) (0 ∷ 3 ∷ 71250 ∷ 216000 ∷ 1500 ∷ 66271 ∷ 227 ∷ [])
-    ∷ figure (assessed (snow 75000 667 1000 3000)) (0 ∷ 4 ∷ 50025 ∷ 220025 ∷ 1500 ∷ 50025 ∷ 300 ∷ [])
-    ∷ figure (assessed (snow 75000 666 1000 3000)) (10 ∷ [])
-    ∷ figure (assessed (snow 75000 1000 500 3000)) (0 ∷ 6 ∷ 75000 ∷ 120000 ∷ 1500 ∷ 0 ∷ 0 ∷ [])
-    ∷ figure (checked_as (snow 62500 800 1000 0)) (0 ∷ 50000 ∷ 220000 ∷ 200000 ∷ [])
-    ∷ figure (checked_as (snow 55066 908 1000 0)) (10 ∷ [])
-    ∷ figure (checked_as (snow 55000 910 1000 0)) (0 ∷ 50050 ∷ 220050 ∷ 199800 ∷ [])
-    ∷ figure (checked_as (snow 55000 909 1000 0)) (10 ∷ [])
-    ∷ figure (checked_as (snow 54999 910 1000 0)) (10 ∷ [])
-    ∷ figure (map (λ s. refusal (snow 75000 s 1000 0)) (0 ∷ 499 ∷ 500 ∷ 1000 ∷ 1001 ∷ 99999 ∷ [])) (19 ∷ 19 ∷ 10 ∷ 0 ∷ 19 ∷ 19 ∷ [])
-    ∷ figure (map (λ k. refusal (snow 75000 1000 k 0)) (0 ∷ 499 ∷ 500 ∷ 1000 ∷ 1001 ∷ 99999 ∷ [])) (19 ∷ 19 ∷ 0 ∷ 0 ∷ 19 ∷ 19 ∷ [])
-    ∷ figure (map (λ s. refusal (on_multilane 60000 s 1000)) (999 ∷ 1000 ∷ 1001 ∷ [])) (19 ∷ 0 ∷ 19 ∷ [])
-    ∷ figure (map (λ k. refusal (on_multilane 60000 1000 k)) (999 ∷ 1000 ∷ 1001 ∷ [])) (19 ∷ 0 ∷ 19 ∷ [])
-    ∷ figure (refusal (on_multilane 30000 1000 999) ∷ refusal (on_multilane 30000 1000 1000) ∷ []) (19 ∷ 10 ∷ [])
-    ∷ order_figures
+unfoldable pub weather_facts : List Fact
+weather_facts =
+    fact (checked_as (snow 67855 1000 942 3534)) (0 ∷ 67855 ∷ 224059 ∷ 114097 ∷ [])
+    ∷ fact (assessed (snow 67855 1000 942 3534)) (0 ∷ 4 ∷ 67855 ∷ 224059 ∷ 1767 ∷ 62000 ∷ 285 ∷ [])
+    ∷ fact (assessed (snow 60000 950 1000 3000)) (0 ∷ 4 ∷ 57000 ∷ 227000 ∷ 1500 ∷ 57000 ∷ 264 ∷ [])
+    ∷ fact (assessed (snow 60000 950 1000 3800)) (0 ∷ 4 ∷ 57000 ∷ 227000 ∷ 1900 ∷ 56297 ∷ 338 ∷ [])
+    ∷ fact (checked_as (snow 60001 955 946 0)) (0 ∷ 57300 ∷ 215025 ∷ 152851 ∷ [])
+    ∷ fact (checked_as (snow 90000 900 1000 0)) (0 ∷ 67500 ∷ 237500 ∷ 130000 ∷ [])
+    ∷ fact (assessed (snow 75000 950 900 3000)) (0 ∷ 3 ∷ 71250 ∷ 216000 ∷ 1500 ∷ 66271 ∷ 227 ∷ [])
+    ∷ fact (assessed (snow 75000 667 1000 3000)) (0 ∷ 4 ∷ 50025 ∷ 220025 ∷ 1500 ∷ 50025 ∷ 300 ∷ [])
+    ∷ fact (assessed (snow 75000 666 1000 3000)) (10 ∷ [])
+    ∷ fact (assessed (snow 75000 1000 500 3000)) (0 ∷ 6 ∷ 75000 ∷ 120000 ∷ 1500 ∷ 0 ∷ 0 ∷ [])
+    ∷ fact (checked_as (snow 62500 800 1000 0)) (0 ∷ 50000 ∷ 220000 ∷ 200000 ∷ [])
+    ∷ fact (checked_as (snow 55066 908 1000 0)) (10 ∷ [])
+    ∷ fact (checked_as (snow 55000 910 1000 0)) (0 ∷ 50050 ∷ 220050 ∷ 199800 ∷ [])
+    ∷ fact (checked_as (snow 55000 909 1000 0)) (10 ∷ [])
+    ∷ fact (checked_as (snow 54999 910 1000 0)) (10 ∷ [])
+    ∷ fact (map (λ s. refusal (snow 75000 s 1000 0)) (0 ∷ 499 ∷ 500 ∷ 1000 ∷ 1001 ∷ 99999 ∷ [])) (19 ∷ 19 ∷ 10 ∷ 0 ∷ 19 ∷ 19 ∷ [])
+    ∷ fact (map (λ k. refusal (snow 75000 1000 k 0)) (0 ∷ 499 ∷ 500 ∷ 1000 ∷ 1001 ∷ 99999 ∷ [])) (19 ∷ 19 ∷ 0 ∷ 0 ∷ 19 ∷ 19 ∷ [])
+    ∷ fact (map (λ s. refusal (on_multilane 60000 s 1000)) (999 ∷ 1000 ∷ 1001 ∷ [])) (19 ∷ 0 ∷ 19 ∷ [])
+    ∷ fact (map (λ k. refusal (on_multilane 60000 1000 k)) (999 ∷ 1000 ∷ 1001 ∷ [])) (19 ∷ 0 ∷ 19 ∷ [])
+    ∷ fact (refusal (on_multilane 30000 1000 999) ∷ refusal (on_multilane 30000 1000 1000) ∷ []) (19 ∷ 10 ∷ [])
+    ∷ order_facts
   where
     -- F, given: speed, speed factor, capacity factor, demand
     snow : ℕ → ℕ → ℕ → ℕ → Case
@@ -163,69 +163,69 @@ weather_figures =
     on_multilane f s k = two_lanes_under (factors s k) (given Kind.Multilane f 120) 0
 
 -- F with such clearances and by the lanes; the worst road fields, which take off nothing from a given speed.
-unfoldable pub speed_figures : List Figure
-speed_figures =
-    figure (free_flow_speed_of (road Kind.Multilane Way.Estimated 60000 120 30 7 Median.Undivided 0) 2 ∷ []) (57750 ∷ [])
-    ∷ figure (free_flow_speed_of (road Kind.Multilane Way.Estimated 60000 120 30 7 Median.TwoWayLeftTurnLane 0) 2 ∷ []) (59350 ∷ [])
-    ∷ figure (map (free_flow_speed_of (road Kind.Freeway Way.Estimated 75000 120 0 0 Median.Divided 0)) (2 ∷ 3 ∷ 4 ∷ 5 ∷ []))
+unfoldable pub speed_facts : List Fact
+speed_facts =
+    fact (free_flow_speed_of (road Kind.Multilane Way.Estimated 60000 120 30 7 Median.Undivided 0) 2 ∷ []) (57750 ∷ [])
+    ∷ fact (free_flow_speed_of (road Kind.Multilane Way.Estimated 60000 120 30 7 Median.TwoWayLeftTurnLane 0) 2 ∷ []) (59350 ∷ [])
+    ∷ fact (map (free_flow_speed_of (road Kind.Freeway Way.Estimated 75000 120 0 0 Median.Divided 0)) (2 ∷ 3 ∷ 4 ∷ 5 ∷ []))
     (71400 ∷ 72600 ∷ 73800 ∷ 74400 ∷ [])
-    ∷ figure (map (free_flow_speed_of (road Kind.Multilane Way.Estimated 70000 100 0 0 Median.Divided 200)) (2 ∷ 3 ∷ [])) (48000 ∷ 49500 ∷ [])
-    ∷ figure (free_flow_speed_of (road Kind.Freeway Way.Given 60000 100 0 0 Median.Divided 48) 2 ∷ []) (60000 ∷ [])
-    ∷ figure (free_flow_speed_of (road Kind.Multilane Way.Given 60000 100 0 0 Median.Undivided 200) 2 ∷ []) (60000 ∷ [])
-    ∷ weather_figures
+    ∷ fact (map (free_flow_speed_of (road Kind.Multilane Way.Estimated 70000 100 0 0 Median.Divided 200)) (2 ∷ 3 ∷ [])) (48000 ∷ 49500 ∷ [])
+    ∷ fact (free_flow_speed_of (road Kind.Freeway Way.Given 60000 100 0 0 Median.Divided 48) 2 ∷ []) (60000 ∷ [])
+    ∷ fact (free_flow_speed_of (road Kind.Multilane Way.Given 60000 100 0 0 Median.Undivided 200) 2 ∷ []) (60000 ∷ [])
+    ∷ weather_facts
 
 -- Ramps (document 02, T-08): the terms of the fewest and the most, and of 10 and 36, whose exact terms, 4,945.48 and 14,504.51, are nearest
 -- a half; with 24, the bases whose estimate is the lower end of F, one less, the upper end, one less and one more; 10 refuses the second.
-unfoldable pub ramp_figures : List Figure
-ramp_figures =
-    figure (map ramp_term (1 ∷ 10 ∷ 36 ∷ 48 ∷ [])) (715 ∷ 4945 ∷ 14505 ∷ 18469 ∷ [])
-    ∷ figure (map (λ base. free_flow_speed_of (ramps base) 2) (65318 ∷ 65317 ∷ 85318 ∷ 85317 ∷ 85319 ∷ []))
+unfoldable pub ramp_facts : List Fact
+ramp_facts =
+    fact (map ramp_term (1 ∷ 10 ∷ 36 ∷ 48 ∷ [])) (715 ∷ 4945 ∷ 14505 ∷ 18469 ∷ [])
+    ∷ fact (map (λ base. free_flow_speed_of (ramps base) 2) (65318 ∷ 65317 ∷ 85318 ∷ 85317 ∷ 85319 ∷ []))
     (55000 ∷ 54999 ∷ 75000 ∷ 74999 ∷ 75000 ∷ [])
-    ∷ figure (map (λ base. refusal (two_lanes (ramps base) 1000)) (65318 ∷ 65317 ∷ [])) (0 ∷ 10 ∷ [])
-    ∷ speed_figures
+    ∷ fact (map (λ base. refusal (two_lanes (ramps base) 1000)) (65318 ∷ 65317 ∷ [])) (0 ∷ 10 ∷ [])
+    ∷ speed_facts
   where
     ramps : ℕ → Road
     ramps base = road Kind.Freeway Way.Estimated base 120 60 60 Median.Divided 24
 
 -- Clearances between the table's entries, at its ends and past them (document 02, T-02).
-unfoldable pub clearance_figures : List Figure
-clearance_figures =
-    figure (right_off 0) (3600 ∷ 2400 ∷ 1200 ∷ 600 ∷ 600 ∷ 600 ∷ 600 ∷ [])
-    ∷ figure (right_off 61) (0 ∷ 0 ∷ 0 ∷ 0 ∷ 0 ∷ 0 ∷ 0 ∷ [])
-    ∷ figure (right_off 400) (0 ∷ 0 ∷ 0 ∷ 0 ∷ 0 ∷ 0 ∷ 0 ∷ [])
-    ∷ figure (total_off Median.Divided 38 45) (825 ∷ 825 ∷ [])
-    ∷ figure (total_off Median.Divided 25 25) (1550 ∷ 1500 ∷ [])
-    ∷ figure (total_off Median.Divided 0 0) (5400 ∷ 3900 ∷ [])
-    ∷ figure (total_off Median.Divided 1 0) (5310 ∷ 3845 ∷ [])
-    ∷ figure (total_off Median.Undivided 30 7) (650 ∷ 650 ∷ [])
-    ∷ figure (total_off Median.TwoWayLeftTurnLane 400 0) (0 ∷ 0 ∷ [])
-    ∷ figure (total_off Median.Undivided 400 0) (0 ∷ 0 ∷ [])
-    ∷ figure (total_off Median.Divided 400 0) (1300 ∷ 1300 ∷ [])
-    ∷ figure (total_off Median.Divided 0 400) (1300 ∷ 1300 ∷ [])
-    ∷ ramp_figures
+unfoldable pub clearance_facts : List Fact
+clearance_facts =
+    fact (right_off 0) (3600 ∷ 2400 ∷ 1200 ∷ 600 ∷ 600 ∷ 600 ∷ 600 ∷ [])
+    ∷ fact (right_off 61) (0 ∷ 0 ∷ 0 ∷ 0 ∷ 0 ∷ 0 ∷ 0 ∷ [])
+    ∷ fact (right_off 400) (0 ∷ 0 ∷ 0 ∷ 0 ∷ 0 ∷ 0 ∷ 0 ∷ [])
+    ∷ fact (total_off Median.Divided 38 45) (825 ∷ 825 ∷ [])
+    ∷ fact (total_off Median.Divided 25 25) (1550 ∷ 1500 ∷ [])
+    ∷ fact (total_off Median.Divided 0 0) (5400 ∷ 3900 ∷ [])
+    ∷ fact (total_off Median.Divided 1 0) (5310 ∷ 3845 ∷ [])
+    ∷ fact (total_off Median.Undivided 30 7) (650 ∷ 650 ∷ [])
+    ∷ fact (total_off Median.TwoWayLeftTurnLane 400 0) (0 ∷ 0 ∷ [])
+    ∷ fact (total_off Median.Undivided 400 0) (0 ∷ 0 ∷ [])
+    ∷ fact (total_off Median.Divided 400 0) (1300 ∷ 1300 ∷ [])
+    ∷ fact (total_off Median.Divided 0 400) (1300 ∷ 1300 ∷ [])
+    ∷ ramp_facts
 
 -- Of a case that is accepted 0, and then letter, F, c, v, speed and density, of one that is refused its number. A is 1 and F is 6.
 -- Starred in document 01: all down to the right clearance of 59, which takes off 60 by document 02; by document 02 the printed line and 24
 -- ramps have other figures too. Not starred: no demand; two letters that the shown speed would miss; a case that breaks 1 and 2; the curve
 -- of a case and its refusal; more clearances; ramps; snow and rain; the order of refusals; the ends that they leave.
-unfoldable pub boundary_figures : List Figure
-boundary_figures =
-    figure (assessed example) (0 ∷ 3 ∷ 60782 ∷ 230782 ∷ 1196 ∷ 60782 ∷ 197 ∷ [])
-    ∷ figure (ramp_term 6 ∷ ramp_term 24 ∷ ramp_term 0 ∷ []) (3220 ∷ 10318 ∷ 0 ∷ [])
-    ∷ figure (density_and_letter Kind.Freeway 75000 825) (110 ∷ 1 ∷ [])
-    ∷ figure (density_and_letter Kind.Freeway 75000 826) (111 ∷ 2 ∷ [])
-    ∷ figure (assessed (two_lanes (given Kind.Freeway 55000 120) 4500)) (0 ∷ 5 ∷ 55000 ∷ 225000 ∷ 2250 ∷ 50000 ∷ 450 ∷ [])
-    ∷ figure (assessed (two_lanes (given Kind.Freeway 55000 120) 4501)) (0 ∷ 6 ∷ 55000 ∷ 225000 ∷ 2251 ∷ 0 ∷ 0 ∷ [])
-    ∷ figure (assessed (two_lanes (given Kind.Freeway 54999 120) 4500)) (10 ∷ [])
-    ∷ figure (assessed (two_lanes (given Kind.Multilane 60000 120) 2800)) (0 ∷ 3 ∷ 60000 ∷ 220000 ∷ 1400 ∷ 60000 ∷ 234 ∷ [])
-    ∷ figure (assessed (two_lanes (given Kind.Multilane 60000 120) 3600)) (0 ∷ 4 ∷ 60000 ∷ 220000 ∷ 1800 ∷ 55518 ∷ 325 ∷ [])
-    ∷ figure (power 500 ∷ []) (403321 ∷ [])
-    ∷ figure (free_flow_speed_of (multilane Median.Divided) 2 ∷ free_flow_speed_of (multilane Median.Undivided) 2 ∷ []) (54300 ∷ 53600 ∷ [])
-    ∷ figure (right_off 59) (60 ∷ 40 ∷ 20 ∷ 10 ∷ 10 ∷ 10 ∷ 10 ∷ [])
-    ∷ figure (assessed (two_lanes (given Kind.Freeway 55000 120) 0)) (0 ∷ 1 ∷ 55000 ∷ 225000 ∷ 0 ∷ 55000 ∷ 0 ∷ [])
-    ∷ figure (assessed (two_lanes (given Kind.Freeway 55052 120) 3830)) (0 ∷ 4 ∷ 55052 ∷ 225052 ∷ 1915 ∷ 54714 ∷ 350 ∷ [])
-    ∷ figure (assessed (two_lanes (given Kind.Multilane 45000 120) 3800)) (0 ∷ 5 ∷ 45000 ∷ 190000 ∷ 1900 ∷ 42222 ∷ 450 ∷ [])
-    ∷ figure (assessed (two_lanes (given Kind.Freeway 0 0) 0)) (1 ∷ [])
-    ∷ figure (checked_as (two_lanes (given Kind.Freeway 55000 120) 0)) (0 ∷ 55000 ∷ 225000 ∷ 180000 ∷ [])
-    ∷ figure (checked_as (two_lanes (given Kind.Freeway 54999 120) 0)) (10 ∷ [])
-    ∷ clearance_figures
+unfoldable pub boundary_facts : List Fact
+boundary_facts =
+    fact (assessed example) (0 ∷ 3 ∷ 60782 ∷ 230782 ∷ 1196 ∷ 60782 ∷ 197 ∷ [])
+    ∷ fact (ramp_term 6 ∷ ramp_term 24 ∷ ramp_term 0 ∷ []) (3220 ∷ 10318 ∷ 0 ∷ [])
+    ∷ fact (density_and_letter Kind.Freeway 75000 825) (110 ∷ 1 ∷ [])
+    ∷ fact (density_and_letter Kind.Freeway 75000 826) (111 ∷ 2 ∷ [])
+    ∷ fact (assessed (two_lanes (given Kind.Freeway 55000 120) 4500)) (0 ∷ 5 ∷ 55000 ∷ 225000 ∷ 2250 ∷ 50000 ∷ 450 ∷ [])
+    ∷ fact (assessed (two_lanes (given Kind.Freeway 55000 120) 4501)) (0 ∷ 6 ∷ 55000 ∷ 225000 ∷ 2251 ∷ 0 ∷ 0 ∷ [])
+    ∷ fact (assessed (two_lanes (given Kind.Freeway 54999 120) 4500)) (10 ∷ [])
+    ∷ fact (assessed (two_lanes (given Kind.Multilane 60000 120) 2800)) (0 ∷ 3 ∷ 60000 ∷ 220000 ∷ 1400 ∷ 60000 ∷ 234 ∷ [])
+    ∷ fact (assessed (two_lanes (given Kind.Multilane 60000 120) 3600)) (0 ∷ 4 ∷ 60000 ∷ 220000 ∷ 1800 ∷ 55518 ∷ 325 ∷ [])
+    ∷ fact (power 500 ∷ []) (403321 ∷ [])
+    ∷ fact (free_flow_speed_of (multilane Median.Divided) 2 ∷ free_flow_speed_of (multilane Median.Undivided) 2 ∷ []) (54300 ∷ 53600 ∷ [])
+    ∷ fact (right_off 59) (60 ∷ 40 ∷ 20 ∷ 10 ∷ 10 ∷ 10 ∷ 10 ∷ [])
+    ∷ fact (assessed (two_lanes (given Kind.Freeway 55000 120) 0)) (0 ∷ 1 ∷ 55000 ∷ 225000 ∷ 0 ∷ 55000 ∷ 0 ∷ [])
+    ∷ fact (assessed (two_lanes (given Kind.Freeway 55052 120) 3830)) (0 ∷ 4 ∷ 55052 ∷ 225052 ∷ 1915 ∷ 54714 ∷ 350 ∷ [])
+    ∷ fact (assessed (two_lanes (given Kind.Multilane 45000 120) 3800)) (0 ∷ 5 ∷ 45000 ∷ 190000 ∷ 1900 ∷ 42222 ∷ 450 ∷ [])
+    ∷ fact (assessed (two_lanes (given Kind.Freeway 0 0) 0)) (1 ∷ [])
+    ∷ fact (checked_as (two_lanes (given Kind.Freeway 55000 120) 0)) (0 ∷ 55000 ∷ 225000 ∷ 180000 ∷ [])
+    ∷ fact (checked_as (two_lanes (given Kind.Freeway 54999 120) 0)) (10 ∷ [])
+    ∷ clearance_facts

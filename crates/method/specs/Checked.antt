@@ -32,6 +32,6 @@ abbrev pub checked : Case → Result Curve Refusal
 checked case = ok_unless (refusal case) (case_curve case)
 
 -- F, c and b; of a refusal no value
-abbrev pub values : Result Curve Refusal → List ℕ
-values (Ok curve) = curve.free_flow_speed ∷ curve.capacity ∷ curve.breakpoint ∷ []
-values (Err r) = []
+abbrev pub curve_figures : Result Curve Refusal → List ℕ
+curve_figures (Ok curve) = curve.free_flow_speed ∷ curve.capacity ∷ curve.breakpoint ∷ []
+curve_figures (Err r) = []

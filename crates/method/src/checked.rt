@@ -17,13 +17,13 @@ pub fn checked_curve(fit: &FitRoad, weather: Weather, lanes: u64) -> Result<Curv
     requires { FactorsFit fit.now.road.kind weather }
     ensures { result ≡ checked_curve fit.now.road weather lanes }
 {
-    let figures = fit.road.kind.figures();
+    let limits = fit.road.kind.limits();
     let speed = fit.free_flow_speed(lanes);
-    if speed < figures.lowest_speed {
+    if speed < limits.lowest_speed {
         return Err(Refusal::SpeedBelowLowerEnd);
     }
     let curve = Curve::under(weather, fit.road.kind, speed);
-    if curve.free_flow_speed < figures.lowest_adjusted_speed {
+    if curve.free_flow_speed < limits.lowest_adjusted_speed {
         return Err(Refusal::SpeedBelowLowerEnd);
     }
     Ok(curve)

@@ -1,4 +1,4 @@
 -- The laws of the definitions in specs/, a file for each.
 pub mod RefusalLaws
 pub mod NumberLaws
-pub mod FigureLaws
+pub mod FactLaws

@@ -4,4 +4,4 @@ pub mod Refusals
 -- the documents' number of each refusal, and an answer or its refusal
 pub mod Numbers
 -- figures of boundary sections
-pub mod Figures
+pub mod Facts

@@ -11,7 +11,7 @@ use Rattle.text.proofs.RowLaws.{row_text-length, row_text-one, figures_text-mono
 use Rattle.road.specs.declared.Case.{Case}
 use Rattle.method.specs.Refusals.{refusal}
 use Rattle.answer.specs.declared.evaluate.Grade.{Grade}
-use Rattle.answer.specs.Answers.{graded, answer_to, values}
+use Rattle.answer.specs.Answers.{graded, answer_to, grade_figures}
 use Rattle.answer.specs.Laws.{figure_ends}
 use Rattle.answer.proofs.Laws.{figures-within-ends}
 use Rattle.answer.proofs.AnswerLaws.{answer_to-accepted}
@@ -50,7 +50,7 @@ pub answer_text-le : (case : Case) → length (answer_text (answer_to case)) ≤
 unfolding text_of
 answer_text-le case =
     ok_unless-by (refusal case) (graded case) (λ a. length (answer_text a) ≤ longest_answer)
-    (λ a. figures-le 0 (values (Ok (graded case))) (rw (answer_to-accepted case a) at (figures-within-ends case a)))
+    (λ a. figures-le 0 (grade_figures (Ok (graded case))) (rw (answer_to-accepted case a) at (figures-within-ends case a)))
     (λ p. refusal_text-le (number (refusal_of (refusal case))))
 
 -- line_text-le, line_text-pos: so has what is printed for a line, and it is not empty

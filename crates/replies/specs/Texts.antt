@@ -3,7 +3,7 @@ use Rattle.std.specs.Prelude.{ℕ, ◌+◌, ◌-◌, Result, Ok, Err, List, [], 
 use Prim.Native.Char.{code}
 use Rattle.text.specs.Decimal.{row_text}
 use Rattle.answer.specs.declared.evaluate.Grade.{Grade}
-use Rattle.answer.specs.Answers.{answer_to, values}
+use Rattle.answer.specs.Answers.{answer_to, grade_figures}
 use Rattle.road.specs.declared.Case.{Case}
 use Rattle.refusals.specs.declared.Refusal.{Refusal}
 use Rattle.refusals.specs.Numbers.{refusal_number}
@@ -26,7 +26,7 @@ text_of number (letter ∷ figures) = row_text (letter_byte letter) figures
 
 -- what `los` prints for an answer
 abbrev pub answer_text : Result Grade Refusal → List ℕ
-answer_text a = text_of (refusal_number a) (values a)
+answer_text a = text_of (refusal_number a) (grade_figures a)
 
 -- 64 bytes have room for any answer
 abbrev pub longest_answer : ℕ

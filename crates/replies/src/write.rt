@@ -34,7 +34,7 @@ pub fn write_grade(grade: &Grade, out: &mut [u8]) -> usize
     requires { length (answer_text (Ok grade.now)) ≤ length out.old }
     ensures { Wrote (answer_text (Ok grade.now)) out.old out.new result }
 {
-    text::decimal::put_row(letter_byte(grade.letter), &grade.values()[1..], out)
+    text::decimal::put_row(letter_byte(grade.letter), &grade.figures()[1..], out)
 }
 
 #[tactic(auto, using(text::proofs::RowLaws::pieces), unfolding(crate::specs::Texts::refusal_text))]

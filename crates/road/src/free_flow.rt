@@ -59,6 +59,6 @@ impl FitRoad {
         ensures { result ≡ free_flow_speed_of self.now.road lanes }
     {
         self.uncapped_speed(lanes)
-            .min(self.road.kind.figures().highest_speed)
+            .min(self.road.kind.limits().highest_speed)
     }
 }

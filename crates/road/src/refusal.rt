@@ -33,7 +33,7 @@ fn most_access(kind: Kind) -> u64
 fn weather_unfit(kind: Kind, weather: Weather) -> bool
     ensures { result ≡ weather_unfit kind weather }
 {
-    let fit = kind.figures().lowest_factor..=1_000;
+    let fit = kind.limits().lowest_factor..=1_000;
     !fit.contains(&weather.speed_factor) || !fit.contains(&weather.capacity_factor)
 }
 
@@ -69,8 +69,8 @@ impl Case {
         ensures { refusal_number result ≡ first_refusal (section_refusals self.now) }
     {
         self.road.check()?;
-        let figures = self.road.kind.figures();
-        if !(figures.fewest_lanes..=figures.most_lanes).contains(&self.lanes) {
+        let limits = self.road.kind.limits();
+        if !(limits.fewest_lanes..=limits.most_lanes).contains(&self.lanes) {
             return Err(Refusal::LanesNotOfTheKind);
         }
         Ok(())

@@ -2,10 +2,10 @@
 use Rattle.std.specs.Prelude.{true, false, List, [], ◌∷◌, ℕ, pos, negsuc, Float}
 use Rattle.std.specs.Float.{nan, inf, fin}
 use Rattle.refusals.specs.Numbers.{refusal_number}
-use Rattle.refusals.specs.Figures.{Figure, figure}
+use Rattle.refusals.specs.Facts.{Fact, fact}
 use Rattle.survey.specs.declared.SurveyedSpeed.{SurveyedSpeed}
 use Rattle.survey.specs.declared.Survey.{Survey}
-use Rattle.survey.specs.Survey.{survey_answer, values}
+use Rattle.survey.specs.Survey.{survey_answer, survey_figures}
 
 -- a survey of that speed with the fewest cars and the greatest flow that are accepted
 abbrev pub survey_of : SurveyedSpeed → Survey
@@ -17,24 +17,24 @@ miles x = survey_of (SurveyedSpeed.MilesPerHour x)
 
 -- the number of the answer's refusal, 0 for none, and its values
 abbrev answered : Survey → List ℕ
-answered survey = refusal_number (survey_answer survey) ∷ values (survey_answer survey)
+answered survey = refusal_number (survey_answer survey) ∷ survey_figures (survey_answer survey)
 
 -- the list
 -- Of a survey that is accepted 0 and the speed, of one that is refused its number. A float is written m × 2 ^ e with an odd m: 100 is
 -- 25 × 2 ^ 2. Starred: 100.0 km/h. Not starred: 30 and 90 mi/h; the float below 30 mi/h; 99 cars with a flow of 1,000 and NaN; a flow of
 -- 1,000 with NaN; NaN, both infinities, -0, -100 and the least float above 0.
-unfoldable pub survey_figures : List Figure
-survey_figures =
-    figure (answered (survey_of (SurveyedSpeed.KilometresPerHour (fin false 25 (pos 2))))) (0 ∷ 62137 ∷ [])
-    ∷ figure (answered (miles (fin false 15 (pos 1)))) (0 ∷ 30000 ∷ [])
-    ∷ figure (answered (miles (fin false 45 (pos 1)))) (0 ∷ 90000 ∷ [])
-    ∷ figure (answered (miles (fin false 15728639 (negsuc 18)))) (13 ∷ [])
-    ∷ figure (answered (record { speed = SurveyedSpeed.MilesPerHour nan; cars = 99; flow = 1000 })) (11 ∷ [])
-    ∷ figure (answered (record { speed = SurveyedSpeed.MilesPerHour nan; cars = 100; flow = 1000 })) (12 ∷ [])
-    ∷ figure (answered (miles nan)) (13 ∷ [])
-    ∷ figure (answered (miles (inf false))) (13 ∷ [])
-    ∷ figure (answered (miles (inf true))) (13 ∷ [])
-    ∷ figure (answered (miles (fin true 0 (pos 0)))) (13 ∷ [])
-    ∷ figure (answered (miles (fin true 25 (pos 2)))) (13 ∷ [])
-    ∷ figure (answered (miles (fin false 1 (negsuc 148)))) (13 ∷ [])
+unfoldable pub survey_facts : List Fact
+survey_facts =
+    fact (answered (survey_of (SurveyedSpeed.KilometresPerHour (fin false 25 (pos 2))))) (0 ∷ 62137 ∷ [])
+    ∷ fact (answered (miles (fin false 15 (pos 1)))) (0 ∷ 30000 ∷ [])
+    ∷ fact (answered (miles (fin false 45 (pos 1)))) (0 ∷ 90000 ∷ [])
+    ∷ fact (answered (miles (fin false 15728639 (negsuc 18)))) (13 ∷ [])
+    ∷ fact (answered (record { speed = SurveyedSpeed.MilesPerHour nan; cars = 99; flow = 1000 })) (11 ∷ [])
+    ∷ fact (answered (record { speed = SurveyedSpeed.MilesPerHour nan; cars = 100; flow = 1000 })) (12 ∷ [])
+    ∷ fact (answered (miles nan)) (13 ∷ [])
+    ∷ fact (answered (miles (inf false))) (13 ∷ [])
+    ∷ fact (answered (miles (inf true))) (13 ∷ [])
+    ∷ fact (answered (miles (fin true 0 (pos 0)))) (13 ∷ [])
+    ∷ fact (answered (miles (fin true 25 (pos 2)))) (13 ∷ [])
+    ∷ fact (answered (miles (fin false 1 (negsuc 148)))) (13 ∷ [])
     ∷ []

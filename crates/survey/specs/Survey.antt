@@ -79,6 +79,6 @@ abbrev pub survey_answer : Survey → Result ℕ Refusal
 survey_answer survey = ok_unless (first_refusal (survey_refusals survey)) (thousandths_in (rounded_speed survey.speed))
 
 -- the speed; of a refusal no value
-abbrev pub values : Result ℕ Refusal → List ℕ
-values (Ok n) = n ∷ []
-values (Err r) = []
+abbrev pub survey_figures : Result ℕ Refusal → List ℕ
+survey_figures (Ok n) = n ∷ []
+survey_figures (Err r) = []
