@@ -63,6 +63,12 @@ impl Kind {
 }
 
 impl Weather {
+    /// Both factors 1,000.
+    pub const CLEAR: Weather = Weather {
+        speed_factor: 1_000,
+        capacity_factor: 1_000,
+    };
+
     #[tactic(auto, unfolding(crate::specs::Weather::adjusted_speed))]
     fn adjusted_speed(self, speed: u64) -> u64
         requires speed_high { speed ≤ 75000 }

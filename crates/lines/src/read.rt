@@ -13,12 +13,6 @@ use road::{Case, Road};
 /// "Longer than 80 bytes is malformed"
 pub const LONGEST_LINE: usize = 80;
 
-/// "Lines of 13 fields mean 1,000 for both"
-const CLEAR: Weather = Weather {
-    speed_factor: 1_000,
-    capacity_factor: 1_000,
-};
-
 impl<'a> Fields<'a> {
     /// Left out, or both factors.
     #[inline(always)]
@@ -27,7 +21,7 @@ impl<'a> Fields<'a> {
         ensures { Reads (drop 13 layout) (option_map weather_values result) (or_clear (left self.old)) (left self.new) }
     {
         match self.rest {
-            None => Some(CLEAR),
+            None => Some(Weather::CLEAR),
             Some(_) => Some(Weather {
                 speed_factor: self.number()?,
                 capacity_factor: self.number()?,

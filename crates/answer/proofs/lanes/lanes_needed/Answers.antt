@@ -22,7 +22,7 @@ returns-in_err-check_fields c =
 pub loop-lanes-init : goal.loop-lanes-init
 loop-lanes-init c =
     let a = c.args in
-    let low = c.figures-figures.ensures.fewest_lanes in
+    let low = c.limits-limits.ensures.fewest_lanes in
     (omega (arith, low), λ k h t. absurd (omega (arith, low, meets-of-kind (with_lanes a.case k) a.letter t)))
 
 pub invariant_of-fit : goal.invariant_of-fit
@@ -34,7 +34,7 @@ lanes_meet-requires c =
     record {
       asking = record {
         fields = fields-with_lanes c.args.case l.lanes (sym c.in_ok-check_fields.ensures) l.invariant.0
-            (omega (arith, c.loop-lanes-test.true, c.figures-figures.ensures.most_lanes));
+            (omega (arith, c.loop-lanes-test.true, c.limits-limits.ensures.most_lanes));
         letter-low = search rules;
         letter-high = search rules;
       };
@@ -45,7 +45,7 @@ pub returns-then-lanes_meet : goal.returns-then-lanes_meet
 returns-then-lanes_meet c =
     let a = c.args in
     let l = c.loop-lanes in
-    let within : l.lanes ≤ most_lanes a.case.road.kind = omega (arith, c.loop-lanes-test.true, c.figures-figures.ensures.most_lanes) in
+    let within : l.lanes ≤ most_lanes a.case.road.kind = omega (arith, c.loop-lanes-test.true, c.limits-limits.ensures.most_lanes) in
     let own = lanes_found-eq a.case a.letter l.lanes within (T-true _ (sym c.lanes_meet.ensures ∙ c.if-lanes_meet.true)) l.invariant.1 in
     sym
     (lanes_answer-found a.case a.letter (search rules) (search rules) (sym c.in_ok-check_fields.ensures) (omega (arith, own, within))
@@ -58,4 +58,4 @@ returns-else-lanes_meet c =
     let none : (k : ℕ) → k < l.lanes + 1 → T (lanes_meet a.case a.letter k) → ⊥ =
     below_more _ _ l.invariant.1 (T-false _ (sym c.lanes_meet.ensures ∙ c.if-lanes_meet.false)) in
     sym (lanes_answer-none a.case a.letter (search rules) (search rules) (sym c.in_ok-check_fields.ensures)
-    (omega (arith, lanes_found-none a.case a.letter (λ k h. none k (omega (arith, h, c.figures-figures.ensures.most_lanes))))))
+    (omega (arith, lanes_found-none a.case a.letter (λ k h. none k (omega (arith, h, c.limits-limits.ensures.most_lanes))))))

@@ -3,4 +3,4 @@ use Rattle.text.proofs.BufferLaws.{then}
 use Rattle.daily.proofs.DailyGrade.put_figures.Goals as goal
 
 pub returns : goal.returns
-returns c = then (rw c.values.ensures at c.put_numbers-count.ensures) c.put_numbers.ensures
+returns c = then (rw c.figures.ensures at c.put_numbers-count.ensures) c.put_numbers.ensures
