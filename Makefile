@@ -1,6 +1,7 @@
 # make run      answers the lines of examples/sections.tsv with the program los
 # make test     proves everything and tries every must-fail edit (rt ci), then tests the library and the program that were proved
-# make full     compares every curve of clear weather, every float and every multilane speed with the second implementation
+# make full     compares every curve of clear weather, every float and every multilane speed with the second implementation, and looks
+#               where the freeway speed falls as free-flow speed rises under snow or rain
 # make tables   writes the constant tables anew
 # make vectors  writes the answers of the vectors anew, as the second implementation has them
 # make bench    times los and the calls against plain C on a million made lines; RUNS=n sets how often, BEFORE=path adds another los
@@ -13,7 +14,7 @@ CFLAGS = -std=c11 -Wall -Wextra -Werror -O2
 SOURCES = $(shell find crates -name out -prune -o \( -name "*.rt" -o -name "*.antt" \) -print) crates.txt
 LIBRARY = target/staticlib/libmarehour.a
 PROGRAM = target/bin/los
-TESTS = tables references calls widening yearly stream compare compare-los published
+TESTS = tables references promises calls widening yearly stream compare compare-los published
 
 # Plain C is compiled by gcc, and by clang too where it is installed.
 BENCH = $(BUILD)/bench
@@ -21,23 +22,32 @@ PLAIN = $(patsubst %,$(BENCH)/plain-%,gcc $(if $(shell command -v clang),clang))
 PLAINFLAGS = -std=c11 -Wall -Wextra -Werror -O3 -I$(BENCH)
 TABLES = $(BENCH)/powers.inc $(BENCH)/ramps.inc
 
-.PHONY: run test prove tests $(TESTS:%=test-%) full tables vectors bench clean
+.PHONY: run test prove library tests $(TESTS:%=test-%) full tables vectors bench clean
 
 run: $(PROGRAM)
 	@$(PROGRAM) < examples/sections.tsv
 
-# The last line is the verdict of rt ci, shown only where every test has passed.
+# The last line is the verdict of rt ci, shown only where every test has passed too. The library is built beside rt ci; the program is the one
+# that rt ci proved and built.
 test:
-	@$(MAKE) --no-print-directory prove
+	@$(MAKE) --no-print-directory -j2 prove library
+	@cp crates/los/out/los $(PROGRAM)
 	@$(MAKE) --no-print-directory -j$(shell nproc) --output-sync tests
 	@tail -n 1 $(BUILD)/ci.log
 
 # What rt ci prints is shown as it comes, all but the last line, which is shown here where rt ci fails. rt ci passes where an edit can't be
 # applied or read, and tells it as ", N bad" on its line rt: ok; that fails here.
 prove:
-	@mkdir -p $(BUILD)
+	@mkdir -p $(BUILD) $(dir $(PROGRAM))
 	rt ci 2>&1 | tee $(BUILD)/ci.log | sed -u '$$d' || { tail -n 1 $(BUILD)/ci.log; exit 1; }
 	@! grep -E '^rt: ok.*, [0-9]+ bad' $(BUILD)/ci.log || { echo "an edit is bad"; exit 1; }
+
+# In a copy of the crates, since rt ci sets aside what other commands leave in crates/*/out. It takes the processors that rt ci leaves.
+library:
+	@mkdir -p $(BUILD) $(dir $(LIBRARY))
+	@room=$$(mktemp -d) && trap 'rm -rf '"$$room" EXIT && tar -c --exclude=out crates crates.txt | tar -x -C $$room \
+	&& cd $$room/crates/marehour && nice rt lib < /dev/null > $(CURDIR)/$(BUILD)/rt-marehour.log 2>&1 || { cat $(CURDIR)/$(BUILD)/rt-marehour.log; exit 1; }; \
+	cp $$room/crates/marehour/out/libmarehour.a $(CURDIR)/$(LIBRARY)
 
 # Each test builds what it runs; make test has them side by side.
 tests: $(TESTS:%=test-%)
@@ -45,7 +55,7 @@ tests: $(TESTS:%=test-%)
 test-tables: $(BUILD)/tables
 	$< check
 
-test-references: $(BUILD)/references
+test-references test-promises: test-%: $(BUILD)/%
 	$<
 
 test-calls: $(BUILD)/calls
@@ -70,6 +80,7 @@ full: $(BUILD)/compare
 	$(BUILD)/compare full-curves
 	$(BUILD)/compare full-floats
 	$(BUILD)/compare full-distances
+	$(BUILD)/compare full-weather
 
 tables: $(BUILD)/tables
 	$(BUILD)/tables write
@@ -77,11 +88,13 @@ tables: $(BUILD)/tables
 vectors: $(BUILD)/compare
 	$(BUILD)/compare write-vectors
 
-# Proves a crate, over what earlier checks kept, builds it, and puts what it built where it belongs: COMMAND CRATE FILE.
+# Proves a crate, over what earlier checks kept, builds it, and puts what it built where it belongs: COMMAND CRATE FILE. Each crate below it
+# that is still to be proved is told.
 define rt
 @mkdir -p $(BUILD) $(dir $@)
-@echo "rt $(1) $(2)" >&2
-@cd crates/$(2) && rt $(1) < /dev/null > ../../$(BUILD)/rt-$(2).log 2>&1 || { cat ../../$(BUILD)/rt-$(2).log; exit 1; }
+@echo "rt $(1) $(2): proves what is new of it and of the crates below, from nothing in some minutes" >&2
+@cd crates/$(2) && rt $(1) < /dev/null 2>&1 | tee ../../$(BUILD)/rt-$(2).log | sed -un 's/^rt: chose --jobs [0-9]* for /  proving /p' >&2 \
+|| { cat ../../$(BUILD)/rt-$(2).log; exit 1; }
 @cp crates/$(2)/out/$(3) $@
 endef
 
@@ -129,7 +142,7 @@ $(BENCH)/lines.tsv: $(BENCH)/generate
 	$< > $@
 
 # The engine's own tables, as C reads them: the lines of numbers.
-$(BENCH)/powers.inc: crates/powers/src/table.rt
+$(BENCH)/powers.inc: crates/curve/src/power_table.rt
 $(BENCH)/ramps.inc: crates/road/src/ramp_table.rt
 $(TABLES):
 	@mkdir -p $(BENCH)

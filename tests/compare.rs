@@ -7,6 +7,7 @@
 //   compare full-curves   every free-flow speed with every flow rate up to capacity and one more
 //   compare full-floats   every float in both units
 //   compare full-distances  every multilane speed past the breakpoint beside the manual's curve, by whole powers
+//   compare full-weather  every freeway curve under a capacity factor beside that of the next free-flow speed: where the speed falls
 //   compare los PATH      random lines through the program los
 //   compare write-vectors writes the vectors anew, as the second implementation answers them, at the project's root
 //
@@ -19,6 +20,7 @@ mod compare {
     pub mod distances;
     pub mod draw;
     pub mod engine;
+    pub mod falls;
     pub mod floats;
     pub mod forecasts;
     pub mod laws;
@@ -43,7 +45,7 @@ use compare::paper::Paper;
 use compare::random::Random;
 use compare::tally::{Outcomes, Tally};
 use compare::tries::Tries;
-use compare::{curves, distances, floats, laws, los, printed, traps, vectors};
+use compare::{curves, distances, falls, floats, laws, los, printed, traps, vectors};
 use second::method::{Kind, Method};
 use second::survey::Unit;
 use std::process::exit;
@@ -200,13 +202,14 @@ fn main() {
         ["full-curves"] => full_curves(&mut total),
         ["full-floats"] => full_floats(&mut total),
         ["full-distances"] => group(&mut total, "distances from the curve", distances::full),
+        ["full-weather"] => group(&mut total, "falls of the speed under weather", falls::full),
         ["los", path] => {
             let method = &Method::new();
             group(&mut total, "lines through los", || filled(|tally| los::random_lines(method, &mut Draw(SEED + 4), tally, path)));
         }
         ["write-vectors"] => return vectors::write(&Method::new()),
         _ => {
-            println!("usage: compare quick | full-curves | full-floats | full-distances | los PATH | write-vectors");
+            println!("usage: compare quick | full-curves | full-floats | full-distances | full-weather | los PATH | write-vectors");
             exit(2);
         }
     }

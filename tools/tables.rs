@@ -110,7 +110,7 @@ impl Table {
 fn main() {
     let tables = [
         Table {
-            path: "crates/powers/src/table.rt",
+            path: "crates/curve/src/power_table.rt",
             name: "POWERS",
             what: "T(i), i from 0 to 1,000",
             entries: (0..=1_000).map(power).collect(),

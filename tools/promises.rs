@@ -1,0 +1,148 @@
+// Checks, at the project's root, that every statement of the crates' specs/ stands on a public contract: the verdict of the prover speaks of
+// functions alone, so that a statement which no function's `ensures` names could stay unproved and nobody would see it.
+//
+// A statement is a definition `abbrev pub NAME : Type 0` without parameters, or a list of facts `pub NAME : List Fact`. It stands on a
+// contract where an `ensures` of a `pub fn` of its own crate names it, or where a statement that does so is made of it: then its name is in
+// that one's body, in the same file or in one that uses its file.
+//
+// It first tries itself on a small tree of its own.
+
+use std::collections::BTreeMap;
+use std::fs;
+use std::path::Path;
+use std::process::exit;
+
+// The files of crates/ by their path below it.
+type Files = BTreeMap<String, String>;
+
+#[derive(Debug)]
+struct Statement {
+    crate_name: String,
+    file: String,
+    name: String,
+    body: String,
+}
+
+fn add_files(folder: &Path, files: &mut Files) {
+    for entry in fs::read_dir(folder).into_iter().flatten().flatten() {
+        let path = entry.path();
+        if path.is_dir() && !path.ends_with("out") {
+            add_files(&path, files);
+        } else if path.extension().is_some_and(|ending| ending == "rt" || ending == "antt") {
+            let name = path.strip_prefix("crates").unwrap_or(&path).to_string_lossy().to_string();
+            files.insert(name, fs::read_to_string(&path).unwrap_or_default());
+        }
+    }
+}
+
+fn is_word(text: &str, word: &str) -> bool {
+    text.split(|c: char| !(c.is_alphanumeric() || c == '_' || c == '-' || c == '\'')).any(|part| part == word)
+}
+
+// CRATE/specs/FILE.antt as its crate and file.
+fn spec_file(path: &str) -> Option<(&str, &str)> {
+    let (crate_name, inside) = path.split_once('/')?;
+    Some((crate_name, inside.strip_prefix("specs/")?.strip_suffix(".antt")?))
+}
+
+fn statement_name(line: &str) -> Option<&str> {
+    let (name, of_type) = line.strip_prefix("abbrev pub ").or_else(|| line.strip_prefix("unfoldable pub "))?.split_once(" : ")?;
+    ["Type 0", "List Fact"].contains(&of_type.trim()).then_some(name)
+}
+
+// Each statement with the lines of its definition, up to an empty line.
+fn statements(files: &Files) -> Vec<Statement> {
+    let mut found = Vec::new();
+    for (path, text) in files {
+        let Some((crate_name, file)) = spec_file(path) else { continue };
+        let lines: Vec<&str> = text.lines().collect();
+        for (place, name) in lines.iter().enumerate().filter_map(|(place, line)| Some((place, statement_name(line)?))) {
+            let body = lines[place + 1..].iter().take_while(|line| !line.is_empty()).copied().collect::<Vec<_>>().join("\n");
+            found.push(Statement { crate_name: crate_name.to_string(), file: file.to_string(), name: name.to_string(), body });
+        }
+    }
+    found
+}
+
+// What a crate's public functions ensure: from a line with `pub` and `fn` on, the lines from the first `ensures` up to the body's brace.
+fn contracts(files: &Files, crate_name: &str) -> String {
+    let mut text = String::new();
+    let sources = files.iter().filter(|(path, _)| path.starts_with(&format!("{crate_name}/src/")));
+    for (_, source) in sources {
+        let mut ensures = None;
+        for line in source.lines().map(str::trim) {
+            if line.starts_with("pub ") && line.contains("fn ") {
+                ensures = Some(false);
+            }
+            if ensures.is_some() && line.starts_with("ensures") {
+                ensures = Some(true);
+            }
+            if line == "{" || line.starts_with("requires") {
+                ensures = ensures.filter(|_| line != "{");
+            } else if ensures == Some(true) {
+                text.push_str(line);
+                text.push('\n');
+            }
+        }
+    }
+    text
+}
+
+// Whether a statement's body is in a file that sees another statement, and names it.
+fn is_made_of(files: &Files, whole: &Statement, part: &Statement) -> bool {
+    let same_file = whole.crate_name == part.crate_name && whole.file == part.file;
+    let path = format!("{}/specs/{}.antt", whole.crate_name, whole.file);
+    let uses = format!("Rattle.{}.specs.{}", part.crate_name, part.file);
+    let sees = same_file || files.get(&path).is_some_and(|text| text.lines().any(|line| line.starts_with("use ") && line.contains(&uses)));
+    sees && (whole.name != part.name || !same_file) && is_word(&whole.body, &part.name)
+}
+
+// The statements that stand on no public contract.
+fn unnamed(files: &Files) -> (usize, Vec<String>) {
+    let all = statements(files);
+    let mut stands: Vec<bool> = all.iter().map(|it| is_word(&contracts(files, &it.crate_name), &it.name)).collect();
+    loop {
+        let more = |place: usize| !stands[place] && (0..all.len()).any(|whole| stands[whole] && is_made_of(files, &all[whole], &all[place]));
+        let Some(place) = (0..all.len()).find(|&place| more(place)) else { break };
+        stands[place] = true;
+    }
+    let missing = all.iter().zip(&stands).filter(|(_, stands)| !**stands);
+    (all.len(), missing.map(|(it, _)| format!("{}/specs/{}.{}", it.crate_name, it.file, it.name)).collect())
+}
+
+const SAMPLE: [(&str, &str); 5] = [
+    (
+        "low/specs/Laws.antt",
+        "abbrev pub Whole : Type 0\nWhole = PartOfIt × Other\n\nabbrev pub PartOfIt : Type 0\nPartOfIt = Unit\n\n\
+         abbrev pub Lonely : Type 0\nLonely = Whole\n\nabbrev pub Privately : Type 0\nPrivately = Unit\n\n\
+         abbrev pub Required : Type 0\nRequired = Unit\n\nabbrev pub Of : ℕ → Type 0\nOf n = Unit\n",
+    ),
+    ("low/specs/Facts.antt", "unfoldable pub low_facts : List Fact\nlow_facts = []\n\nunfoldable pub Lost : List Fact\nLost = []\n"),
+    (
+        "low/src/promises.rt",
+        "pub fn whole()\n    ensures { Whole }\n{\n}\n\nfn privately()\n    ensures { Privately }\n{\n}\n\n\
+         pub fn needs()\n    requires { Required }\n{\n    let x = Lonely;\n}\n",
+    ),
+    ("high/specs/Facts.antt", "use Rattle.low.specs.Facts as low\n\nunfoldable pub facts : List Fact\nfacts = low.low_facts\n"),
+    ("high/src/lib.rt", "pub fn shown()\n    ensures facts { Shown facts }\n    ensures other { Shown\n        nothing }\n{\n}\n"),
+];
+
+const SAMPLE_UNNAMED: [&str; 4] =
+    ["low/specs/Facts.Lost", "low/specs/Laws.Lonely", "low/specs/Laws.Privately", "low/specs/Laws.Required"];
+
+fn main() {
+    let sample: Files = SAMPLE.iter().map(|(path, text)| (path.to_string(), text.to_string())).collect();
+    let of_sample = unnamed(&sample);
+    if of_sample.1 != SAMPLE_UNNAMED {
+        println!("promises: of itself: the small tree gets {of_sample:?}");
+        exit(1);
+    }
+    let mut files = Files::new();
+    add_files(Path::new("crates"), &mut files);
+    let (count, missing) = unnamed(&files);
+    for name in &missing {
+        println!("promises: {name} stands on no public contract");
+    }
+    println!("promises: {count} statements, {} on no public contract", missing.len());
+    exit(i32::from(!missing.is_empty() || count == 0));
+}
