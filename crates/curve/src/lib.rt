@@ -1,4 +1,4 @@
-//! Curve: the two kinds of road, and the speed-flow curve of a kind at a free-flow speed, under weather.
+//! The speed-flow curve of a kind of road at a free-flow speed, under weather, and what a flow rate gets on it.
 
 #![tactic(auto)]
 
@@ -15,7 +15,7 @@ ghost use Rattle.curve.specs.Weather.{FactorsFit, adjusted_speed, curve_under};
 
 use crate::kind::Kind;
 
-/// Free-flow speed, capacity and breakpoint; Curve::under: of a kind at a free-flow speed under weather.
+/// A speed-flow curve by its free-flow speed, capacity and breakpoint.
 #[derive(Clone, Copy, PartialEq, Eq)]
 pub struct Curve {
     pub kind: Kind,
@@ -23,11 +23,11 @@ pub struct Curve {
     pub free_flow_speed: u64,
     /// hundredths of passenger cars per hour per lane
     pub capacity: u64,
-    /// the same
+    /// hundredths of passenger cars per hour per lane
     pub breakpoint: u64,
 }
 
-/// Snow or rain. Any number may stand in a field; refusal 19 says which are fit.
+/// What weather does to a curve. Any number may stand in a field; refusal 19 says which are fit.
 #[derive(Clone, Copy, PartialEq, Eq)]
 pub struct Weather {
     /// thousandths, on the free-flow speed
@@ -63,7 +63,7 @@ impl Kind {
 }
 
 impl Weather {
-    /// Both factors 1,000.
+    /// Clear weather: both factors 1,000.
     pub const CLEAR: Weather = Weather {
         speed_factor: 1_000,
         capacity_factor: 1_000,
@@ -80,7 +80,8 @@ impl Weather {
 }
 
 impl Curve {
-    /// From a free-flow speed before its factor. Capacity and breakpoint are worked from the one after it.
+    /// The curve of a kind at a free-flow speed before the weather's factor, thousandths of mi/h. Capacity and breakpoint are worked from
+    /// the speed after it.
     #[tactic(auto, using(crate::proofs::WeatherLaws::curve_laws))]
     pub fn under(weather: Weather, kind: Kind, speed: u64) -> Curve
         requires speed_high { speed ≤ highest_speed kind }

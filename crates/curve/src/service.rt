@@ -1,11 +1,11 @@
-//! What a flow rate gets on a curve.
+//! What a flow rate gets on a curve: speed, density and letter.
 
 ghost use Rattle.std.specs.Prelude.{◌≡◌, ◌≤◌};
-ghost use Rattle.curve.specs.Service.{letter_number, density_letter, performance, meets_limit, density_limit};
+ghost use Rattle.curve.specs.Service.{letter_number, density_limit, density_letter, performance, meets_limit};
 
 use crate::speed::CurveTerms;
 
-/// A to F; number: A is 1, F is 6.
+/// The level of service.
 #[derive(Clone, Copy, PartialEq, Eq)]
 pub enum Letter {
     A = 1,
@@ -27,12 +27,28 @@ pub struct Performance {
 }
 
 impl Letter {
+    /// A is 1, the best, and F is 6, the worst.
     pub fn number(self) -> u64
         ensures { result ≡ letter_number self }
     {
         self as u64
     }
 
+    /// The greatest density that gets the letter or a better one, tenths of a passenger car per mile per lane. F has E's.
+    #[tactic(auto, unfolding(crate::specs::Service::density_limit))]
+    pub fn density_limit(self) -> u64
+        ensures { result ≡ density_limit (letter_number self) }
+    {
+        match self {
+            Letter::A => 110,
+            Letter::B => 180,
+            Letter::C => 260,
+            Letter::D => 350,
+            Letter::E | Letter::F => 450,
+        }
+    }
+
+    /// The letter of a density up to capacity, tenths of a passenger car per mile per lane.
     #[tactic(auto, unfolding(crate::specs::Service::density_limit, crate::specs::Service::density_letter))]
     fn of_density(density: u64) -> Letter
         ensures { result ≡ density_letter density }
@@ -49,7 +65,7 @@ impl Letter {
 }
 
 impl CurveTerms {
-    /// At any flow rate v.
+    /// What any flow rate gets, in whole passenger cars per hour per lane.
     #[tactic(auto, using(crate::proofs::TermsLaws::performance_laws))]
     pub fn performance_at(&self, v: u64) -> Performance
         ensures { result ≡ performance self.now.curve v }
@@ -70,7 +86,8 @@ impl CurveTerms {
         }
     }
 
-    /// The same question as a letter's, with no division on kind F.
+    /// Whether a flow rate, in whole passenger cars per hour per lane, keeps to capacity and to a density of at most 450 tenths of a passenger
+    /// car per mile per lane. On kind F nothing is divided.
     #[tactic(auto, using(crate::proofs::TermsLaws::limit_laws))]
     pub fn meets_limit(&self, v: u64, limit: u64) -> bool
         requires { limit ≤ 450 }
@@ -81,19 +98,5 @@ impl CurveTerms {
         }
         let exact = self.exact_speed(v);
         10_000 * v * exact.denominator <= limit * exact.numerator
-    }
-}
-
-/// A to D by their numbers 1 to 4; any other number has E's.
-#[tactic(auto, unfolding(crate::specs::Service::density_limit))]
-pub fn density_limit(letter: u64) -> u64
-    ensures { result ≡ density_limit letter }
-{
-    match letter {
-        1 => 110,
-        2 => 180,
-        3 => 260,
-        4 => 350,
-        _ => 450,
     }
 }

@@ -10,7 +10,7 @@ use crate::kind::Kind;
 use crate::power;
 use numbers::Fraction;
 
-/// A curve with what its speeds have in common, worked out once; CurveTerms::new: of a well-formed curve.
+/// A curve with what its speeds have in common, worked out once.
 #[derive(Clone, Copy)]
 pub struct CurveTerms {
     pub curve: Curve,
@@ -56,6 +56,7 @@ impl Curve {
 }
 
 impl CurveTerms {
+    /// The terms of a curve whose breakpoint is below its capacity, within the sizes that 64 bits take.
     pub fn new(curve: Curve) -> CurveTerms
         requires well_formed { WellFormed curve }
         requires sized { Sized curve }
