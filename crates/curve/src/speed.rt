@@ -5,9 +5,8 @@ ghost use Rattle.curve.specs.Curves.{WellFormed, Sized};
 ghost use Rattle.curve.specs.Speed.{beyond_breakpoint, span_to_capacity, fall_share, ExactSpeed};
 ghost use Rattle.curve.specs.Terms.{share_denominator_of};
 
-use crate::Curve;
 use crate::kind::Kind;
-use crate::power;
+use crate::{Curve, power};
 use numbers::Fraction;
 
 /// A curve with what its speeds have in common, worked out once.

@@ -1,8 +1,10 @@
 -- The boundary sections of document 01, with clearances, weather and ramps by document 02, as far as this layer can state them: one list,
 -- which the layers above make longer.
-use Rattle.std.specs.Prelude.{List, [], ◌∷◌, map, ℕ}
+use Rattle.std.specs.Prelude.{List, [], ◌∷◌, map, ℕ, Result, Ok, Err}
 use Rattle.refusals.specs.Facts.{Fact, fact}
-use Rattle.refusals.specs.Numbers.{refusal_number}
+use Rattle.refusals.specs.declared.Refusal.{Refusal}
+use Rattle.refusals.specs.Numbers.{refusal_number, ok_unless}
+use Rattle.curve.specs.declared.Curve.{Curve}
 use Rattle.curve.specs.Power.{power}
 use Rattle.curve.specs.declared.kind.Kind.{Kind}
 use Rattle.curve.specs.declared.Weather.{Weather}
@@ -19,7 +21,7 @@ use Rattle.road.specs.Adjustments.{right_clearance_adjustment, total_clearance, 
 use Rattle.road.specs.RampTerm.{ramp_term}
 use Rattle.road.specs.FreeFlowSpeed.{free_flow_speed_of}
 use Rattle.method.specs.Refusals.{refusal}
-use Rattle.method.specs.Checked as checked
+use Rattle.method.specs.Checked.{case_curve}
 use Rattle.method.specs.Assess.{assessment, measure_figures}
 
 -- density and letter at v
@@ -60,9 +62,16 @@ total_off m r l = map (λ n. total_clearance_adjustment n (total_clearance m r l
 abbrev assessed : Case → List ℕ
 assessed case = refusal_number (assessment case) ∷ measure_figures (assessment case)
 
--- the same of the check of a case
+-- F, c and b of a curve; of a refusal no value
+abbrev curve_figures : Result Curve Refusal → List ℕ
+curve_figures (Ok curve) = curve.free_flow_speed ∷ curve.capacity ∷ curve.breakpoint ∷ []
+curve_figures (Err r) = []
+
+-- the number of the refusal of a case, 0 for none, and its curve
 abbrev checked_as : Case → List ℕ
-checked_as case = refusal_number (checked.checked case) ∷ checked.curve_figures (checked.checked case)
+checked_as case =
+    let curve : Result Curve Refusal = ok_unless (refusal case) (case_curve case) in
+    refusal_number curve ∷ curve_figures curve
 
 -- a case of kind F with these fields, level, with a speed factor
 abbrev faulty : (speed width right : ℕ) → Median → (access lanes demand factor share speed_factor : ℕ) → Case

@@ -120,6 +120,13 @@ load-ends case z =
       share-high = share;
     }
 
+-- lanes-low, lanes-high: its lanes are of the kind
+pub lanes-low : (case : Case) → FieldsFit case → fewest_lanes case.road.kind ≤ case.lanes
+lanes-low case z = (load-ends case z).lanes-low
+
+pub lanes-high : (case : Case) → FieldsFit case → case.lanes ≤ most_lanes case.road.kind
+lanes-high case z = (load-ends case z).lanes-high
+
 -- weather-exactly, weather-fits, fields-weather: the factors that 19 lets pass
 pub weather-exactly : (kind : Kind) (weather : Weather) → (weather_unfit kind weather ≡ false) ↔ FactorsFit kind weather
 unfolding weather_unfit

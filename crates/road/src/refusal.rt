@@ -7,9 +7,9 @@ ghost use Rattle.road.specs.Refusals.{median_unfit, most_access, weather_unfit, 
 ghost use Rattle.road.specs.Refusals.{weather_refusals, field_refusals, FieldsFit};
 
 use crate::{Case, Median, Road};
-use refusals::Refusal;
 use curve::Weather;
 use curve::kind::Kind;
+use refusals::Refusal;
 
 /// The greatest demand that refusal 7 lets pass, vehicles per hour.
 pub const GREATEST_DEMAND: u64 = 999_999;
