@@ -21,11 +21,11 @@ use Rattle.road.proofs.RefusalLaws.{load-ends}
 use Rattle.method.specs.declared.flow.Load.{Load}
 use Rattle.method.specs.Refusals.{speed_refusals, refusals, Accepted}
 use Rattle.method.specs.Checked.{case_curve}
-use Rattle.method.specs.Flow.{load_of, flow_rate_of, case_flow_rate, LoadFits}
+use Rattle.method.specs.Flow.{load_of, flow_rate_of, case_flow_rate, LoadSized}
 use Rattle.method.specs.Assess.{measures}
 use Rattle.method.proofs.RefusalLaws.{refusals-fields, accepted-fields, refusal-le}
 use Rattle.method.proofs.CheckedLaws.{case_curve-well_formed, case_curve-sized}
-use Rattle.method.proofs.FlowLaws.{case_load-fits}
+use Rattle.method.proofs.FlowLaws.{case_load-sized}
 use Rattle.answer.specs.Volumes.{meets, service_volume}
 use Rattle.answer.specs.Answers.{graded}
 use Rattle.answer.specs.Lanes.{lanes_meet, lanes_found, lanes_refusals, lanes_answer, lanes_figures}
@@ -42,7 +42,7 @@ unfolding demand_meets meets_limit flow_rate_of
 demand_meets-le case limit demand a t =
     let curve : Curve = case_curve case in
     let load : Load = load_of case case.lanes in
-    let fits : LoadFits load = case_load-fits case (accepted-fields case a) in
+    let fits : LoadSized load = case_load-sized case (accepted-fields case a) in
     let v : ℕ = flow_rate_of load demand in
     let within : 100 * flow_rate_of load demand ≤ curve.capacity =
     leb→le (100 * v) curve.capacity (and-left (leb (100 * v) curve.capacity) (leb (density curve v) limit) t) in
@@ -72,7 +72,7 @@ volumes-up-to-any-end case n end a h k low high =
 flow_rate_of-le : (case : Case) → Accepted case → case_flow_rate case ≤ 6 * greatest_demand
 unfolding flow_rate_of
 flow_rate_of-le case a =
-    let fits : LoadFits (load_of case case.lanes) = case_load-fits case (accepted-fields case a) in
+    let fits : LoadSized (load_of case case.lanes) = case_load-sized case (accepted-fields case a) in
     let ends = load-ends case (accepted-fields case a) in
     let least : 250 * 2 ≤ case.peak_hour_factor * case.lanes =
     mul-le-mul {n₁ = 250} {m₁ = 2} ends.factor-low (omega (arith, ends.lanes-low, (kind-ends case.road.kind).lanes-ge)) in

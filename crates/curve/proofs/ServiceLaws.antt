@@ -142,7 +142,7 @@ grade_number-mono : (d e : ℕ) → d ≤ e → grade_number d ≤ grade_number 
 unfolding grade_number
 grade_number-mono d e h = grind (arith, nat_tests)
 
--- density_letter-mono, letter_number-le: a greater density gets no better letter; none is past F
+-- density_letter-mono, letter_number-le, letter_number-ge: a greater density gets no better letter; none is past F nor before A
 pub density_letter-mono : (d e : ℕ) → d ≤ e → letter_number (density_letter d) ≤ letter_number (density_letter e)
 density_letter-mono d e h = rw (density_letter-number d, density_letter-number e) (grade_number-mono d e h)
 
@@ -153,6 +153,14 @@ letter_number-le Letter.C = omega arith
 letter_number-le Letter.D = omega arith
 letter_number-le Letter.E = omega arith
 letter_number-le Letter.F = omega arith
+
+pub letter_number-ge : (l : Letter) → 1 ≤ letter_number l
+letter_number-ge Letter.A = omega arith
+letter_number-ge Letter.B = omega arith
+letter_number-ge Letter.C = omega arith
+letter_number-ge Letter.D = omega arith
+letter_number-ge Letter.E = omega arith
+letter_number-ge Letter.F = omega arith
 
 -- without flow the letter is A
 pub letter_at-zero : (curve : Curve) → WellFormed curve → letter_at curve 0 ≡ Letter.A

@@ -14,7 +14,7 @@ use Rattle.road.specs.Cases.{with_demand, with_load}
 use Rattle.road.specs.FreeFlowSpeed.{free_flow_speed_of}
 use Rattle.road.specs.Refusals.{greatest_demand, road_refusals, load_refusals, field_refusals, LoadFits, FieldsFit}
 use Rattle.road.proofs.FreeFlowSpeedLaws.{free_flow_speed_of-le}
-use Rattle.road.proofs.RefusalLaws.{fields-numbered, load-ends, fields-weather, fields-with_load}
+use Rattle.road.proofs.RefusalLaws.{fields-numbered, fit-demand, fields-weather, fields-with_load}
 use Rattle.method.specs.Refusals.{speed_refusals, refusals, refusal, Accepted}
 
 abbrev own_speed : Case → List Condition
@@ -40,7 +40,7 @@ accepted-fields case a = (parts case a).0
 
 -- nor is its demand above the greatest
 pub accepted-demand : (case : Case) → Accepted case → case.demand ≤ greatest_demand
-accepted-demand case a = (load-ends case (accepted-fields case a)).demand-high
+accepted-demand case a = fit-demand case (accepted-fields case a)
 
 -- accepted-speed, accepted-adjusted: F of an accepted case is at its lower end or above, before its factor
 -- and after it

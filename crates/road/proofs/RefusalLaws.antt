@@ -120,7 +120,10 @@ load-ends case z =
       share-high = share;
     }
 
--- lanes-low, lanes-high: its lanes are of the kind
+-- fit-demand, lanes-low, lanes-high: its demand is up to the greatest, and its lanes are of the kind
+pub fit-demand : (case : Case) → FieldsFit case → case.demand ≤ greatest_demand
+fit-demand case z = (load-ends case z).demand-high
+
 pub lanes-low : (case : Case) → FieldsFit case → fewest_lanes case.road.kind ≤ case.lanes
 lanes-low case z = (load-ends case z).lanes-low
 
