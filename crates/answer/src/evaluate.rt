@@ -108,8 +108,8 @@ fn greatest_meeting(terms: &CaseTerms, letter: Letter, end: u64) -> Counted<u64>
     let mut low = 0;
     let mut high = end + 1;
     let mut tries = 0;
-    while 1 < high - low {
-        let middle = low + (high - low) / 2;
+    while low + 1 < high {
+        let middle = (low + high) / 2;
         tries += 1;
         if demand_meets(terms, limit, middle) {
             low = middle;

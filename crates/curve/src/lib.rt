@@ -5,6 +5,7 @@
 pub mod kind;
 mod power;
 mod power_table;
+pub mod promises;
 pub mod service;
 pub mod speed;
 

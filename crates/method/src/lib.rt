@@ -5,3 +5,4 @@
 pub mod accepted;
 pub mod checked;
 pub mod flow;
+pub mod promises;

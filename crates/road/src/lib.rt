@@ -4,6 +4,7 @@
 
 mod adjustment;
 pub mod free_flow;
+pub mod promises;
 mod ramp;
 mod ramp_table;
 pub mod refusal;
