@@ -28,7 +28,7 @@ use Rattle.method.specs.Assess.{measures}
 use Rattle.method.specs.Boundary as specs-method
 use Rattle.method.specs.Boundary.{example, refused_by_all}
 use Rattle.method.proofs.Boundary as method
-use Rattle.method.proofs.Boundary.{ramp-6, ramp-24}
+use Rattle.road.proofs.Boundary.{ramp-6, ramp-24}
 use Rattle.answer.specs.Volumes.{meets, service_volume}
 use Rattle.answer.specs.Answers as answers
 use Rattle.answer.specs.Answers.{graded, answer_to}

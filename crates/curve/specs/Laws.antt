@@ -1,13 +1,14 @@
 -- The laws of the curve, stated over the definitions that the contracts cite; proofs/Laws proves each.
 -- Under weather the laws in v hold, on one curve. Those in F are for clear weather: with a capacity factor of 501 to 506 the speed may fall
 -- as F rises, by the rounding of b.
-use Rattle.std.specs.Prelude.{◌≡◌, ◌↔◌, ℕ, ◌*◌, ◌^◌, ◌≤◌, ◌<◌}
+use Rattle.std.specs.Prelude.{◌≡◌, ◌↔◌, List, [], ◌∷◌, ℕ, ◌*◌, ◌^◌, ◌≤◌, ◌<◌}
 use Rattle.numbers.specs.Fraction.{over, whole, times, AtMost}
 use Rattle.curve.specs.declared.kind.Kind.{Kind}
 use Rattle.curve.specs.declared.power_table.TheConstants.{POWERS}
 use Rattle.curve.specs.declared.Curve.{Curve}
 use Rattle.curve.specs.declared.Weather.{Weather}
-use Rattle.curve.specs.Kinds.{lowest_speed, highest_speed, lowest_adjusted_speed, lowest_capacity, highest_capacity}
+use Rattle.curve.specs.Kinds.{lowest_speed, highest_speed, lowest_adjusted_speed, lowest_factor, fewest_lanes, most_lanes}
+use Rattle.curve.specs.Kinds.{lowest_capacity, highest_capacity}
 use Rattle.curve.specs.Curves.{capacity, curve_at, WellFormed, Sized}
 use Rattle.curve.specs.Power.{power, PowerTable}
 use Rattle.curve.specs.Weather.{clear, FactorsFit, adjusted_speed, curve_under}
@@ -28,6 +29,19 @@ PowerNeverFalls = (i j : ℕ) → i ≤ j → j ≤ 1000 → (power i ≤ power 
 -- "The table of 1,001 powers is constant": the code's constant is that table.
 abbrev pub TableHoldsPowers : Type 0
 TableHoldsPowers = PowerTable POWERS
+
+-- ---- kinds
+-- What each kind carries, in figures: the ends of F, the lower end of F after its factor and of the weather's factors, the ends of the lane
+-- count, and the ends of capacity.
+abbrev pub KindsCarry : Type 0
+KindsCarry =
+    (carried_by Kind.Freeway ≡ 55000 ∷ 75000 ∷ 50000 ∷ 500 ∷ 2 ∷ 8 ∷ 225000 ∷ 240000 ∷ [])
+    × (carried_by Kind.Multilane ≡ 45000 ∷ 70000 ∷ 45000 ∷ 1000 ∷ 2 ∷ 3 ∷ 190000 ∷ 230000 ∷ [])
+  where
+    carried_by : Kind → List ℕ
+    carried_by kind =
+        lowest_speed kind ∷ highest_speed kind ∷ lowest_adjusted_speed kind ∷ lowest_factor kind ∷ fewest_lanes kind ∷ most_lanes kind
+        ∷ lowest_capacity kind ∷ highest_capacity kind ∷ []
 
 -- ---- capacity
 -- Capacity lies between the kind's ends, for every F between its ends.

@@ -1,6 +1,6 @@
 //! What is promised of the curve: each function does nothing, and its contract is the promise.
 
-ghost use Rattle.curve.specs.Laws.{PowerIsLeast, PowerNeverFalls, TableHoldsPowers, CapacityWithinEnds, CapacityReachesEnds};
+ghost use Rattle.curve.specs.Laws.{PowerIsLeast, PowerNeverFalls, TableHoldsPowers, KindsCarry, CapacityWithinEnds, CapacityReachesEnds};
 ghost use Rattle.curve.specs.Laws.{ClearWeatherChangesNothing, CurveUnderIsWellFormed, SpeedIsAboveZero, SpeedNeverBelowCapacitySpeed};
 ghost use Rattle.curve.specs.Laws.{SpeedNeverRisesWithFlow, SpeedNeverFallsWithFreeFlowSpeed, DensityNeverFallsWithFlow, DensityAtMost450};
 ghost use Rattle.curve.specs.Laws.{DensityMeetsLimitByExactSpeed, LetterNeverBetterWithFlow, LetterNeverBetter};
@@ -10,6 +10,12 @@ pub fn powers()
     ensures least { PowerIsLeast }
     ensures never_falls { PowerNeverFalls }
     ensures table { TableHoldsPowers }
+{
+}
+
+/// What each kind carries, in figures.
+pub fn kinds()
+    ensures { KindsCarry }
 {
 }
 

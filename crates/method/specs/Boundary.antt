@@ -1,6 +1,6 @@
--- The boundary sections of document 01, with clearances, weather and ramps by document 02, as far as this layer can state them: one list,
+-- The boundary sections of document 01 and of document 02, as far as a case alone decides them, with those of the layer below: one list,
 -- which the layers above make longer.
-use Rattle.std.specs.Prelude.{List, [], ◌∷◌, map, ℕ, Result, Ok, Err}
+use Rattle.std.specs.Prelude.{List, [], ◌∷◌, ◌++◌, map, ℕ, Result, Ok, Err}
 use Rattle.refusals.specs.Facts.{Fact, fact}
 use Rattle.refusals.specs.declared.Refusal.{Refusal}
 use Rattle.refusals.specs.Numbers.{refusal_number, ok_unless}
@@ -17,9 +17,9 @@ use Rattle.road.specs.declared.Terrain.TheVariants as Terrain
 use Rattle.road.specs.declared.Road.{Road}
 use Rattle.road.specs.declared.Case.{Case}
 use Rattle.road.specs.Cases.{road, loaded}
-use Rattle.road.specs.Adjustments.{right_clearance_adjustment, total_clearance, total_clearance_adjustment}
 use Rattle.road.specs.RampTerm.{ramp_term}
 use Rattle.road.specs.FreeFlowSpeed.{free_flow_speed_of}
+use Rattle.road.specs.Boundary.{right_off, with_24_ramps, road_facts}
 use Rattle.method.specs.Refusals.{refusal}
 use Rattle.method.specs.Checked.{case_curve}
 use Rattle.method.specs.Assess.{assessment, measure_figures}
@@ -50,14 +50,6 @@ example = loaded (road Kind.Freeway Way.Estimated 75400 110 20 0 Median.Divided 
 abbrev multilane : Median → Road
 multilane m = road Kind.Multilane Way.Estimated 60000 110 40 20 m 10
 
--- what right clearance r takes off with 2 to 8 lanes
-abbrev right_off : ℕ → List ℕ
-right_off r = map (right_clearance_adjustment r) (2 ∷ 3 ∷ 4 ∷ 5 ∷ 6 ∷ 7 ∷ 8 ∷ [])
-
--- what right clearance r and left clearance l take off with 2 and with 3 lanes
-abbrev total_off : Median → ℕ → ℕ → List ℕ
-total_off m r l = map (λ n. total_clearance_adjustment n (total_clearance m r l)) (2 ∷ 3 ∷ [])
-
 -- the number of an assessment's refusal, 0 for none, and its values
 abbrev assessed : Case → List ℕ
 assessed case = refusal_number (assessment case) ∷ measure_figures (assessment case)
@@ -83,8 +75,6 @@ faulty speed width right median access lanes demand factor share speed_factor =
 abbrev pub refused_by_all : Case
 refused_by_all = faulty 0 99 401 Median.Undivided 49 1 1000000 249 1001 499
 
--- boundary_facts, clearance_facts, ramp_facts, speed_facts, weather_facts, order_facts,
--- limit_facts: the list, and its last parts, each the end of the one before
 -- The numbers that 1 to 9 leave at the ends of each range, and those past them: speed, width, clearance on either side, medians of kind F
 -- and of kind M, ramps and access, lanes of kind F and of kind M, demand, peak-hour factor, heavy share. 10 refuses a given speed of 30,000.
 unfoldable pub limit_facts : List Fact
@@ -135,7 +125,7 @@ order_facts =
     ∷ []
     )
     (1 ∷ 2 ∷ 3 ∷ 4 ∷ 5 ∷ 6 ∷ 7 ∷ 8 ∷ 9 ∷ 19 ∷ 10 ∷ 0 ∷ [])
-    ∷ limit_facts
+    ∷ []
 
 -- Under snow or rain (document 02, T-03): b rounded down once; b and c from F after its factor, below the breakpoint and past it; F, c and
 -- b each with a fraction above a half; the upper end before the factor; F, c and both factors at once; 50,000 after the factor, and 55,000
@@ -162,7 +152,7 @@ weather_facts =
     ∷ fact (map (λ s. refusal (on_multilane 60000 s 1000)) (999 ∷ 1000 ∷ 1001 ∷ [])) (19 ∷ 0 ∷ 19 ∷ [])
     ∷ fact (map (λ k. refusal (on_multilane 60000 1000 k)) (999 ∷ 1000 ∷ 1001 ∷ [])) (19 ∷ 0 ∷ 19 ∷ [])
     ∷ fact (refusal (on_multilane 30000 1000 999) ∷ refusal (on_multilane 30000 1000 1000) ∷ []) (19 ∷ 10 ∷ [])
-    ∷ order_facts
+    ∷ []
   where
     -- F, given: speed, speed factor, capacity factor, demand
     snow : ℕ → ℕ → ℕ → ℕ → Case
@@ -171,54 +161,22 @@ weather_facts =
     on_multilane : ℕ → ℕ → ℕ → Case
     on_multilane f s k = two_lanes_under (factors s k) (given Kind.Multilane f 120) 0
 
--- F with such clearances and by the lanes; the worst road fields, which take off nothing from a given speed.
-unfoldable pub speed_facts : List Fact
-speed_facts =
-    fact (free_flow_speed_of (road Kind.Multilane Way.Estimated 60000 120 30 7 Median.Undivided 0) 2 ∷ []) (57750 ∷ [])
-    ∷ fact (free_flow_speed_of (road Kind.Multilane Way.Estimated 60000 120 30 7 Median.TwoWayLeftTurnLane 0) 2 ∷ []) (59350 ∷ [])
-    ∷ fact (map (free_flow_speed_of (road Kind.Freeway Way.Estimated 75000 120 0 0 Median.Divided 0)) (2 ∷ 3 ∷ 4 ∷ 5 ∷ []))
-    (71400 ∷ 72600 ∷ 73800 ∷ 74400 ∷ [])
-    ∷ fact (map (free_flow_speed_of (road Kind.Multilane Way.Estimated 70000 100 0 0 Median.Divided 200)) (2 ∷ 3 ∷ [])) (48000 ∷ 49500 ∷ [])
-    ∷ fact (free_flow_speed_of (road Kind.Freeway Way.Given 60000 100 0 0 Median.Divided 48) 2 ∷ []) (60000 ∷ [])
-    ∷ fact (free_flow_speed_of (road Kind.Multilane Way.Given 60000 100 0 0 Median.Undivided 200) 2 ∷ []) (60000 ∷ [])
-    ∷ weather_facts
-
--- Ramps (document 02, T-08): the terms of the fewest and the most, and of 10 and 36, whose exact terms, 4,945.48 and 14,504.51, are nearest
--- a half; with 24, the bases whose estimate is the lower end of F, one less, the upper end, one less and one more; 10 refuses the second.
-unfoldable pub ramp_facts : List Fact
-ramp_facts =
-    fact (map ramp_term (1 ∷ 10 ∷ 36 ∷ 48 ∷ [])) (715 ∷ 4945 ∷ 14505 ∷ 18469 ∷ [])
-    ∷ fact (map (λ base. free_flow_speed_of (ramps base) 2) (65318 ∷ 65317 ∷ 85318 ∷ 85317 ∷ 85319 ∷ []))
-    (55000 ∷ 54999 ∷ 75000 ∷ 74999 ∷ 75000 ∷ [])
-    ∷ fact (map (λ base. refusal (two_lanes (ramps base) 1000)) (65318 ∷ 65317 ∷ [])) (0 ∷ 10 ∷ [])
-    ∷ speed_facts
-  where
-    ramps : ℕ → Road
-    ramps base = road Kind.Freeway Way.Estimated base 120 60 60 Median.Divided 24
-
--- Clearances between the table's entries, at its ends and past them (document 02, T-02).
-unfoldable pub clearance_facts : List Fact
-clearance_facts =
-    fact (right_off 0) (3600 ∷ 2400 ∷ 1200 ∷ 600 ∷ 600 ∷ 600 ∷ 600 ∷ [])
-    ∷ fact (right_off 61) (0 ∷ 0 ∷ 0 ∷ 0 ∷ 0 ∷ 0 ∷ 0 ∷ [])
-    ∷ fact (right_off 400) (0 ∷ 0 ∷ 0 ∷ 0 ∷ 0 ∷ 0 ∷ 0 ∷ [])
-    ∷ fact (total_off Median.Divided 38 45) (825 ∷ 825 ∷ [])
-    ∷ fact (total_off Median.Divided 25 25) (1550 ∷ 1500 ∷ [])
-    ∷ fact (total_off Median.Divided 0 0) (5400 ∷ 3900 ∷ [])
-    ∷ fact (total_off Median.Divided 1 0) (5310 ∷ 3845 ∷ [])
-    ∷ fact (total_off Median.Undivided 30 7) (650 ∷ 650 ∷ [])
-    ∷ fact (total_off Median.TwoWayLeftTurnLane 400 0) (0 ∷ 0 ∷ [])
-    ∷ fact (total_off Median.Undivided 400 0) (0 ∷ 0 ∷ [])
-    ∷ fact (total_off Median.Divided 400 0) (1300 ∷ 1300 ∷ [])
-    ∷ fact (total_off Median.Divided 0 400) (1300 ∷ 1300 ∷ [])
-    ∷ ramp_facts
+-- The ends of F: with 24 ramps on kind F, and given on kind M.
+unfoldable pub end_facts : List Fact
+end_facts =
+    fact (map (λ base. refusal (two_lanes (with_24_ramps base) 1000)) (65318 ∷ 65317 ∷ [])) (0 ∷ 10 ∷ [])
+    ∷ fact (assessed (two_lanes (given Kind.Multilane 44999 120) 0)) (10 ∷ [])
+    ∷ fact (checked_as (two_lanes (given Kind.Multilane 45000 120) 0)) (0 ∷ 45000 ∷ 190000 ∷ 140000 ∷ [])
+    ∷ fact (checked_as (two_lanes (given Kind.Multilane 70000 120) 0)) (0 ∷ 70000 ∷ 230000 ∷ 140000 ∷ [])
+    ∷ fact (checked_as (two_lanes (given Kind.Multilane 70001 120) 0)) (0 ∷ 70000 ∷ 230000 ∷ 140000 ∷ [])
+    ∷ []
 
 -- Of a case that is accepted 0, and then letter, F, c, v, speed and density, of one that is refused its number. A is 1 and F is 6.
 -- Starred in document 01: all down to the right clearance of 59, which takes off 60 by document 02; by document 02 the printed line and 24
 -- ramps have other figures too. Not starred: no demand; two letters that the shown speed would miss; a case that breaks 1 and 2; the curve
--- of a case and its refusal; more clearances; ramps; snow and rain; the order of refusals; the ends that they leave.
-unfoldable pub boundary_facts : List Fact
-boundary_facts =
+-- of a case and its refusal.
+unfoldable pub section_facts : List Fact
+section_facts =
     fact (assessed example) (0 ∷ 3 ∷ 60782 ∷ 230782 ∷ 1196 ∷ 60782 ∷ 197 ∷ [])
     ∷ fact (ramp_term 6 ∷ ramp_term 24 ∷ ramp_term 0 ∷ []) (3220 ∷ 10318 ∷ 0 ∷ [])
     ∷ fact (density_and_letter Kind.Freeway 75000 825) (110 ∷ 1 ∷ [])
@@ -237,4 +195,12 @@ boundary_facts =
     ∷ fact (assessed (two_lanes (given Kind.Freeway 0 0) 0)) (1 ∷ [])
     ∷ fact (checked_as (two_lanes (given Kind.Freeway 55000 120) 0)) (0 ∷ 55000 ∷ 225000 ∷ 180000 ∷ [])
     ∷ fact (checked_as (two_lanes (given Kind.Freeway 54999 120) 0)) (10 ∷ [])
-    ∷ clearance_facts
+    ∷ []
+
+-- those of a case
+abbrev pub case_facts : List Fact
+case_facts = section_facts ++ (end_facts ++ (weather_facts ++ (order_facts ++ limit_facts)))
+
+-- all of them
+abbrev pub boundary_facts : List Fact
+boundary_facts = road_facts ++ case_facts
