@@ -1,10 +1,10 @@
 -- Laws of the answers, stated; proofs/Laws proves them.
-use Rattle.std.specs.Prelude.{◌≡◌, List, [], ◌∷◌, map, ℕ, ◌*◌, ◌≤◌}
+use Rattle.std.specs.Prelude.{◌≡◌, ◌↔◌, ◌⊎◌, List, [], ◌∷◌, map, ℕ, ◌*◌, ◌≤◌}
 use Rattle.numbers.specs.Bounds.{AllAtMost}
 use Rattle.numbers.specs.Search.{greatest}
 use Rattle.refusals.specs.Numbers.{refusal_number}
 use Rattle.road.specs.declared.Case.{Case}
-use Rattle.road.specs.Refusals.{greatest_demand}
+use Rattle.road.specs.Refusals.{greatest_demand, FieldsFit}
 use Rattle.road.specs.Cases.{with_demand}
 use Rattle.method.specs.Refusals.{Accepted}
 use Rattle.answer.specs.Volumes.{meets, service_volume}
@@ -60,6 +60,13 @@ LanesRefusedAsTheCase =
     (case : Case) (n : ℕ) → 1 ≤ n → n ≤ 5
     → let number = refusal_number (answer_to case) in
     (number ≡ 0 → ⊥) → (number ≡ 10 → ⊥) → refusal_number (lanes_answer case n) ≡ number
+
+-- for A to E the fields of a case fit exactly when its lanes question is answered, or refused with 14: nothing but 14 refuses it
+abbrev pub NothingBut14RefusesFitFields : Type 0
+NothingBut14RefusesFitFields =
+    (case : Case) (n : ℕ) → 1 ≤ n → n ≤ 5
+    → let number = refusal_number (lanes_answer case n) in
+    FieldsFit case ↔ ((number ≡ 0) ⊎ (number ≡ 14))
 
 -- a lane count is one digit
 abbrev pub CountsAreDigits : Type 0

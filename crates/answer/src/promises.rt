@@ -8,7 +8,7 @@ ghost use Rattle.answer.specs.Instances.{NoBetterLetterInSnowWithFewerLanes, NoB
 ghost use Rattle.answer.specs.Instances.{ServiceVolumeOfTheExample, FirstAndLastServiceVolume, FourLanesForEveryLetter};
 ghost use Rattle.answer.specs.Instances.{NoLanesForTheGreatestDemand, ThreeLanesOnAMultilane, ThreeLanesInSnow};
 ghost use Rattle.answer.specs.Laws.{FiguresWithinEnds, VolumesUpToAnyEnd, RefusalsWithinEnds, RefusalsReachEnds, LanesRefusalsInOrder};
-ghost use Rattle.answer.specs.Laws.{LanesRefusedAsTheCase, CountsAreDigits};
+ghost use Rattle.answer.specs.Laws.{LanesRefusedAsTheCase, NothingBut14RefusesFitFields, CountsAreDigits};
 ghost use Rattle.answer.specs.SearchOrder.{NoVolumeAboveTheNext, ExampleVolumesRise, TriesOfALetter, AtMost80Tried, ExampleTried};
 ghost use Rattle.answer.specs.SearchOrder.{EightLanesTried, RefusedTried};
 
@@ -63,6 +63,7 @@ pub fn ends()
 pub fn lanes_refusals()
     ensures in_order { LanesRefusalsInOrder }
     ensures as_the_case { LanesRefusedAsTheCase }
+    ensures fit_fields { NothingBut14RefusesFitFields }
 {
 }
 

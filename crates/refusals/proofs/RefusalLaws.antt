@@ -1,5 +1,5 @@
 -- Lists of refusals, and an answer unless one is met (specs/Refusals).
-use Rattle.std.proofs.Common.{◌≡◌, refl, sym, ◌∙◌, Bool, true, false, cond, ◌&&◌, List, [], ◌∷◌, ◌++◌, ⊎_elim, ℕ, suc, ◌≤◌, ◌<◌, min}
+use Rattle.std.proofs.Common.{◌≡◌, refl, sym, ◌∙◌, Bool, true, false, cond, not, ◌&&◌, List, [], ◌∷◌, ◌++◌, ⊎_elim, ℕ, suc, ◌≤◌, ◌<◌, min}
 use Rattle.std.proofs.Common.{eq-zero-or-pos, arith, le-ltb, ne_eqb, T, leb, ltb, eqb, leb→le, ltb→lt, eqb→eq}
 use Rattle.std.proofs.lemmas.Bool.Decides.{nat_tests}
 use Rattle.numbers.proofs.BoolLaws.{and-left, and-right, cond-le}
@@ -86,6 +86,21 @@ first_refusal-ge m (r ∷ rs) t p = go r.met p (first_refusal-ge m rs (and-right
     go : (b : Bool) → 0 < cond b r.number (first_refusal rs) → (0 < first_refusal rs → m ≤ first_refusal rs)
         → m ≤ cond b r.number (first_refusal rs)
     go true q rest = leb→le m r.number (and-left (leb m r.number) (at_least m rs) t)
+    go false q rest = rest q
+
+-- lacks, first_refusal-lacks: a number that no refusal of the list has is not the first
+abbrev pub lacks : ℕ → List Condition → Bool
+lacks n [] = true
+lacks n (r ∷ rs) = not (eqb r.number n) && lacks n rs
+
+pub first_refusal-lacks : (n : ℕ) (rs : List Condition) → T (lacks n rs) → 0 < n → first_refusal rs ≡ n → ⊥
+first_refusal-lacks n [] t p e = omega arith
+first_refusal-lacks n (r ∷ rs) t p e =
+    go r.met e (first_refusal-lacks n rs (and-right (not (eqb r.number n)) (lacks n rs) t) p)
+  where
+    go : (b : Bool) → cond b r.number (first_refusal rs) ≡ n → (first_refusal rs ≡ n → ⊥) → ⊥
+    go true q rest =
+        let other : T (not (eqb r.number n)) = and-left (not (eqb r.number n)) (lacks n rs) t in grind (arith, nat_tests)
     go false q rest = rest q
 
 -- ---- two lists by turns
