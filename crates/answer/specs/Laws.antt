@@ -23,7 +23,8 @@ figure_ends =
 
 -- no figure of an answer is above its end; the room for an answer rests on it
 abbrev pub FiguresWithinEnds : Type 0
-FiguresWithinEnds = (case : Case) → Accepted case → AllAtMost (answers.grade_figures (answer_to case)) figure_ends
+FiguresWithinEnds =
+    (case : Case) → Accepted case → AllAtMost (answers.grade_figures (answer_to case)) figure_ends
 
 -- searched for up to any end from 19,200 on, the service volumes are the same
 -- so they are the same searched for up to 99,999, the greatest demand before T-09
@@ -45,7 +46,8 @@ RefusalsWithinEnds =
 -- a case that 19 refuses, and its lanes question
 abbrev pub RefusalsReachEnds : Type 0
 RefusalsReachEnds =
-    (refusal_number (answer_to refused_by19) ≡ last_refusal) × (refusal_number (lanes_answer refused_by19 1) ≡ last_refusal)
+    (refusal_number (answer_to refused_by19) ≡ last_refusal)
+    × (refusal_number (lanes_answer refused_by19 1) ≡ last_refusal)
 
 -- the lanes question's list has 16, 1 to 9, 19 and 14, in this order, for every case and letter number
 abbrev pub LanesRefusalsInOrder : Type 0
@@ -70,4 +72,5 @@ NothingBut14RefusesFitFields =
 
 -- a lane count is one digit
 abbrev pub CountsAreDigits : Type 0
-CountsAreDigits = (case : Case) (n count : ℕ) → lanes.lanes_figures (lanes_answer case n) ≡ count ∷ [] → count ≤ 9
+CountsAreDigits =
+    (case : Case) (n count : ℕ) → lanes.lanes_figures (lanes_answer case n) ≡ count ∷ [] → count ≤ 9

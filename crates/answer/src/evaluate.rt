@@ -8,9 +8,9 @@ ghost use Rattle.answer.specs.Search.{demand_meets, searched_volumes};
 ghost use Rattle.answer.specs.Answers.{grade_of, answer_to, grade_figures};
 ghost use Rattle.answer.specs.Tries.{tests_of, found, found_volumes, counted_answer};
 
-use refusals::Refusal;
 use curve::service::Letter;
 use method::accepted::{AcceptedCase, CaseTerms, Measures};
+use refusals::Refusal;
 use road::Case;
 use road::refusal::GREATEST_DEMAND;
 

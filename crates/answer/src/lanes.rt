@@ -7,11 +7,11 @@ ghost use Rattle.curve.specs.Kinds.{fewest_lanes, most_lanes};
 ghost use Rattle.curve.specs.Service.{letter_number};
 ghost use Rattle.answer.specs.Lanes.{lanes_meet, letter_refusals, lanes_answer};
 
-use refusals::Refusal;
 use curve::service::Letter;
 use curve::speed::CurveTerms;
 use method::checked;
 use method::flow::Load;
+use refusals::Refusal;
 use road::Case;
 use road::refusal::FitCase;
 

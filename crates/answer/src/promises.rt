@@ -15,8 +15,7 @@ ghost use Rattle.answer.specs.SearchOrder.{EightLanesTried, RefusedTried};
 /// The shape of the method, its three parts in one piece.
 pub fn shape_of_the_method()
     ensures { DemandThree }
-{
-}
+{}
 
 /// Part 1: of two accepted cases of one road under one weather, the one with no less load never gets the better letter.
 pub fn no_better_under_more_load()
@@ -27,8 +26,7 @@ pub fn no_better_under_more_load()
     ensures multilane { NoBetterLetterOnAMultilane }
     ensures fewer_lanes_in_snow { NoBetterLetterInSnowWithFewerLanes }
     ensures estimate_in_snow { NoBetterLetterInSnowOnAnEstimate }
-{
-}
+{}
 
 /// Part 2: a demand meets a letter exactly when it is at most the service volume.
 pub fn meets_up_to_the_service_volume()
@@ -36,8 +34,7 @@ pub fn meets_up_to_the_service_volume()
     ensures example { ServiceVolumeOfTheExample }
     ensures first_and_last { FirstAndLastServiceVolume }
     ensures in_snow { ServiceVolumeInSnow }
-{
-}
+{}
 
 /// Part 3: the lanes question answers the least accepted lane count that meets the letter, or 14 where none does.
 pub fn least_accepted_count()
@@ -46,8 +43,7 @@ pub fn least_accepted_count()
     ensures no_lanes { NoLanesForTheGreatestDemand }
     ensures multilane { ThreeLanesOnAMultilane }
     ensures in_snow { ThreeLanesInSnow }
-{
-}
+{}
 
 /// How large the figures and the refusals of an answer can be.
 pub fn ends()
@@ -56,16 +52,14 @@ pub fn ends()
     ensures counts { CountsAreDigits }
     ensures refusals { RefusalsWithinEnds }
     ensures reached { RefusalsReachEnds }
-{
-}
+{}
 
 /// What refuses the lanes question, and in which order.
 pub fn lanes_refusals()
     ensures in_order { LanesRefusalsInOrder }
     ensures as_the_case { LanesRefusedAsTheCase }
     ensures fit_fields { NothingBut14RefusesFitFields }
-{
-}
+{}
 
 /// Which demands are tried for the service volumes, and how many: at most 80 for the five together.
 pub fn tries()
@@ -76,11 +70,9 @@ pub fn tries()
     ensures example { ExampleTried }
     ensures eight_lanes { EightLanesTried }
     ensures refused { RefusedTried }
-{
-}
+{}
 
 /// Each boundary section gets what is listed for it.
 pub fn boundary_sections()
     ensures { Shown boundary_facts }
-{
-}
+{}

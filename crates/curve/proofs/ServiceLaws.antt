@@ -1,5 +1,5 @@
 -- Density and letter (specs/Service).
-use Rattle.std.proofs.Common.{◌≡◌, refl, ap, Bool, true, false, cond, ◌↔◌, ℕ, ◌*◌, ◌/◌, ◌≤◌, ◌<◌, arith, le_trans, le_of_eq, zero-mul}
+use Rattle.std.proofs.Common.{zero, suc, ◌≡◌, refl, ap, Bool, true, false, cond, ◌↔◌, ℕ, ◌*◌, ◌/◌, ◌≤◌, ◌<◌, arith, le_trans, le_of_eq, zero-mul}
 use Rattle.std.proofs.Common.{mul-le-mul_right, div-one, le-leb, T, leb, leb→le, le→leb}
 use Rattle.std.proofs.Math.Decide.{dec_le}
 use Rattle.std.proofs.lemmas.Bool.{lt-leb}
@@ -123,6 +123,16 @@ density-zero curve ok =
     (div_up-zero (1 * (speed curve 0).numerator) (omega (arith, speed-numerator-pos curve 0 ok (omega arith))))
 
 -- ---- letters
+-- what holds of the five letter numbers holds of each
+pub by-letter : (P : ℕ → Type 0) → P 1 → P 2 → P 3 → P 4 → P 5 → (n : ℕ) → 1 ≤ n → n ≤ 5 → P n
+by-letter P a b c d e zero h k = absurd (omega arith)
+by-letter P a b c d e (suc zero) h k = a
+by-letter P a b c d e (suc (suc zero)) h k = b
+by-letter P a b c d e (suc (suc (suc zero))) h k = c
+by-letter P a b c d e (suc (suc (suc (suc zero)))) h k = d
+by-letter P a b c d e (suc (suc (suc (suc (suc zero))))) h k = e
+by-letter P a b c d e (suc (suc (suc (suc (suc (suc n)))))) h k = absurd (omega arith)
+
 letter_number-cond : (b : Bool) (x y : Letter) → letter_number (cond b x y) ≡ cond b (letter_number x) (letter_number y)
 letter_number-cond true x y = refl
 letter_number-cond false x y = refl

@@ -10,28 +10,24 @@ pub fn powers()
     ensures least { PowerIsLeast }
     ensures never_falls { PowerNeverFalls }
     ensures table { TableHoldsPowers }
-{
-}
+{}
 
 /// What each kind carries, in figures.
 pub fn kinds()
     ensures { KindsCarry }
-{
-}
+{}
 
 /// Capacity lies between the ends of its kind, and reaches both.
 pub fn capacities()
     ensures within { CapacityWithinEnds }
     ensures reached { CapacityReachesEnds }
-{
-}
+{}
 
 /// Clear weather changes no curve, and under weather that is fit a curve is well formed.
 pub fn weather()
     ensures clear { ClearWeatherChangesNothing }
     ensures well_formed { CurveUnderIsWellFormed }
-{
-}
+{}
 
 /// Up to capacity the speed is above 0 and at least that at capacity. It never rises with more flow, and in clear weather it never falls
 /// with a higher free-flow speed.
@@ -40,20 +36,17 @@ pub fn speeds()
     ensures at_capacity { SpeedNeverBelowCapacitySpeed }
     ensures with_flow { SpeedNeverRisesWithFlow }
     ensures with_free_flow_speed { SpeedNeverFallsWithFreeFlowSpeed }
-{
-}
+{}
 
 /// Up to capacity the density never falls with more flow and is at most 450, and the letter rests on the exact speed.
 pub fn densities()
     ensures with_flow { DensityNeverFallsWithFlow }
     ensures most { DensityAtMost450 }
     ensures by_exact_speed { DensityMeetsLimitByExactSpeed }
-{
-}
+{}
 
 /// More flow never gets a better letter, nor does in clear weather more flow at a free-flow speed that is no higher.
 pub fn letters()
     ensures with_flow { LetterNeverBetterWithFlow }
     ensures with_free_flow_speed { LetterNeverBetter }
-{
-}
+{}

@@ -26,7 +26,8 @@ use Rattle.method.specs.Assess.{assessment, measure_figures}
 
 -- density and letter at v
 abbrev density_and_letter : Kind → ℕ → ℕ → List ℕ
-density_and_letter kind f v = shown_density (curve_at kind f) v ∷ letter_number (letter_at (curve_at kind f) v) ∷ []
+density_and_letter kind f v =
+    shown_density (curve_at kind f) v ∷ letter_number (letter_at (curve_at kind f) v) ∷ []
 
 -- a road of given speed f and lane width w
 abbrev pub given : Kind → ℕ → ℕ → Road
@@ -44,7 +45,8 @@ two_lanes = two_lanes_under clear
 -- the printed line's case
 -- the line F E 75400 110 20 0 D 24 2 2000 920 50 R
 abbrev pub example : Case
-example = loaded (road Kind.Freeway Way.Estimated 75400 110 20 0 Median.Divided 24) 2 2000 920 50 Terrain.Rolling clear
+example =
+    loaded (road Kind.Freeway Way.Estimated 75400 110 20 0 Median.Divided 24) 2 2000 920 50 Terrain.Rolling clear
 
 -- M, E, 60,000, width 110, right 40, left 20, 10 access points
 abbrev multilane : Median → Road
@@ -79,8 +81,10 @@ refused_by_all = faulty 0 99 401 Median.Undivided 49 1 1000000 249 1001 499
 -- and of kind M, ramps and access, lanes of kind F and of kind M, demand, peak-hour factor, heavy share. 10 refuses a given speed of 30,000.
 unfoldable pub limit_facts : List Fact
 limit_facts =
-    fact (map (λ f. refusal (two_lanes (given Kind.Freeway f 120) 0)) (29999 ∷ 30000 ∷ 90000 ∷ 90001 ∷ [])) (1 ∷ 10 ∷ 0 ∷ 1 ∷ [])
-    ∷ fact (map (λ w. refusal (two_lanes (given Kind.Freeway 60000 w) 0)) (99 ∷ 100 ∷ 200 ∷ 201 ∷ [])) (2 ∷ 0 ∷ 0 ∷ 2 ∷ [])
+    fact (map (λ f. refusal (two_lanes (given Kind.Freeway f 120) 0)) (29999 ∷ 30000 ∷ 90000 ∷ 90001 ∷ []))
+    (1 ∷ 10 ∷ 0 ∷ 1 ∷ [])
+    ∷ fact (map (λ w. refusal (two_lanes (given Kind.Freeway 60000 w) 0)) (99 ∷ 100 ∷ 200 ∷ 201 ∷ []))
+    (2 ∷ 0 ∷ 0 ∷ 2 ∷ [])
     ∷ fact (freeway 400 400 Median.Divided 0 ∷ freeway 401 0 Median.Divided 0 ∷ freeway 0 401 Median.Divided 0 ∷ []) (0 ∷ 3 ∷ 3 ∷ [])
     ∷ fact (map (λ m. freeway 60 60 m 0) medians) (4 ∷ 0 ∷ 4 ∷ [])
     ∷ fact (map (λ m. multilane_with m 0) medians) (0 ∷ 0 ∷ 0 ∷ [])
@@ -88,7 +92,8 @@ limit_facts =
     ∷ fact (map (multilane_with Median.Divided) (200 ∷ 201 ∷ [])) (0 ∷ 5 ∷ [])
     ∷ fact (map (λ n. loaded_by Kind.Freeway n 0 1000 0) (1 ∷ 2 ∷ 8 ∷ 9 ∷ [])) (6 ∷ 0 ∷ 0 ∷ 6 ∷ [])
     ∷ fact (map (λ n. loaded_by Kind.Multilane n 0 1000 0) (1 ∷ 2 ∷ 3 ∷ 4 ∷ [])) (6 ∷ 0 ∷ 0 ∷ 6 ∷ [])
-    ∷ fact (map (λ v. loaded_by Kind.Freeway 2 v 1000 0) (99999 ∷ 100000 ∷ 999999 ∷ 1000000 ∷ [])) (0 ∷ 0 ∷ 0 ∷ 7 ∷ [])
+    ∷ fact (map (λ v. loaded_by Kind.Freeway 2 v 1000 0) (99999 ∷ 100000 ∷ 999999 ∷ 1000000 ∷ []))
+    (0 ∷ 0 ∷ 0 ∷ 7 ∷ [])
     ∷ fact (map (λ h. loaded_by Kind.Freeway 2 0 h 0) (249 ∷ 250 ∷ 1000 ∷ 1001 ∷ [])) (8 ∷ 0 ∷ 0 ∷ 8 ∷ [])
     ∷ fact (map (λ p. loaded_by Kind.Freeway 2 0 1000 p) (1000 ∷ 1001 ∷ [])) (0 ∷ 9 ∷ [])
     ∷ []
@@ -104,7 +109,8 @@ limit_facts =
     multilane_with m access = refusal (two_lanes (road Kind.Multilane Way.Given 60000 120 60 60 m access) 0)
 
     loaded_by : Kind → (lanes demand factor share : ℕ) → ℕ
-    loaded_by kind lanes demand factor share = refusal (loaded (given kind 60000 120) lanes demand factor share Terrain.Level clear)
+    loaded_by kind lanes demand factor share =
+        refusal (loaded (given kind 60000 120) lanes demand factor share Terrain.Level clear)
 
 -- The order of refusals: a case that breaks all of 1 to 9, 19 and 10, and then without its first fault, again and again.
 unfoldable pub order_facts : List Fact
@@ -147,11 +153,14 @@ weather_facts =
     ∷ fact (checked_as (snow 55000 910 1000 0)) (0 ∷ 50050 ∷ 220050 ∷ 199800 ∷ [])
     ∷ fact (checked_as (snow 55000 909 1000 0)) (10 ∷ [])
     ∷ fact (checked_as (snow 54999 910 1000 0)) (10 ∷ [])
-    ∷ fact (map (λ s. refusal (snow 75000 s 1000 0)) (0 ∷ 499 ∷ 500 ∷ 1000 ∷ 1001 ∷ 99999 ∷ [])) (19 ∷ 19 ∷ 10 ∷ 0 ∷ 19 ∷ 19 ∷ [])
-    ∷ fact (map (λ k. refusal (snow 75000 1000 k 0)) (0 ∷ 499 ∷ 500 ∷ 1000 ∷ 1001 ∷ 99999 ∷ [])) (19 ∷ 19 ∷ 0 ∷ 0 ∷ 19 ∷ 19 ∷ [])
+    ∷ fact (map (λ s. refusal (snow 75000 s 1000 0)) (0 ∷ 499 ∷ 500 ∷ 1000 ∷ 1001 ∷ 99999 ∷ []))
+    (19 ∷ 19 ∷ 10 ∷ 0 ∷ 19 ∷ 19 ∷ [])
+    ∷ fact (map (λ k. refusal (snow 75000 1000 k 0)) (0 ∷ 499 ∷ 500 ∷ 1000 ∷ 1001 ∷ 99999 ∷ []))
+    (19 ∷ 19 ∷ 0 ∷ 0 ∷ 19 ∷ 19 ∷ [])
     ∷ fact (map (λ s. refusal (on_multilane 60000 s 1000)) (999 ∷ 1000 ∷ 1001 ∷ [])) (19 ∷ 0 ∷ 19 ∷ [])
     ∷ fact (map (λ k. refusal (on_multilane 60000 1000 k)) (999 ∷ 1000 ∷ 1001 ∷ [])) (19 ∷ 0 ∷ 19 ∷ [])
-    ∷ fact (refusal (on_multilane 30000 1000 999) ∷ refusal (on_multilane 30000 1000 1000) ∷ []) (19 ∷ 10 ∷ [])
+    ∷ fact (refusal (on_multilane 30000 1000 999) ∷ refusal (on_multilane 30000 1000 1000) ∷ [])
+    (19 ∷ 10 ∷ [])
     ∷ []
   where
     -- F, given: speed, speed factor, capacity factor, demand
@@ -181,17 +190,24 @@ section_facts =
     ∷ fact (ramp_term 6 ∷ ramp_term 24 ∷ ramp_term 0 ∷ []) (3220 ∷ 10318 ∷ 0 ∷ [])
     ∷ fact (density_and_letter Kind.Freeway 75000 825) (110 ∷ 1 ∷ [])
     ∷ fact (density_and_letter Kind.Freeway 75000 826) (111 ∷ 2 ∷ [])
-    ∷ fact (assessed (two_lanes (given Kind.Freeway 55000 120) 4500)) (0 ∷ 5 ∷ 55000 ∷ 225000 ∷ 2250 ∷ 50000 ∷ 450 ∷ [])
-    ∷ fact (assessed (two_lanes (given Kind.Freeway 55000 120) 4501)) (0 ∷ 6 ∷ 55000 ∷ 225000 ∷ 2251 ∷ 0 ∷ 0 ∷ [])
+    ∷ fact (assessed (two_lanes (given Kind.Freeway 55000 120) 4500))
+    (0 ∷ 5 ∷ 55000 ∷ 225000 ∷ 2250 ∷ 50000 ∷ 450 ∷ [])
+    ∷ fact (assessed (two_lanes (given Kind.Freeway 55000 120) 4501))
+    (0 ∷ 6 ∷ 55000 ∷ 225000 ∷ 2251 ∷ 0 ∷ 0 ∷ [])
     ∷ fact (assessed (two_lanes (given Kind.Freeway 54999 120) 4500)) (10 ∷ [])
-    ∷ fact (assessed (two_lanes (given Kind.Multilane 60000 120) 2800)) (0 ∷ 3 ∷ 60000 ∷ 220000 ∷ 1400 ∷ 60000 ∷ 234 ∷ [])
-    ∷ fact (assessed (two_lanes (given Kind.Multilane 60000 120) 3600)) (0 ∷ 4 ∷ 60000 ∷ 220000 ∷ 1800 ∷ 55518 ∷ 325 ∷ [])
+    ∷ fact (assessed (two_lanes (given Kind.Multilane 60000 120) 2800))
+    (0 ∷ 3 ∷ 60000 ∷ 220000 ∷ 1400 ∷ 60000 ∷ 234 ∷ [])
+    ∷ fact (assessed (two_lanes (given Kind.Multilane 60000 120) 3600))
+    (0 ∷ 4 ∷ 60000 ∷ 220000 ∷ 1800 ∷ 55518 ∷ 325 ∷ [])
     ∷ fact (power 500 ∷ []) (403321 ∷ [])
     ∷ fact (free_flow_speed_of (multilane Median.Divided) 2 ∷ free_flow_speed_of (multilane Median.Undivided) 2 ∷ []) (54300 ∷ 53600 ∷ [])
     ∷ fact (right_off 59) (60 ∷ 40 ∷ 20 ∷ 10 ∷ 10 ∷ 10 ∷ 10 ∷ [])
-    ∷ fact (assessed (two_lanes (given Kind.Freeway 55000 120) 0)) (0 ∷ 1 ∷ 55000 ∷ 225000 ∷ 0 ∷ 55000 ∷ 0 ∷ [])
-    ∷ fact (assessed (two_lanes (given Kind.Freeway 55052 120) 3830)) (0 ∷ 4 ∷ 55052 ∷ 225052 ∷ 1915 ∷ 54714 ∷ 350 ∷ [])
-    ∷ fact (assessed (two_lanes (given Kind.Multilane 45000 120) 3800)) (0 ∷ 5 ∷ 45000 ∷ 190000 ∷ 1900 ∷ 42222 ∷ 450 ∷ [])
+    ∷ fact (assessed (two_lanes (given Kind.Freeway 55000 120) 0))
+    (0 ∷ 1 ∷ 55000 ∷ 225000 ∷ 0 ∷ 55000 ∷ 0 ∷ [])
+    ∷ fact (assessed (two_lanes (given Kind.Freeway 55052 120) 3830))
+    (0 ∷ 4 ∷ 55052 ∷ 225052 ∷ 1915 ∷ 54714 ∷ 350 ∷ [])
+    ∷ fact (assessed (two_lanes (given Kind.Multilane 45000 120) 3800))
+    (0 ∷ 5 ∷ 45000 ∷ 190000 ∷ 1900 ∷ 42222 ∷ 450 ∷ [])
     ∷ fact (assessed (two_lanes (given Kind.Freeway 0 0) 0)) (1 ∷ [])
     ∷ fact (checked_as (two_lanes (given Kind.Freeway 55000 120) 0)) (0 ∷ 55000 ∷ 225000 ∷ 180000 ∷ [])
     ∷ fact (checked_as (two_lanes (given Kind.Freeway 54999 120) 0)) (10 ∷ [])

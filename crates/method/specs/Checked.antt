@@ -21,4 +21,5 @@ case_curve case = curve_of case.road case.weather case.lanes
 
 -- the curve of a road with n lanes under weather, or 10
 abbrev pub checked_curve : Road → Weather → ℕ → Result Curve Refusal
-checked_curve road weather n = ok_unless (first_refusal (speed_refusals road weather n)) (curve_of road weather n)
+checked_curve road weather n =
+    ok_unless (first_refusal (speed_refusals road weather n)) (curve_of road weather n)

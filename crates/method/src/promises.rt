@@ -9,8 +9,7 @@ ghost use Rattle.method.specs.Laws.{RefusedByTheList, RefusalsInOrder};
 pub fn refusals()
     ensures by_the_list { RefusedByTheList }
     ensures in_order { RefusalsInOrder }
-{
-}
+{}
 
 /// The curve of an accepted case is well formed, and on kind M the weather is clear. The flow rate never falls with more load, and without
 /// demand the letter is A.
@@ -19,11 +18,9 @@ pub fn accepted_cases()
     ensures multilane { MultilaneIsInClearWeather }
     ensures flow_rate { FlowRateNeverFallsWithLoad }
     ensures no_demand { NoDemandGetsA }
-{
-}
+{}
 
 /// Each boundary section gets what is listed for it.
 pub fn boundary_sections()
     ensures { Shown boundary_facts }
-{
-}
+{}

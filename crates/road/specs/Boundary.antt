@@ -52,16 +52,20 @@ ramp_facts =
 -- the ends of their ranges.
 unfoldable pub speed_facts : List Fact
 speed_facts =
-    fact (free_flow_speed_of (road Kind.Multilane Way.Estimated 60000 120 30 7 Median.Undivided 0) 2 ∷ []) (57750 ∷ [])
+    fact (free_flow_speed_of (road Kind.Multilane Way.Estimated 60000 120 30 7 Median.Undivided 0) 2 ∷ [])
+    (57750 ∷ [])
     ∷ fact (free_flow_speed_of (road Kind.Multilane Way.Estimated 60000 120 30 7 Median.TwoWayLeftTurnLane 0) 2 ∷ []) (59350 ∷ [])
     ∷ fact (map (free_flow_speed_of (road Kind.Freeway Way.Estimated 75000 120 0 0 Median.Divided 0)) (2 ∷ 3 ∷ 4 ∷ 5 ∷ []))
     (71400 ∷ 72600 ∷ 73800 ∷ 74400 ∷ [])
     ∷ fact (map (free_flow_speed_of (road Kind.Multilane Way.Estimated 70000 100 0 0 Median.Divided 200)) (2 ∷ 3 ∷ [])) (48000 ∷ 49500 ∷ [])
-    ∷ fact (free_flow_speed_of (road Kind.Freeway Way.Given 60000 100 0 0 Median.Divided 48) 2 ∷ []) (60000 ∷ [])
-    ∷ fact (free_flow_speed_of (road Kind.Multilane Way.Given 60000 100 0 0 Median.Undivided 200) 2 ∷ []) (60000 ∷ [])
+    ∷ fact (free_flow_speed_of (road Kind.Freeway Way.Given 60000 100 0 0 Median.Divided 48) 2 ∷ [])
+    (60000 ∷ [])
+    ∷ fact (free_flow_speed_of (road Kind.Multilane Way.Given 60000 100 0 0 Median.Undivided 200) 2 ∷ [])
+    (60000 ∷ [])
     ∷ fact (map (λ f. free_flow_speed_of (road Kind.Multilane Way.Given f 120 60 60 Median.Divided 0) 2) (69999 ∷ 70000 ∷ 70001 ∷ []))
     (69999 ∷ 70000 ∷ 70000 ∷ [])
-    ∷ fact (map lane_width_adjustment (100 ∷ 109 ∷ 110 ∷ 119 ∷ 120 ∷ 200 ∷ [])) (6600 ∷ 6600 ∷ 1900 ∷ 1900 ∷ 0 ∷ 0 ∷ [])
+    ∷ fact (map lane_width_adjustment (100 ∷ 109 ∷ 110 ∷ 119 ∷ 120 ∷ 200 ∷ []))
+    (6600 ∷ 6600 ∷ 1900 ∷ 1900 ∷ 0 ∷ 0 ∷ [])
     ∷ []
 
 -- all of them

@@ -31,7 +31,8 @@ greatest_demand = 999999
 -- "a factor out of range or below 1,000 on kind M"
 unfoldable pub weather_unfit : Kind → Weather → Bool
 weather_unfit kind weather =
-    outside (lowest_factor kind) 1000 weather.speed_factor || outside (lowest_factor kind) 1000 weather.capacity_factor
+    outside (lowest_factor kind) 1000 weather.speed_factor
+    || outside (lowest_factor kind) 1000 weather.capacity_factor
 
 -- 1 to 5, of the road's fields
 -- "1 speed not 30,000 to 90,000; 2 width not 100 to 200; 3 a clearance above 400; 4 median other than D on kind F;
@@ -48,7 +49,8 @@ road_refusals road =
 -- 6, of the lanes
 -- "6 lanes not of the kind"
 abbrev pub lane_refusals : Case → List Condition
-lane_refusals case = refuses 6 (outside (fewest_lanes case.road.kind) (most_lanes case.road.kind) case.lanes) ∷ []
+lane_refusals case =
+    refuses 6 (outside (fewest_lanes case.road.kind) (most_lanes case.road.kind) case.lanes) ∷ []
 
 -- 1 to 6
 abbrev pub section_refusals : Case → List Condition

@@ -8,24 +8,20 @@ pub fn clearances()
     ensures straight { StraightBetweenEntries }
     ensures whole { ClearancesAreWhole }
     ensures by_tenths { RightClearanceByTenths }
-{
-}
+{}
 
 /// The ramp term is the one whole number that fits its rule.
 pub fn ramps()
     ensures { RampTermIsNearest }
-{
-}
+{}
 
 /// No estimate of free-flow speed is cut at 0, and it never falls with more lanes.
 pub fn free_flow_speed()
     ensures above_zero { EstimateNeverBelowZero }
     ensures with_lanes { FreeFlowSpeedNeverFallsWithLanes }
-{
-}
+{}
 
 /// Refusal 19 lets pass exactly the factors within the kind's ends.
 pub fn weather()
     ensures { WeatherFitsExactly }
-{
-}
+{}

@@ -5,7 +5,7 @@ ghost use Rattle.road.specs.RampTerm.{ramp_term};
 
 use crate::ramp_table::RAMP_TERMS;
 
-/// For k ramps in six miles, k to 48.
+/// What up to 48 ramps in six miles take off, thousandths of mi/h.
 #[tactic(auto, using(crate::proofs::RampLaws::table_entries), unfolding(crate::proofs::RampTable::ramp_table))]
 pub(crate) fn ramp_term(ramps: u64) -> u64
     requires { ramps ≤ 48 }
