@@ -10,34 +10,32 @@ ghost use Rattle.answer.specs.Tries.{tests_of, found, found_volumes, counted_ans
 
 use curve::service::Letter;
 use method::accepted::{AcceptedCase, CaseTerms, Measures};
+use numbers::units::{Capacity, Demand, Density, FlowRate, Speed};
 use refusals::Refusal;
 use road::Case;
 use road::refusal::GREATEST_DEMAND;
 
-/// The service volumes of A to E, vehicles per hour.
+/// The service volumes of A to E.
 #[derive(Clone, Copy, PartialEq, Eq)]
 pub struct Volumes {
-    pub a: u64,
-    pub b: u64,
-    pub c: u64,
-    pub d: u64,
-    pub e: u64,
+    pub a: Demand,
+    pub b: Demand,
+    pub c: Demand,
+    pub d: Demand,
+    pub e: Demand,
 }
 
 /// The answer to an accepted case.
 #[derive(Clone, Copy, PartialEq, Eq)]
 pub struct Grade {
     pub letter: Letter,
-    /// thousandths of mi/h
-    pub free_flow_speed: u64,
-    /// hundredths of passenger cars per hour per lane
-    pub capacity: u64,
-    /// whole passenger cars per hour per lane
-    pub flow_rate: u64,
-    /// thousandths of mi/h, 0 above capacity
-    pub speed: u64,
-    /// tenths of a passenger car per mile per lane, 0 above capacity
-    pub density: u64,
+    pub free_flow_speed: Speed,
+    pub capacity: Capacity,
+    pub flow_rate: FlowRate,
+    /// 0 above capacity
+    pub speed: Speed,
+    /// 0 above capacity
+    pub density: Density,
     pub volumes: Volumes,
 }
 
@@ -88,7 +86,7 @@ impl Grade {
 
 /// Whether a demand keeps to capacity and to a density.
 #[tactic(auto, unfolding(crate::specs::Search::demand_meets))]
-fn demand_meets(terms: &CaseTerms, limit: u64, demand: u64) -> bool
+fn demand_meets(terms: &CaseTerms, limit: Density, demand: Demand) -> bool
     requires limit_high { limit ≤ 450 }
     requires demand_high { demand ≤ greatest_demand }
     ensures { result ≡ demand_meets terms.now.curve_terms.curve terms.now.load limit demand }
@@ -98,7 +96,7 @@ fn demand_meets(terms: &CaseTerms, limit: u64, demand: u64) -> bool
 }
 
 /// The greatest demand up to the end that keeps to capacity and to a letter's density, by halving: 0 does.
-fn greatest_meeting(terms: &CaseTerms, letter: Letter, end: u64) -> Counted<u64>
+fn greatest_meeting(terms: &CaseTerms, letter: Letter, end: Demand) -> Counted<Demand>
     requires { end ≤ greatest_demand }
     ensures found { result ≡ found (tests_of terms.now.curve_terms.curve terms.now.load (letter_number letter)) end }
     ensures value { result.value ≤ end }

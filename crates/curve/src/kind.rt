@@ -4,27 +4,29 @@ ghost use Rattle.std.specs.Prelude.{◌≡◌};
 ghost use Rattle.curve.specs.Kinds.{lowest_speed, highest_speed, lowest_adjusted_speed, lowest_factor, fewest_lanes, most_lanes};
 ghost use Rattle.curve.specs.Kinds.{lowest_capacity, highest_capacity};
 
+use numbers::units::{Capacity, Share, Speed};
+
 /// Kind F: a basic freeway segment.
 #[derive(Clone, Copy)]
 pub struct Freeway;
 
 impl Freeway {
     /// The lower end of F, thousandths of mi/h.
-    pub const LOWEST_SPEED: u64 = 55_000;
+    pub const LOWEST_SPEED: Speed = 55_000;
     /// The upper end of F, thousandths of mi/h.
-    pub const HIGHEST_SPEED: u64 = 75_000;
+    pub const HIGHEST_SPEED: Speed = 75_000;
     /// The lower end of F after the speed factor, thousandths of mi/h.
-    pub const LOWEST_ADJUSTED_SPEED: u64 = 50_000;
+    pub const LOWEST_ADJUSTED_SPEED: Speed = 50_000;
     /// The lower end of the weather's factors, thousandths.
-    pub const LOWEST_FACTOR: u64 = 500;
+    pub const LOWEST_FACTOR: Share = 500;
     /// The fewest lanes in one direction.
     pub const FEWEST_LANES: u64 = 2;
     /// The most lanes in one direction.
     pub const MOST_LANES: u64 = 8;
     /// Capacity in clear weather at the lower end of F, hundredths of passenger cars per hour per lane.
-    pub const LOWEST_CAPACITY: u64 = 225_000;
+    pub const LOWEST_CAPACITY: Capacity = 225_000;
     /// The same at the upper end.
-    pub const HIGHEST_CAPACITY: u64 = 240_000;
+    pub const HIGHEST_CAPACITY: Capacity = 240_000;
 
     const LIMITS: Limits = Limits {
         lowest_speed: Self::LOWEST_SPEED,
@@ -44,21 +46,21 @@ pub struct Multilane;
 
 impl Multilane {
     /// The lower end of F, thousandths of mi/h.
-    pub const LOWEST_SPEED: u64 = 45_000;
+    pub const LOWEST_SPEED: Speed = 45_000;
     /// The upper end of F, thousandths of mi/h.
-    pub const HIGHEST_SPEED: u64 = 70_000;
+    pub const HIGHEST_SPEED: Speed = 70_000;
     /// The lower end of F after the speed factor, thousandths of mi/h.
-    pub const LOWEST_ADJUSTED_SPEED: u64 = 45_000;
+    pub const LOWEST_ADJUSTED_SPEED: Speed = 45_000;
     /// The lower end of the weather's factors, thousandths.
-    pub const LOWEST_FACTOR: u64 = 1_000;
+    pub const LOWEST_FACTOR: Share = 1_000;
     /// The fewest lanes in one direction.
     pub const FEWEST_LANES: u64 = 2;
     /// The most lanes in one direction.
     pub const MOST_LANES: u64 = 3;
     /// Capacity in clear weather at the lower end of F, hundredths of passenger cars per hour per lane.
-    pub const LOWEST_CAPACITY: u64 = 190_000;
+    pub const LOWEST_CAPACITY: Capacity = 190_000;
     /// The same at the upper end.
-    pub const HIGHEST_CAPACITY: u64 = 230_000;
+    pub const HIGHEST_CAPACITY: Capacity = 230_000;
 
     const LIMITS: Limits = Limits {
         lowest_speed: Self::LOWEST_SPEED,
@@ -75,20 +77,14 @@ impl Multilane {
 /// A kind's constants, for code that has the kind as a value.
 #[derive(Clone, Copy)]
 pub struct Limits {
-    /// thousandths of mi/h
-    pub lowest_speed: u64,
-    /// thousandths of mi/h
-    pub highest_speed: u64,
-    /// thousandths of mi/h
-    pub lowest_adjusted_speed: u64,
-    /// thousandths
-    pub lowest_factor: u64,
+    pub lowest_speed: Speed,
+    pub highest_speed: Speed,
+    pub lowest_adjusted_speed: Speed,
+    pub lowest_factor: Share,
     pub fewest_lanes: u64,
     pub most_lanes: u64,
-    /// hundredths of passenger cars per hour per lane
-    pub lowest_capacity: u64,
-    /// hundredths of passenger cars per hour per lane
-    pub highest_capacity: u64,
+    pub lowest_capacity: Capacity,
+    pub highest_capacity: Capacity,
 }
 
 /// One of the two kinds.

@@ -4,6 +4,7 @@ ghost use Rattle.std.specs.Prelude.{◌≡◌, ◌≤◌};
 ghost use Rattle.curve.specs.Service.{letter_number, density_limit, density_letter, performance, meets_limit};
 
 use crate::speed::CurveTerms;
+use numbers::units::{Density, FlowRate, Speed};
 
 /// The level of service.
 #[derive(Clone, Copy, PartialEq, Eq)]
@@ -19,10 +20,10 @@ pub enum Letter {
 /// Speed and density as they are shown, and the letter.
 #[derive(Clone, Copy, PartialEq, Eq)]
 pub struct Performance {
-    /// thousandths of mi/h, 0 above capacity
-    pub speed: u64,
-    /// tenths of a passenger car per mile per lane, 0 above capacity
-    pub density: u64,
+    /// 0 above capacity
+    pub speed: Speed,
+    /// 0 above capacity
+    pub density: Density,
     pub letter: Letter,
 }
 
@@ -34,9 +35,9 @@ impl Letter {
         self as u64
     }
 
-    /// The greatest density that gets the letter or a better one, tenths of a passenger car per mile per lane. F has E's.
+    /// The greatest density that gets the letter or a better one. F has E's.
     #[tactic(auto, unfolding(crate::specs::Service::density_limit))]
-    pub fn density_limit(self) -> u64
+    pub fn density_limit(self) -> Density
         ensures { result ≡ density_limit (letter_number self) }
     {
         match self {
@@ -48,9 +49,9 @@ impl Letter {
         }
     }
 
-    /// The letter of a density up to capacity, tenths of a passenger car per mile per lane.
+    /// The letter of a density up to capacity.
     #[tactic(auto, unfolding(crate::specs::Service::density_limit, crate::specs::Service::density_letter))]
-    fn of_density(density: u64) -> Letter
+    fn of_density(density: Density) -> Letter
         ensures { result ≡ density_letter density }
     {
         match density {
@@ -65,9 +66,9 @@ impl Letter {
 }
 
 impl CurveTerms {
-    /// What any flow rate gets, in whole passenger cars per hour per lane.
+    /// What any flow rate gets.
     #[tactic(auto, using(crate::proofs::TermsLaws::performance_laws))]
-    pub fn performance_at(&self, v: u64) -> Performance
+    pub fn performance_at(&self, v: FlowRate) -> Performance
         ensures { result ≡ performance self.now.curve v }
     {
         if self.most_flow < v {
@@ -86,10 +87,9 @@ impl CurveTerms {
         }
     }
 
-    /// Whether a flow rate, in whole passenger cars per hour per lane, keeps to capacity and to a density of at most 450 tenths of a passenger
-    /// car per mile per lane. On kind F nothing is divided.
+    /// Whether a flow rate keeps to capacity and to a density of at most 450. On kind F nothing is divided.
     #[tactic(auto, using(crate::proofs::TermsLaws::limit_laws))]
-    pub fn meets_limit(&self, v: u64, limit: u64) -> bool
+    pub fn meets_limit(&self, v: FlowRate, limit: Density) -> bool
         requires { limit ≤ 450 }
         ensures { result ≡ meets_limit self.now.curve v limit }
     {

@@ -14,6 +14,7 @@ use crate::flow::Load;
 use curve::Curve;
 use curve::service::Performance;
 use curve::speed::CurveTerms;
+use numbers::units::{Demand, FlowRate, Share};
 use refusals::Refusal;
 use road::Case;
 use road::refusal::FitCase;
@@ -40,8 +41,7 @@ pub struct AcceptedCase {
 #[derive(Clone, Copy)]
 pub struct Measures {
     pub curve: Curve,
-    /// whole passenger cars per hour per lane
-    pub flow_rate: u64,
+    pub flow_rate: FlowRate,
     pub performance: Performance,
 }
 
@@ -72,10 +72,14 @@ impl AcceptedCase {
         })
     }
 
-    /// The case under another load that 7 to 9 let pass: a demand in vehicles per hour, a peak-hour factor and a heavy share in thousandths.
-    /// The curve is kept.
+    /// The case under another load that 7 to 9 let pass: another demand, peak-hour factor and heavy share. The curve is kept.
     #[tactic(auto, using(crate::proofs::CheckedLaws::another_load), unfolding(crate::specs::Checked::curve_of))]
-    pub fn with_load(&self, demand: u64, peak_hour_factor: u64, heavy_share: u64) -> AcceptedCase
+    pub fn with_load(
+        &self,
+        demand: Demand,
+        peak_hour_factor: Share,
+        heavy_share: Share,
+    ) -> AcceptedCase
         requires { LoadFits (with_load self.now.case demand peak_hour_factor heavy_share) }
         ensures { result.case ≡ with_load self.now.case demand peak_hour_factor heavy_share }
     {
@@ -89,9 +93,9 @@ impl AcceptedCase {
         }
     }
 
-    /// What the case gets with a demand in the place of its own, vehicles per hour.
+    /// What the case gets with a demand in the place of its own.
     #[tactic(auto, unfolding(crate::specs::Assess::measures, crate::specs::Flow::heavy_factor_of))]
-    pub fn measures_at(&self, demand: u64) -> Measures
+    pub fn measures_at(&self, demand: Demand) -> Measures
         requires { demand ≤ greatest_demand }
         ensures { result ≡ measures (with_demand self.now.case demand) }
     {

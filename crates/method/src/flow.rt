@@ -5,16 +5,17 @@ ghost use Rattle.curve.specs.Kinds.{fewest_lanes, most_lanes};
 ghost use Rattle.road.specs.Refusals.{greatest_demand};
 ghost use Rattle.method.specs.Flow.{truck_equivalent, load_of, flow_rate_of, LoadSized};
 
+use numbers::units::{Demand, FlowRate, Share};
 use road::Terrain;
 use road::refusal::FitCase;
 
 /// What turns a demand into a flow rate.
 #[derive(Clone, Copy)]
 pub struct Load {
-    /// what a vehicle counts for, thousandths of a passenger car
-    pub heavy_factor: u64,
-    /// peak-hour factor times lanes, thousandths
-    pub divisor: u64,
+    /// what a vehicle counts for, of a passenger car
+    pub heavy_factor: Share,
+    /// peak-hour factor times lanes
+    pub divisor: Share,
 }
 
 fn truck_equivalent(terrain: Terrain) -> u64
@@ -41,9 +42,9 @@ impl Load {
         }
     }
 
-    /// The flow rate of a demand in vehicles per hour, whole passenger cars per hour per lane.
+    /// The flow rate of a demand.
     #[tactic(auto, using(numbers::proofs::DivisionLaws::divisions), unfolding(crate::specs::Flow::flow_rate_of))]
-    pub fn flow_rate(&self, demand: u64) -> u64
+    pub fn flow_rate(&self, demand: Demand) -> FlowRate
         requires sized { LoadSized self.now }
         requires demand_high { demand ≤ greatest_demand }
         ensures { result ≡ flow_rate_of self.now demand }

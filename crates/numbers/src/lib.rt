@@ -2,6 +2,8 @@
 
 #![tactic(auto)]
 
+pub mod units;
+
 /// An exact fraction, not reduced.
 #[derive(Clone, Copy)]
 pub struct Fraction {

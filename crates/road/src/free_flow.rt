@@ -9,10 +9,11 @@ use crate::ramp::ramp_term;
 use crate::refusal::FitCase;
 use crate::{Road, Way};
 use curve::kind::Kind;
+use numbers::units::Speed;
 
 impl Road {
     #[tactic(auto, using(crate::proofs::FreeFlowSpeedLaws::estimate_terms), unfolding(crate::specs::FreeFlowSpeed::estimated_by))]
-    fn freeway_estimate(&self, lanes: u64) -> u64
+    fn freeway_estimate(&self, lanes: u64) -> Speed
         requires fits { RoadFits self.now }
         requires freeway { self.now.kind ≡ Kind.Freeway }
         ensures { result ≡ estimated_by Kind.Freeway self.now lanes }
@@ -24,7 +25,7 @@ impl Road {
     }
 
     #[tactic(auto, using(crate::proofs::FreeFlowSpeedLaws::estimate_terms), unfolding(crate::specs::FreeFlowSpeed::estimated_by))]
-    fn multilane_estimate(&self, lanes: u64) -> u64
+    fn multilane_estimate(&self, lanes: u64) -> Speed
         requires fits { RoadFits self.now }
         requires multilane { self.now.kind ≡ Kind.Multilane }
         ensures { result ≡ estimated_by Kind.Multilane self.now lanes }
@@ -37,7 +38,7 @@ impl Road {
     }
 
     #[tactic(auto, unfolding(crate::specs::FreeFlowSpeed::uncapped_by))]
-    fn uncapped_speed(&self, lanes: u64) -> u64
+    fn uncapped_speed(&self, lanes: u64) -> Speed
         requires { RoadFits self.now }
         ensures { result ≡ uncapped_speed self.now lanes }
     {
@@ -50,9 +51,9 @@ impl Road {
 }
 
 impl FitCase {
-    /// F of the case's road with a lane count, thousandths of mi/h: given or estimated, and at most the kind's upper end.
+    /// F of the case's road with a lane count: given or estimated, and at most the kind's upper end.
     #[tactic(auto, using(crate::proofs::RefusalLaws::fit_road), unfolding(crate::specs::FreeFlowSpeed::free_flow_speed_of))]
-    pub fn free_flow_speed(&self, lanes: u64) -> u64
+    pub fn free_flow_speed(&self, lanes: u64) -> Speed
         ensures { result ≡ free_flow_speed_of self.now.case.road lanes }
     {
         let road = &self.case.road;

@@ -14,6 +14,7 @@ ghost use Rattle.road.specs.Cases.{with_demand, with_load};
 
 use curve::Weather;
 use curve::kind::Kind;
+use numbers::units::{Demand, Length, Share, Speed};
 
 /// Where free-flow speed comes from: estimated from a base speed (E), or given (G).
 #[derive(Clone, Copy, PartialEq, Eq)]
@@ -42,14 +43,11 @@ pub enum Terrain {
 pub struct Road {
     pub kind: Kind,
     pub way: Way,
-    /// free-flow or base speed, thousandths of mi/h
-    pub speed: u64,
-    /// tenths of a foot
-    pub lane_width: u64,
-    /// tenths of a foot
-    pub right_clearance: u64,
-    /// tenths of a foot
-    pub left_clearance: u64,
+    /// free-flow speed or base speed
+    pub speed: Speed,
+    pub lane_width: Length,
+    pub right_clearance: Length,
+    pub left_clearance: Length,
     pub median: Median,
     /// kind F: ramps in six miles; kind M: access points per mile
     pub access: u64,
@@ -61,26 +59,23 @@ pub struct Case {
     pub road: Road,
     /// in one direction
     pub lanes: u64,
-    /// vehicles per hour
-    pub demand: u64,
-    /// thousandths
-    pub peak_hour_factor: u64,
-    /// thousandths
-    pub heavy_share: u64,
+    pub demand: Demand,
+    pub peak_hour_factor: Share,
+    pub heavy_share: Share,
     pub terrain: Terrain,
     pub weather: Weather,
 }
 
 impl Case {
-    /// The case with a demand in the place of its own, vehicles per hour.
-    pub fn with_demand(self, demand: u64) -> Case
+    /// The case with a demand in the place of its own.
+    pub fn with_demand(self, demand: Demand) -> Case
         ensures { result ≡ with_demand self demand }
     {
         Case { demand, ..self }
     }
 
-    /// The case with a demand, in vehicles per hour, a peak-hour factor and a heavy share, both in thousandths, in the place of its own.
-    pub fn with_load(self, demand: u64, peak_hour_factor: u64, heavy_share: u64) -> Case
+    /// The case with a demand, a peak-hour factor and a heavy share in the place of its own.
+    pub fn with_load(self, demand: Demand, peak_hour_factor: Share, heavy_share: Share) -> Case
         ensures { result ≡ with_load self demand peak_hour_factor heavy_share }
     {
         Case {

@@ -9,10 +9,11 @@ ghost use Rattle.road.specs.Refusals.{weather_refusals, field_refusals, FieldsFi
 use crate::{Case, Median, Road};
 use curve::Weather;
 use curve::kind::Kind;
+use numbers::units::Demand;
 use refusals::Refusal;
 
-/// The greatest demand that refusal 7 lets pass, vehicles per hour.
-pub const GREATEST_DEMAND: u64 = 999_999;
+/// The greatest demand that refusal 7 lets pass.
+pub const GREATEST_DEMAND: Demand = 999_999;
 
 fn median_unfit(kind: Kind, median: Median) -> bool
     ensures { result ≡ median_unfit kind median }
