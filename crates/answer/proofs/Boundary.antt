@@ -28,14 +28,14 @@ use Rattle.method.specs.Assess.{measures}
 use Rattle.method.specs.Boundary as specs-method
 use Rattle.method.specs.Boundary.{example, refused_by_all}
 use Rattle.method.proofs.Boundary as method
-use Rattle.method.proofs.Boundary.{ramp-6, ramp-24}
+use Rattle.road.proofs.Boundary.{ramp-6, ramp-24}
 use Rattle.answer.specs.Volumes.{meets, service_volume}
 use Rattle.answer.specs.Answers as answers
 use Rattle.answer.specs.Answers.{graded, answer_to}
 use Rattle.answer.specs.Lanes.{lanes_found, lanes_refusals, lanes_answer}
 use Rattle.answer.specs.Search.{demand_meets}
 use Rattle.answer.specs.SearchOrder.{eight_lanes}
-use Rattle.answer.specs.Boundary.{example_with, example_in_snow, estimated, given_in_snow, refused_by19, greatest_flow, answered, counted}
+use Rattle.answer.specs.Boundary.{example_with, example_in_snow, estimated, given_in_snow, refused_by19, greatest_flow, answered, lanes_answered}
 use Rattle.answer.specs.Boundary.{added_facts, boundary_facts}
 use Rattle.answer.proofs.VolumeLaws.{case_meets, case_meets-down, service_volume-eq}
 
@@ -213,10 +213,10 @@ pub example-figures : answers.grade_figures (answer_to example) ≡ 3 ∷ 60782 
 example-figures = ap (drop 1) example-answer
 
 -- the lanes of the printed case, with more demand, with a letter number past E; in snow; the order 16, 1, 19
-lanes-shown : (counted example 3 ≡ 0 ∷ 2 ∷ []) × (counted (example_with 2643) 3 ≡ 0 ∷ 3 ∷ [])
-    × (counted (example_with 999999) 3 ++ counted (example_with 99999) 3 ≡ 14 ∷ 14 ∷ [])
-    × (counted example 6 ≡ 16 ∷ []) × (counted (example_in_snow 2222) 3 ≡ 0 ∷ 3 ∷ [])
-    × (counted refused_by19 1 ++ (counted refused_by19 6 ++ (counted refused_by_all 1 ++ counted refused_by_all 0)) ≡ 19 ∷ 16 ∷ 1 ∷ 16 ∷ [])
+lanes-shown : (lanes_answered example 3 ≡ 0 ∷ 2 ∷ []) × (lanes_answered (example_with 2643) 3 ≡ 0 ∷ 3 ∷ [])
+    × (lanes_answered (example_with 999999) 3 ++ lanes_answered (example_with 99999) 3 ≡ 14 ∷ 14 ∷ [])
+    × (lanes_answered example 6 ≡ 16 ∷ []) × (lanes_answered (example_in_snow 2222) 3 ≡ 0 ∷ 3 ∷ [])
+    × (lanes_answered refused_by19 1 ++ (lanes_answered refused_by19 6 ++ (lanes_answered refused_by_all 1 ++ lanes_answered refused_by_all 0)) ≡ 19 ∷ 16 ∷ 1 ∷ 16 ∷ [])
 unfolding in_order refusal_of div_up least_from least weather_unfit road_refusals load_refusals field_refusals refusals heavy_factor_of flow_rate_of fall_share_by speed
     shown_speed density shown_density density_limit density_letter letter_at performance measures meets lanes_found lanes_refusals
 lanes-shown =
@@ -246,7 +246,7 @@ lanes-shown =
     )
 
 -- the lanes of the case that 10 refuses
-estimated-shown : counted estimated 1 ≡ 0 ∷ 4 ∷ []
+estimated-shown : lanes_answered estimated 1 ≡ 0 ∷ 4 ∷ []
 unfolding in_order refusal_of div_up least_from least weather_unfit road_refusals load_refusals field_refusals adjusted_speed speed_refusals refusals capacity
     breakpoint adjusted_capacity adjusted_breakpoint curve_under curve_of heavy_factor_of flow_rate_of fall_share_by speed shown_speed density
     shown_density density_limit density_letter letter_at performance measures meets lanes_found lanes_refusals

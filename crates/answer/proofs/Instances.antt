@@ -30,8 +30,8 @@ use Rattle.answer.specs.Instances.{FourLanesForEveryLetter, NoLanesForTheGreates
 use Rattle.answer.specs.Instances.{lighter_in_snow, narrow_in_snow, ThreeLanesInSnow}
 use Rattle.answer.proofs.VolumeLaws.{meets-only-accepted}
 use Rattle.answer.proofs.AnswerLaws.{answer_to-number, Meets-iff}
-use Rattle.answer.proofs.Promises.{volume_in-accepted, no-better-under-more-load, meets-up-to-the-service-volume}
-use Rattle.answer.proofs.Promises.{least-accepted-count}
+use Rattle.answer.proofs.PromiseLaws.{volume_in-accepted, no-better-under-more-load, meets-up-to-the-service-volume}
+use Rattle.answer.proofs.PromiseLaws.{least-accepted-count}
 use Rattle.answer.proofs.Boundary.{example-speeds, estimated-speeds, example-accepted, snow-accepted, volumes, snow-volumes}
 use Rattle.answer.proofs.Boundary.{example-figures, none-at-999999}
 

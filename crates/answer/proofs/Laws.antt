@@ -1,12 +1,12 @@
 -- The laws of specs/Laws, proved.
-use Rattle.std.proofs.Common.{lit≤, Ok, Bool, le_trans, ◌≡◌, refl, sym, ap, ◌∙◌, ⊎_elim, [], ◌∷◌, ℕ, suc, ◌*◌, ◌≤◌, arith, eq-zero-or-pos}
+use Rattle.std.proofs.Common.{◌⊎◌, lit≤, Ok, Bool, true, false, cond, ltb, inl, inr, ◌<◌, le_trans, ◌≡◌, refl, sym, ap, ◌∙◌, ⊎_elim, [], ◌∷◌, ℕ, suc, ◌*◌, ◌≤◌, arith, eq-zero-or-pos}
 use Rattle.std.proofs.Common.{mul-le-mul, mul-le-mul_left, T, leb, leb→le, length, get_or, zero-le}
 use Rattle.numbers.specs.Search.{greatest}
 use Rattle.numbers.proofs.DivisionLaws.{div_up-le-iff, le-div_up}
 use Rattle.numbers.proofs.SearchLaws.{greatest-passes, greatest-within, least-le}
 use Rattle.numbers.proofs.BoolLaws.{and-left}
 use Rattle.refusals.specs.Refusals.{first_refusal}
-use Rattle.refusals.proofs.RefusalLaws.{first_refusal-some, first_refusal-le, first_refusal-ge, inside}
+use Rattle.refusals.proofs.RefusalLaws.{first_refusal-some, first_refusal-le, first_refusal-ge, first_refusal-lacks, inside}
 use Rattle.refusals.specs.Numbers.{in_order, refusal_of, refusal_number}
 use Rattle.refusals.proofs.NumberLaws.{refusal_number-ok_unless, ok_unless-by}
 use Rattle.curve.specs.declared.Curve.{Curve}
@@ -21,19 +21,20 @@ use Rattle.road.proofs.RefusalLaws.{load-ends}
 use Rattle.method.specs.declared.flow.Load.{Load}
 use Rattle.method.specs.Refusals.{speed_refusals, refusals, Accepted}
 use Rattle.method.specs.Checked.{case_curve}
-use Rattle.method.specs.Flow.{load_of, flow_rate_of, case_flow_rate, LoadFits}
+use Rattle.method.specs.Flow.{load_of, flow_rate_of, case_flow_rate, LoadSized}
 use Rattle.method.specs.Assess.{measures}
 use Rattle.method.proofs.RefusalLaws.{refusals-fields, accepted-fields, refusal-le}
 use Rattle.method.proofs.CheckedLaws.{case_curve-well_formed, case_curve-sized}
-use Rattle.method.proofs.FlowLaws.{case_load-fits}
+use Rattle.method.proofs.FlowLaws.{case_load-sized}
 use Rattle.answer.specs.Volumes.{meets, service_volume}
 use Rattle.answer.specs.Answers.{graded}
-use Rattle.answer.specs.Lanes.{lanes_meet, lanes_found, lanes_refusals, lanes_answer, lanes_figures}
+use Rattle.answer.specs.Lanes.{lanes_meet, lanes_found, count_refusals, lanes_refusals, lanes_answer, lanes_figures}
 use Rattle.answer.specs.Search.{demand_meets}
 use Rattle.answer.specs.Laws.{FiguresWithinEnds, RefusalsWithinEnds, RefusalsReachEnds, LanesRefusalsInOrder}
-use Rattle.answer.specs.Laws.{LanesRefusedAsTheCase, CountsAreDigits, VolumesUpToAnyEnd}
+use Rattle.answer.specs.Laws.{LanesRefusedAsTheCase, NothingBut14RefusesFitFields, CountsAreDigits, VolumesUpToAnyEnd}
 use Rattle.answer.proofs.VolumeLaws.{case_meets, case_meets-zero, meets-demand, service_volume-eq}
 use Rattle.answer.proofs.AnswerLaws.{answer_to-accepted, answer_to-number}
+use Rattle.answer.proofs.LanesLaws.{asked-last}
 
 -- ---- figures
 -- what keeps to a capacity of at most 240,000 is at most 19,200 vehicles, each at least a passenger car, on at most 8 lanes
@@ -42,7 +43,7 @@ unfolding demand_meets meets_limit flow_rate_of
 demand_meets-le case limit demand a t =
     let curve : Curve = case_curve case in
     let load : Load = load_of case case.lanes in
-    let fits : LoadFits load = case_load-fits case (accepted-fields case a) in
+    let fits : LoadSized load = case_load-sized case (accepted-fields case a) in
     let v : ℕ = flow_rate_of load demand in
     let within : 100 * flow_rate_of load demand ≤ curve.capacity =
     leb→le (100 * v) curve.capacity (and-left (leb (100 * v) curve.capacity) (leb (density curve v) limit) t) in
@@ -72,7 +73,7 @@ volumes-up-to-any-end case n end a h k low high =
 flow_rate_of-le : (case : Case) → Accepted case → case_flow_rate case ≤ 6 * greatest_demand
 unfolding flow_rate_of
 flow_rate_of-le case a =
-    let fits : LoadFits (load_of case case.lanes) = case_load-fits case (accepted-fields case a) in
+    let fits : LoadSized (load_of case case.lanes) = case_load-sized case (accepted-fields case a) in
     let ends = load-ends case (accepted-fields case a) in
     let least : 250 * 2 ≤ case.peak_hour_factor * case.lanes =
     mul-le-mul {n₁ = 250} {m₁ = 2} ends.factor-low (omega (arith, ends.lanes-low, (kind-ends case.road.kind).lanes-ge)) in
@@ -139,9 +140,16 @@ pub lanes-refusals-in-order : LanesRefusalsInOrder
 unfolding road_refusals load_refusals field_refusals lanes_refusals
 lanes-refusals-in-order case n = refl
 
+-- what refuses the fields refuses the question
+lanes_answer-fields : (case : Case) (n : ℕ) → 1 ≤ n → n ≤ 5 → 0 < first_refusal (field_refusals case)
+    → refusal_number (lanes_answer case n) ≡ first_refusal (field_refusals case)
+unfolding lanes_refusals
+lanes_answer-fields case n h k p =
+    lanes_answer-number case n ∙ rw (inside 1 5 n h k) (first_refusal-some (field_refusals case) (count_refusals case n) p)
+
 -- 10 alone is behind the fields, and they come first in both lists
 pub lanes-refused-as-the-case : LanesRefusedAsTheCase
-unfolding speed_refusals refusals lanes_refusals
+unfolding speed_refusals refusals
 lanes-refused-as-the-case case n h k some not_ten =
     let speed = speed_refusals case.road case.weather case.lanes in
     let number = answer_to-number case in
@@ -154,12 +162,28 @@ lanes-refused-as-the-case case n h k some not_ten =
       first_refusal-le 10 speed tt,
       first_refusal-ge 10 speed tt (omega (arith, last, some)),
     ))))
-    (λ p.
-    lanes_answer-number case n
-    ∙ rw (inside 1 5 n h k) (first_refusal-some (field_refusals case) _ p)
-    ∙ sym (first_refusal-some (field_refusals case) speed p)
-    ∙ sym number)
+    (λ p. lanes_answer-fields case n h k p ∙ sym (first_refusal-some (field_refusals case) speed p) ∙ sym number)
     (eq-zero-or-pos (first_refusal (field_refusals case)))
+
+pub nothing-but-14-refuses-fit-fields : NothingBut14RefusesFitFields
+unfolding road_refusals load_refusals field_refusals
+nothing-but-14-refuses-fit-fields case n h k = (
+  λ z. met (ltb (most_lanes case.road.kind) (lanes_found case n)) (lanes_answer-number case n ∙ asked-last case n h k z),
+  λ answered. ⊎_elim (λ z. z) (λ p. absurd (unfit p answered)) (eq-zero-or-pos (first_refusal (field_refusals case))),
+)
+  where
+    number : ℕ
+    number = refusal_number (lanes_answer case n)
+
+    met : (b : Bool) → number ≡ cond b 14 0 → (number ≡ 0) ⊎ (number ≡ 14)
+    met true e = inr e
+    met false e = inl e
+
+    unfit : 0 < first_refusal (field_refusals case) → (number ≡ 0) ⊎ (number ≡ 14) → ⊥
+    unfit p answered =
+        let own = lanes_answer-fields case n h k p in
+        ⊎_elim (λ z. omega (arith, own, z, p))
+        (λ e. first_refusal-lacks 14 (field_refusals case) tt (omega arith) (sym own ∙ e)) answered
 
 pub counts-are-digits : CountsAreDigits
 unfolding lanes_found

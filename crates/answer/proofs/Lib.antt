@@ -3,7 +3,7 @@ pub mod VolumeLaws
 pub mod TriesLaws
 pub mod AnswerLaws
 pub mod LanesLaws
-pub mod Promises
+pub mod PromiseLaws
 pub mod Boundary
 pub mod SearchOrder
 pub mod Instances

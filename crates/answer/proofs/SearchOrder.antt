@@ -19,7 +19,7 @@ use Rattle.answer.specs.SearchOrder.{example_tried, eight_lanes, ExampleTried, E
 use Rattle.answer.proofs.VolumeLaws.{service_volume-eq, service_volume-iff}
 use Rattle.answer.proofs.AnswerLaws.{answer_to-number}
 use Rattle.answer.proofs.Laws.{service_volume-le}
-use Rattle.answer.proofs.Promises.{volume_in-accepted}
+use Rattle.answer.proofs.PromiseLaws.{volume_in-accepted}
 use Rattle.answer.proofs.TriesLaws.{volume-next, tried_from-suc, search_end-le, tries-accepted, tries-refused}
 use Rattle.answer.proofs.Boundary.{VolumesOf, example-accepted, volumes, estimated-answer, eight-lanes-accepted, eight-lanes-volumes}
 

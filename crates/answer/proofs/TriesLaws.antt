@@ -1,14 +1,17 @@
 -- The order of the searches for the service volumes, and the demands that they try (specs/Tries).
-use Rattle.std.proofs.Common.{◌≡◌, refl, sym, ap, ◌∙◌, Bool, List, [], ◌∷◌, ℕ, zero, suc, ◌+◌, ◌-◌, ◌*◌, ◌≤◌, ◌<◌, zero-le, arith, le_refl}
-use Rattle.std.proofs.Common.{le_trans, T, ltb, length, length-append, set, length-set, get_or, get_or-set_same, get_or-set_other, lt-ltb}
+use Rattle.std.proofs.Common.{Err, ◌≡◌, refl, sym, ap, ◌∙◌, Bool, ℕ, zero, suc, ◌+◌, ◌≤◌, ◌<◌, arith, le_refl}
+use Rattle.std.proofs.Common.{le_trans, T, ltb, length, length-append, lt-ltb}
 use Rattle.std.proofs.Common.{le-ltb}
 use Rattle.std.proofs.Math.Decide.{dec_le}
 use Rattle.numbers.specs.Search.{greatest}
 use Rattle.numbers.specs.Halving.{tried_up_to}
 use Rattle.numbers.proofs.SearchLaws.{greatest-le, greatest-mono, greatest-cong, greatest-within}
-use Rattle.numbers.proofs.HalvingLaws.{tried_up_to-steps, tried_up_to-cong}
+use Rattle.numbers.proofs.HalvingLaws.{tried_up_to-cong}
 use Rattle.numbers.proofs.BoolLaws.{cond-le}
+use Rattle.refusals.specs.declared.Refusal.{Refusal}
+use Rattle.refusals.specs.Numbers.{number}
 use Rattle.refusals.proofs.RefusalLaws.{unless_refused-none, unless_refused-some}
+use Rattle.refusals.proofs.NumberLaws.{number-above, ok_unless-err}
 use Rattle.curve.specs.declared.Curve.{Curve}
 use Rattle.curve.specs.Curves.{WellFormed}
 use Rattle.curve.specs.Service.{density_limit}
@@ -21,6 +24,7 @@ use Rattle.method.specs.Checked.{case_curve}
 use Rattle.method.specs.Flow.{load_of, flow_rate_of}
 use Rattle.answer.specs.declared.evaluate.Counted.{Counted}
 use Rattle.answer.specs.Volumes.{service_volumes}
+use Rattle.answer.specs.Answers.{graded}
 use Rattle.answer.specs.Search.{demand_meets, searched_volume}
 use Rattle.answer.specs.Tries.{meets_with, tests_of, search_end, tried_for, tried_from, demands_tried, found, found_volumes, counted_answer}
 use Rattle.answer.proofs.VolumeLaws.{demand_meets-zero, meets-demand, searched_volumes-case}
@@ -59,108 +63,56 @@ pub tried_from-suc : (test : ℕ → ℕ → Bool) (n : ℕ)
 unfolding tried_from
 tried_from-suc test n = length-append (tried_for test (suc n)) (tried_from test n)
 
-tried_from-le : (test : ℕ → ℕ → Bool) (n : ℕ) → length (tried_from test n) ≤ n * greatest_demand
-unfolding tried_from
-tried_from-le test zero = zero-le
-tried_from-le test (suc n) =
-    let steps = tried_up_to-steps (test (suc n)) (search_end test (suc n)) in
-    omega (arith, steps, search_end-le test (suc n), tried_from-suc test n, tried_from-le test n)
-
--- the letters above n are done: their volumes are found, and what is left to try makes up the rest
-pub record Done (curve : Curve) (load : Load) (volumes : List ℕ) (end tries n : ℕ) : Type 0 where
-  pub letter-le : n ≤ 5
-  pub five : length volumes ≡ 5
-  pub end-is : end ≡ search_end (tests_of curve load) n
-  pub count : tries + length (tried_from (tests_of curve load) n) ≡ length (tried_from (tests_of curve load) 5)
-  pub found-above : (k : ℕ) → n ≤ k → k < 5 → get_or volumes k 0 ≡ searched_volume curve load (suc k)
-
-pub done-start : (curve : Curve) (load : Load) → Done curve load (0 ∷ 0 ∷ 0 ∷ 0 ∷ 0 ∷ []) greatest_demand 0 5
-unfolding search_end
-done-start curve load =
-    record { letter-le = omega arith; five = refl; end-is = refl; count = omega arith; found-above = λ k h l. absurd (omega arith) }
-
-module _ (curve : Curve) (load : Load) (volumes : List ℕ) (end tries n : ℕ) (d : Done curve load volumes end tries n) where
+module _ (curve : Curve) (load : Load) (ok : WellFormed curve) (pos : 0 < load.divisor) where
   abbrev tests : ℕ → ℕ → Bool
   tests = tests_of curve load
 
-  -- done-end-le, done-tries-le: 64 bits hold the end and the count
-  pub done-end-le : end ≤ greatest_demand
-  done-end-le = omega (arith, d.end-is, search_end-le tests n)
+  -- a search up to the volume of the next worse letter finds what one up to the greatest demand would
+  volume-within : (n : ℕ) → 1 ≤ n → n ≤ 4 → greatest (tests n) (searched_volume curve load (suc n)) ≡ searched_volume curve load n
+  volume-within n h k =
+      greatest-within (tests n) (searched_volume curve load (suc n)) greatest_demand (demand_meets-zero curve load (density_limit n) ok pos)
+      (greatest-le (tests (suc n)) greatest_demand) (volume-next curve load n h k)
 
-  -- all five
-  pub done-volumes : n ≡ 0
+  -- so it is with a search that is found up to that volume, and what it tries is tried for its letter
+  in-turn : (n : ℕ) (r : Counted ℕ) (end : ℕ) → 1 ≤ n → n ≤ 4 → end ≡ searched_volume curve load (suc n) → r ≡ found (tests n) end
+      → (r.value ≡ searched_volume curve load n) × (r.tries ≡ length (tried_for tests n))
+  in-turn n r end h k e f =
+      (ap (λ r. r.value) f ∙ rw e (volume-within n h k), ap (λ r. r.tries) f ∙ rw (e, search_end-next tests n k) refl)
+
+  -- the five searches, each up to what the one before found
+  pub found_volumes-in-turn : (e d c b a : Counted ℕ) → e ≡ found (tests 5) greatest_demand → d ≡ found (tests 4) e.value
+      → c ≡ found (tests 3) d.value → b ≡ found (tests 2) c.value → a ≡ found (tests 1) b.value
       → record {
-        value = record {
-          a = get_or volumes 0 0;
-          b = get_or volumes 1 0;
-          c = get_or volumes 2 0;
-          d = get_or volumes 3 0;
-          e = get_or volumes 4 0;
-        };
-        tries = tries;
+        value = record { a = a.value; b = b.value; c = c.value; d = d.value; e = e.value };
+        tries = e.tries + d.tries + c.tries + b.tries + a.tries;
       }
       ≡ found_volumes curve load
-  unfolding tried_from
-  done-volumes z =
-      let count : tries ≡ length (tried_from tests 5) = omega (arith, rw z at d.count) in
-      simp (
-        d.found-above 0 (omega arith) (omega arith),
-        d.found-above 1 (omega arith) (omega arith),
-        d.found-above 2 (omega arith) (omega arith),
-        d.found-above 3 (omega arith) (omega arith),
-        d.found-above 4 (omega arith) (omega arith),
-        count,
-      )
+  unfolding tried_from search_end
+  found_volumes-in-turn e d c b a found-e found-d found-c found-b found-a =
+      let value-e : e.value ≡ searched_volume curve load 5 = ap (λ r. r.value) found-e in
+      let tries-e : e.tries ≡ length (tried_for tests 5) = ap (λ r. r.tries) found-e in
+      let of-d = in-turn 4 d e.value (omega arith) (omega arith) value-e found-d in
+      let of-c = in-turn 3 c d.value (omega arith) (omega arith) of-d.0 found-c in
+      let of-b = in-turn 2 b c.value (omega arith) (omega arith) of-c.0 found-b in
+      let of-a = in-turn 1 a b.value (omega arith) (omega arith) of-b.0 found-a in
+      let count : e.tries + d.tries + c.tries + b.tries + a.tries ≡ length (tried_from tests 5) =
+      omega (
+        arith,
+        tries-e,
+        of-d.1,
+        of-c.1,
+        of-b.1,
+        of-a.1,
+        tried_from-suc tests 4,
+        tried_from-suc tests 3,
+        tried_from-suc tests 2,
+        tried_from-suc tests 1,
+        tried_from-suc tests 0,
+      ) in
+      simp (value-e, of-d.0, of-c.0, of-b.0, of-a.0, count)
 
-  -- one search more, for letter number n
-  module _ (left : 0 < n) (r : Counted ℕ) (e : r ≡ found (tests n) end) where
-    one-less : n ≡ suc (n - 1)
-    one-less = omega arith
-
-    tries-is : r.tries ≡ length (tried_for tests n)
-    tries-is = ap (λ f. f.tries) e ∙ ap (λ x. length (tried_up_to (tests n) x)) d.end-is
-
-    rest : length (tried_from tests n) ≡ length (tried_for tests n) + length (tried_from tests (n - 1))
-    rest =
-        ap (λ m. length (tried_from tests m)) one-less ∙ tried_from-suc tests (n - 1)
-        ∙ ap (λ m. length (tried_for tests m) + length (tried_from tests (n - 1))) (sym one-less)
-
-    pub done-tries-le : tries + r.tries ≤ 5 * greatest_demand
-    done-tries-le = omega (arith, tries-is, rest, d.count, tried_from-le tests 5)
-
-    module _ (ok : WellFormed curve) (pos : 0 < load.divisor) where
-      -- a search up to the volume of the letter before finds what one up to the greatest demand would
-      volume-is : r.value ≡ searched_volume curve load n
-      volume-is = ap (λ f. f.value) e ∙ rw d.end-is (go (dec_le (suc n) 5))
-        where
-          go : Dec (suc n ≤ 5) → greatest (tests n) (search_end tests n) ≡ searched_volume curve load n
-          go (no l) = rw (search_end-last tests n (omega (arith, d.letter-le)))
-          go (yes l) =
-              rw (search_end-next tests n (omega arith))
-              (greatest-within (tests n) (searched_volume curve load (suc n)) greatest_demand
-              (demand_meets-zero curve load (density_limit n) ok pos)
-              (greatest-le (tests (suc n)) greatest_demand)
-              (volume-next curve load n left (omega arith)))
-
-      pub done-next : Done curve load (set volumes (n - 1) r.value) r.value (tries + r.tries) (n - 1)
-      done-next =
-          record {
-            letter-le = omega (arith, d.letter-le);
-            five = length-set volumes (n - 1) r.value ∙ d.five;
-            end-is =
-                volume-is ∙ ap (searched_volume curve load) one-less ∙ sym (search_end-next tests (n - 1) (omega (arith, d.letter-le)));
-            count = omega (arith, tries-is, rest, d.count);
-            found-above = λ k h l. go k h l (dec_le n k);
-          }
-        where
-          go : (k : ℕ) → n - 1 ≤ k → k < 5 → Dec (n ≤ k)
-              → get_or (set volumes (n - 1) r.value) k 0 ≡ searched_volume curve load (suc k)
-          go k h l (yes u) = get_or-set_other volumes (n - 1) k r.value 0 (λ q. omega arith) ∙ d.found-above k u l
-          go k h l (no u) =
-              let same : k ≡ n - 1 = omega arith in
-              rw same
-              (get_or-set_same volumes (n - 1) r.value 0 (omega (arith, d.five, d.letter-le)) ∙ volume-is
-              ∙ ap (searched_volume curve load) one-less)
+-- for tactics: the last
+pub ruleset search_laws = (found_volumes-in-turn)
 
 -- ---- what is tried is meeting the letter
 module _ (t u : ℕ → ℕ → Bool) (same : (n demand : ℕ) → 1 ≤ n → n ≤ 5 → demand ≤ greatest_demand → t n demand ≡ u n demand) where
@@ -206,3 +158,11 @@ module _ (case : Case) where
 
   pub tries-refused : 0 < refusal case → (counted_answer case).tries ≡ 0
   tries-refused p = unless_refused-some (refusal case) (length (demands_tried case)) (λ number. 0) p
+
+  -- answered-accepted, answered-refused: the answer and its count, as code hands them back
+  pub counted-refused : (r : Refusal) → number r ≡ refusal case → record { value = Err r; tries = 0 } ≡ counted_answer case
+  counted-refused r e =
+      let above : 0 < refusal case = rw (sym e) (number-above r) in
+      simp (ok_unless-err r (refusal case) (graded case) e, tries-refused above)
+
+pub ruleset counted_laws = (counted-refused)

@@ -17,7 +17,7 @@ use Rattle.method.specs.Flow.{heavy_factor_of, load_of, flow_rate_of, case_flow_
 use Rattle.method.specs.Assess.{measures}
 use Rattle.method.proofs.RefusalLaws.{accepted-fields, accepted-with_demand}
 use Rattle.method.proofs.CheckedLaws.{case_curve-well_formed}
-use Rattle.method.proofs.FlowLaws.{case_load-fits, flow_rate_of-mono, flow_rate_of-zero}
+use Rattle.method.proofs.FlowLaws.{case_load-sized, flow_rate_of-mono, flow_rate_of-zero}
 use Rattle.answer.specs.Volumes.{meets, service_volume, service_volumes}
 use Rattle.answer.specs.Search.{demand_meets, searched_volumes}
 
@@ -61,7 +61,7 @@ case_meets case limit = demand_meets (case_curve case) (load_of case case.lanes)
 
 module _ (case : Case) (limit : ℕ) (a : Accepted case) where
   pos : 0 < case.peak_hour_factor * case.lanes
-  pos = (case_load-fits case (accepted-fields case a)).divisor-pos
+  pos = (case_load-sized case (accepted-fields case a)).divisor-pos
 
   pub case_meets-zero : T (case_meets case limit 0)
   case_meets-zero = demand_meets-zero (case_curve case) (load_of case case.lanes) limit (case_curve-well_formed case a) pos

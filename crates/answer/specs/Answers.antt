@@ -5,7 +5,7 @@ use Rattle.refusals.specs.Numbers.{ok_unless}
 use Rattle.road.specs.declared.Case.{Case}
 use Rattle.method.specs.Refusals.{refusal}
 use Rattle.curve.specs.Service.{letter_number}
-use Rattle.method.specs.declared.assess.Measures.{Measures}
+use Rattle.method.specs.declared.accepted.Measures.{Measures}
 use Rattle.method.specs.Assess.{measures}
 use Rattle.answer.specs.declared.evaluate.Volumes.{Volumes}
 use Rattle.answer.specs.declared.evaluate.Grade.{Grade}

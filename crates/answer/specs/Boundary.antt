@@ -23,7 +23,8 @@ example_with demand = with_demand example demand
 
 -- F E 60000 120 0 0 D 6 2 2000 1000 0 L: refused with 10, and 4 lanes are the least for every letter
 abbrev pub estimated : Case
-estimated = loaded (road Kind.Freeway Way.Estimated 60000 120 0 0 Median.Divided 6) 2 2000 1000 0 Terrain.Level clear
+estimated =
+    loaded (road Kind.Freeway Way.Estimated 60000 120 0 0 Median.Divided 6) 2 2000 1000 0 Terrain.Level clear
 
 -- the same with speed factor 860 and capacity factor 780
 abbrev pub example_in_snow : ℕ → Case
@@ -31,7 +32,8 @@ example_in_snow demand = with_weather (example_with demand) (factors 860 780)
 
 -- F G 75000 120 60 60 D 0 N V 1000 0 L 950 900
 abbrev pub given_in_snow : ℕ → ℕ → Case
-given_in_snow n demand = with_lanes (two_lanes_under (factors 950 900) (given Kind.Freeway 75000 120) demand) n
+given_in_snow n demand =
+    with_lanes (two_lanes_under (factors 950 900) (given Kind.Freeway 75000 120) demand) n
 
 -- F G 75000 120 60 60 D 0 2 0 1000 0 L 499 1000
 abbrev pub refused_by19 : Case
@@ -46,8 +48,8 @@ abbrev pub answered : Case → List ℕ
 answered case = refusal_number (answer_to case) ∷ answers.grade_figures (answer_to case)
 
 -- the same of the lanes question with letter number n
-abbrev pub counted : Case → ℕ → List ℕ
-counted case n = refusal_number (lanes_answer case n) ∷ lanes.lanes_figures (lanes_answer case n)
+abbrev pub lanes_answered : Case → ℕ → List ℕ
+lanes_answered case n = refusal_number (lanes_answer case n) ∷ lanes.lanes_figures (lanes_answer case n)
 
 -- what this layer adds
 -- Of what is accepted 0 and its values, of what is refused its number. Starred: the printed line. Not starred: the lanes question at the
@@ -56,19 +58,23 @@ counted case n = refusal_number (lanes_answer case n) ∷ lanes.lanes_figures (l
 -- flow rate.
 unfoldable pub added_facts : List Fact
 added_facts =
-    fact (answered example) (0 ∷ 3 ∷ 60782 ∷ 230782 ∷ 1196 ∷ 60782 ∷ 197 ∷ 1117 ∷ 1829 ∷ 2642 ∷ 3360 ∷ 3858 ∷ [])
-    ∷ fact (counted example 3) (0 ∷ 2 ∷ [])
-    ∷ fact (counted (example_with 2643) 3) (0 ∷ 3 ∷ [])
-    ∷ fact (counted (example_with 999999) 3 ++ counted (example_with 99999) 3) (14 ∷ 14 ∷ [])
-    ∷ fact (counted example 6) (16 ∷ [])
+    fact (answered example)
+    (0 ∷ 3 ∷ 60782 ∷ 230782 ∷ 1196 ∷ 60782 ∷ 197 ∷ 1117 ∷ 1829 ∷ 2642 ∷ 3360 ∷ 3858 ∷ [])
+    ∷ fact (lanes_answered example 3) (0 ∷ 2 ∷ [])
+    ∷ fact (lanes_answered (example_with 2643) 3) (0 ∷ 3 ∷ [])
+    ∷ fact (lanes_answered (example_with 999999) 3 ++ lanes_answered (example_with 99999) 3) (14 ∷ 14 ∷ [])
+    ∷ fact (lanes_answered example 6) (16 ∷ [])
     ∷ fact (answered estimated) (10 ∷ [])
-    ∷ fact (counted estimated 1) (0 ∷ 4 ∷ [])
-    ∷ fact (answered (given_in_snow 2 3000)) (0 ∷ 3 ∷ 71250 ∷ 216000 ∷ 1500 ∷ 66271 ∷ 227 ∷ 1566 ∷ 2506 ∷ 3294 ∷ 3884 ∷ 4320 ∷ [])
-    ∷ fact (answered (example_in_snow 2000)) (0 ∷ 3 ∷ 52272 ∷ 173372 ∷ 1196 ∷ 52222 ∷ 230 ∷ 960 ∷ 1572 ∷ 2221 ∷ 2636 ∷ 2898 ∷ [])
-    ∷ fact (counted (example_in_snow 2222) 3) (0 ∷ 3 ∷ [])
-    ∷ fact (counted refused_by19 1 ++ (counted refused_by19 6 ++ (counted refused_by_all 1 ++ counted refused_by_all 0)))
+    ∷ fact (lanes_answered estimated 1) (0 ∷ 4 ∷ [])
+    ∷ fact (answered (given_in_snow 2 3000))
+    (0 ∷ 3 ∷ 71250 ∷ 216000 ∷ 1500 ∷ 66271 ∷ 227 ∷ 1566 ∷ 2506 ∷ 3294 ∷ 3884 ∷ 4320 ∷ [])
+    ∷ fact (answered (example_in_snow 2000))
+    (0 ∷ 3 ∷ 52272 ∷ 173372 ∷ 1196 ∷ 52222 ∷ 230 ∷ 960 ∷ 1572 ∷ 2221 ∷ 2636 ∷ 2898 ∷ [])
+    ∷ fact (lanes_answered (example_in_snow 2222) 3) (0 ∷ 3 ∷ [])
+    ∷ fact (lanes_answered refused_by19 1 ++ (lanes_answered refused_by19 6 ++ (lanes_answered refused_by_all 1 ++ lanes_answered refused_by_all 0)))
     (19 ∷ 16 ∷ 1 ∷ 16 ∷ [])
-    ∷ fact (answered greatest_flow) (0 ∷ 6 ∷ 75000 ∷ 240000 ∷ 5999994 ∷ 0 ∷ 0 ∷ 137 ∷ 221 ∷ 296 ∷ 355 ∷ 400 ∷ [])
+    ∷ fact (answered greatest_flow)
+    (0 ∷ 6 ∷ 75000 ∷ 240000 ∷ 5999994 ∷ 0 ∷ 0 ∷ 137 ∷ 221 ∷ 296 ∷ 355 ∷ 400 ∷ [])
     ∷ []
 
 -- the longer list

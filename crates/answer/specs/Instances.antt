@@ -72,12 +72,14 @@ FirstAndLastServiceVolume =
 -- part 3: a case that 10 refuses needs 4 lanes, for every letter
 abbrev pub FourLanesForEveryLetter : Type 0
 FourLanesForEveryLetter =
-    (refusal_number (answer_to estimated) ≡ 10) × ((n : ℕ) → 1 ≤ n → n ≤ 5 → lanes_figures (lanes_answer estimated n) ≡ 4 ∷ [])
+    (refusal_number (answer_to estimated) ≡ 10)
+    × ((n : ℕ) → 1 ≤ n → n ≤ 5 → lanes_figures (lanes_answer estimated n) ≡ 4 ∷ [])
 
 -- part 3: with V = 999,999 no accepted count of the printed case meets C
 abbrev pub NoLanesForTheGreatestDemand : Type 0
 NoLanesForTheGreatestDemand =
-    (count : ℕ) → AcceptedCount (example_with 999999) count → Meets (with_lanes (example_with 999999) count) 3 → ⊥
+    (count : ℕ) → AcceptedCount (example_with 999999) count
+    → Meets (with_lanes (example_with 999999) count) 3 → ⊥
 
 -- part 3 on kind M: with V = 3,600 C needs 3 lanes
 abbrev pub ThreeLanesOnAMultilane : Type 0
@@ -89,4 +91,6 @@ narrow_in_snow = with_weather example (factors 815 1000)
 
 -- part 3 in snow: it needs 3 lanes for C
 abbrev pub ThreeLanesInSnow : Type 0
-ThreeLanesInSnow = (refusal_number (answer_to narrow_in_snow) ≡ 10) × (lanes_figures (lanes_answer narrow_in_snow 3) ≡ 3 ∷ [])
+ThreeLanesInSnow =
+    (refusal_number (answer_to narrow_in_snow) ≡ 10)
+    × (lanes_figures (lanes_answer narrow_in_snow 3) ≡ 3 ∷ [])

@@ -21,13 +21,20 @@ lanes_meet case n lanes = meets (with_lanes case lanes) n
 unfoldable pub lanes_found : Case → ℕ → ℕ
 lanes_found case n = least (lanes_meet case n) (suc (most_lanes case.road.kind))
 
--- what refuses the question, in its order: 16, 1 to 9, 19, 14
--- "16 letter number not 1 to 5 (A is 1), after 15 and before 1", "It checks 1 to 9, not 10", "19 .. after 9, in the lanes question too",
+-- 16, of a letter's number
+-- "16 letter number not 1 to 5 (A is 1)"
+abbrev pub letter_refusals : ℕ → List Condition
+letter_refusals n = refuses 16 (outside 1 5 n) ∷ []
+
+-- 14, where no lane count of the kind meets letter number n
 -- "14 no lane count meets the letter"
+abbrev pub count_refusals : Case → ℕ → List Condition
+count_refusals case n = refuses 14 (nat_lt (most_lanes case.road.kind) (lanes_found case n)) ∷ []
+
+-- what refuses the question, in its order: 16, 1 to 9, 19, 14
+-- "16 .. after 15 and before 1", "It checks 1 to 9, not 10", "19 .. after 9, in the lanes question too"
 unfoldable pub lanes_refusals : Case → ℕ → List Condition
-lanes_refusals case n =
-    refuses 16 (outside 1 5 n)
-    ∷ (field_refusals case ++ (refuses 14 (nat_lt (most_lanes case.road.kind) (lanes_found case n)) ∷ []))
+lanes_refusals case n = letter_refusals n ++ (field_refusals case ++ count_refusals case n)
 
 -- the count, or the refusal
 abbrev pub lanes_answer : Case → ℕ → Result ℕ Refusal

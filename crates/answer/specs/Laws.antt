@@ -1,10 +1,10 @@
 -- Laws of the answers, stated; proofs/Laws proves them.
-use Rattle.std.specs.Prelude.{◌≡◌, List, [], ◌∷◌, map, ℕ, ◌*◌, ◌≤◌}
+use Rattle.std.specs.Prelude.{◌≡◌, ◌↔◌, ◌⊎◌, List, [], ◌∷◌, map, ℕ, ◌*◌, ◌≤◌}
 use Rattle.numbers.specs.Bounds.{AllAtMost}
 use Rattle.numbers.specs.Search.{greatest}
 use Rattle.refusals.specs.Numbers.{refusal_number}
 use Rattle.road.specs.declared.Case.{Case}
-use Rattle.road.specs.Refusals.{greatest_demand}
+use Rattle.road.specs.Refusals.{greatest_demand, FieldsFit}
 use Rattle.road.specs.Cases.{with_demand}
 use Rattle.method.specs.Refusals.{Accepted}
 use Rattle.answer.specs.Volumes.{meets, service_volume}
@@ -23,7 +23,8 @@ figure_ends =
 
 -- no figure of an answer is above its end; the room for an answer rests on it
 abbrev pub FiguresWithinEnds : Type 0
-FiguresWithinEnds = (case : Case) → Accepted case → AllAtMost (answers.grade_figures (answer_to case)) figure_ends
+FiguresWithinEnds =
+    (case : Case) → Accepted case → AllAtMost (answers.grade_figures (answer_to case)) figure_ends
 
 -- searched for up to any end from 19,200 on, the service volumes are the same
 -- so they are the same searched for up to 99,999, the greatest demand before T-09
@@ -45,7 +46,8 @@ RefusalsWithinEnds =
 -- a case that 19 refuses, and its lanes question
 abbrev pub RefusalsReachEnds : Type 0
 RefusalsReachEnds =
-    (refusal_number (answer_to refused_by19) ≡ last_refusal) × (refusal_number (lanes_answer refused_by19 1) ≡ last_refusal)
+    (refusal_number (answer_to refused_by19) ≡ last_refusal)
+    × (refusal_number (lanes_answer refused_by19 1) ≡ last_refusal)
 
 -- the lanes question's list has 16, 1 to 9, 19 and 14, in this order, for every case and letter number
 abbrev pub LanesRefusalsInOrder : Type 0
@@ -61,6 +63,14 @@ LanesRefusedAsTheCase =
     → let number = refusal_number (answer_to case) in
     (number ≡ 0 → ⊥) → (number ≡ 10 → ⊥) → refusal_number (lanes_answer case n) ≡ number
 
+-- for A to E the fields of a case fit exactly when its lanes question is answered, or refused with 14: nothing but 14 refuses it
+abbrev pub NothingBut14RefusesFitFields : Type 0
+NothingBut14RefusesFitFields =
+    (case : Case) (n : ℕ) → 1 ≤ n → n ≤ 5
+    → let number = refusal_number (lanes_answer case n) in
+    FieldsFit case ↔ ((number ≡ 0) ⊎ (number ≡ 14))
+
 -- a lane count is one digit
 abbrev pub CountsAreDigits : Type 0
-CountsAreDigits = (case : Case) (n count : ℕ) → lanes.lanes_figures (lanes_answer case n) ≡ count ∷ [] → count ≤ 9
+CountsAreDigits =
+    (case : Case) (n count : ℕ) → lanes.lanes_figures (lanes_answer case n) ≡ count ∷ [] → count ≤ 9

@@ -5,7 +5,7 @@ pub mod Volumes
 pub mod Answers
 -- the lanes question
 pub mod Lanes
--- the test that a search puts to a demand, and what it needs
+-- the test that a search puts to a demand
 pub mod Search
 -- which demands the searches try, and how many
 pub mod Tries

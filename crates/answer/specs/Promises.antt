@@ -64,13 +64,15 @@ LanesComparable c d = (c.weather ≡ clear) ⊎ (c.road.way ≡ Way.Given) ⊎ (
 -- better letter.
 abbrev pub NoBetterUnderMoreLoad : Type 0
 NoBetterUnderMoreLoad =
-    (c d : Case) → Accepted c → Accepted d → SameRoad c d → c.weather ≡ d.weather → LanesComparable c d → HeavierIsNoBetter c d
+    (c d : Case) → Accepted c → Accepted d → SameRoad c d → c.weather ≡ d.weather → LanesComparable c d
+    → HeavierIsNoBetter c d
 
 -- what part 1 says of clear weather, whatever the lanes
 -- In clear weather it is part 1 as document 01 asks it, whatever the lanes.
 abbrev pub NoBetterInClearWeather : Type 0
 NoBetterInClearWeather =
-    (c d : Case) → Accepted c → Accepted d → SameRoad c d → c.weather ≡ clear → d.weather ≡ clear → HeavierIsNoBetter c d
+    (c d : Case) → Accepted c → Accepted d → SameRoad c d → c.weather ≡ clear → d.weather ≡ clear
+    → HeavierIsNoBetter c d
 
 -- part 2
 -- Part 2. A demand meets a letter, A to E, exactly when it is at most the service volume that the answer to the case gives.

@@ -1,11 +1,10 @@
--- What the searches try, and what they need. It is no part of the method: proofs/VolumeLaws shows that a demand that is tried passes
--- exactly when it meets the letter.
-use Rattle.std.specs.Prelude.{ℕ, ◌≤◌, Bool}
+-- What the searches for the service volumes try. It is no part of the method: proofs/VolumeLaws shows that a demand passes exactly when it
+-- meets the letter.
+use Rattle.std.specs.Prelude.{ℕ, Bool}
 use Rattle.numbers.specs.Search.{greatest}
 use Rattle.curve.specs.declared.Curve.{Curve}
 use Rattle.curve.specs.Service.{meets_limit, density_limit}
-use Rattle.road.specs.declared.Case.{Case}
-use Rattle.road.specs.Refusals.{greatest_demand, FieldsFit}
+use Rattle.road.specs.Refusals.{greatest_demand}
 use Rattle.method.specs.declared.flow.Load.{Load}
 use Rattle.method.specs.Flow.{flow_rate_of}
 use Rattle.answer.specs.declared.evaluate.Volumes.{Volumes}
@@ -28,9 +27,3 @@ searched_volumes curve load =
       d = searched_volume curve load 4;
       e = searched_volume curve load 5;
     }
-
--- none of 16, 1 to 9 and 19 refuses the lanes question
-pub record Asking (case : Case) (n : ℕ) : Type 0 where
-  pub fields : FieldsFit case
-  pub letter-low : 1 ≤ n
-  pub letter-high : n ≤ 5

@@ -16,29 +16,34 @@ use Rattle.answer.specs.Tries.{meets_with, tried_for, demands_tried, counted_ans
 -- no service volume is above that of the next worse letter
 abbrev pub NoVolumeAboveTheNext : Type 0
 NoVolumeAboveTheNext =
-    (case : Case) → Accepted case → (n : ℕ) → 1 ≤ n → n ≤ 4 → volume_in (answer_to case) n ≤ volume_in (answer_to case) (suc n)
+    (case : Case) → Accepted case → (n : ℕ) → 1 ≤ n → n ≤ 4
+    → volume_in (answer_to case) n ≤ volume_in (answer_to case) (suc n)
 
 -- so it is with A and B, and with D and E, of the printed line
 abbrev pub ExampleVolumesRise : Type 0
 ExampleVolumesRise =
-    (volume_in (answer_to example) 1 ≤ volume_in (answer_to example) 2) × (volume_in (answer_to example) 4 ≤ volume_in (answer_to example) 5)
+    (volume_in (answer_to example) 1 ≤ volume_in (answer_to example) 2)
+    × (volume_in (answer_to example) 4 ≤ volume_in (answer_to example) 5)
 
 -- at most 20 demands are tried for E, and at most 15 for each other letter
 -- 2 to the power 20 is above the greatest demand, and 2 to the power 15 above any service volume
 abbrev pub TriesOfALetter : Type 0
 TriesOfALetter =
     (case : Case) → Accepted case
-    → (length (tried_for (meets_with case) 5) ≤ 20) × ((n : ℕ) → 1 ≤ n → n ≤ 4 → length (tried_for (meets_with case) n) ≤ 15)
+    → (length (tried_for (meets_with case) 5) ≤ 20)
+    × ((n : ℕ) → 1 ≤ n → n ≤ 4 → length (tried_for (meets_with case) n) ≤ 15)
 
 -- at most 80 are tried for the five together, and at least one
 -- "at most 80 demands tried for the five together"
 abbrev pub AtMost80Tried : Type 0
-AtMost80Tried = (case : Case) → Accepted case → (1 ≤ length (demands_tried case)) × (length (demands_tried case) ≤ 80)
+AtMost80Tried =
+    (case : Case) → Accepted case → (1 ≤ length (demands_tried case)) × (length (demands_tried case) ≤ 80)
 
 -- the 67 that are tried for the printed line, a row for each of E, D, C, B and A
 abbrev pub example_tried : List ℕ
 example_tried =
-    500000 ∷ 250000 ∷ 125000 ∷ 62500 ∷ 31250 ∷ 15625 ∷ 7812 ∷ 3906 ∷ 1953 ∷ 2929 ∷ 3417 ∷ 3661 ∷ 3783 ∷ 3844 ∷ 3875 ∷ 3859 ∷ 3851
+    500000 ∷ 250000 ∷ 125000 ∷ 62500 ∷ 31250 ∷ 15625 ∷ 7812 ∷ 3906 ∷ 1953 ∷ 2929 ∷ 3417 ∷ 3661 ∷ 3783 ∷ 3844
+    ∷ 3875 ∷ 3859 ∷ 3851
     ∷ 3855 ∷ 3857 ∷ 3858
     ∷ 1929 ∷ 2894 ∷ 3376 ∷ 3135 ∷ 3255 ∷ 3315 ∷ 3345 ∷ 3360 ∷ 3368 ∷ 3364 ∷ 3362 ∷ 3361
     ∷ 1680 ∷ 2520 ∷ 2940 ∷ 2730 ∷ 2625 ∷ 2677 ∷ 2651 ∷ 2638 ∷ 2644 ∷ 2641 ∷ 2642 ∷ 2643

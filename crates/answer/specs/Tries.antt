@@ -53,9 +53,13 @@ found p end = record { value = greatest p end; tries = length (tried_up_to p end
 
 -- what the five searches hand back together
 abbrev pub found_volumes : Curve → Load → Counted Volumes
-found_volumes curve load = record { value = searched_volumes curve load; tries = length (tried_from (tests_of curve load) 5) }
+found_volumes curve load =
+    record { value = searched_volumes curve load; tries = length (tried_from (tests_of curve load) 5) }
 
 -- the answer to a case, and how many demands were tried for it: none for a refused one
 abbrev pub counted_answer : Case → Counted (Result Grade Refusal)
 counted_answer case =
-    record { value = answer_to case; tries = unless_refused (refusal case) (length (demands_tried case)) (λ number. 0) }
+    record {
+      value = answer_to case;
+      tries = unless_refused (refusal case) (length (demands_tried case)) (λ number. 0);
+    }

@@ -1,42 +1,45 @@
-//! The answer to a case.
+//! The answer to a case: its letter, speed and density, and the service volumes of its road.
 
 ghost use Rattle.std.specs.Prelude.{◌≡◌, ◌≤◌};
+ghost use Rattle.curve.specs.Service.{letter_number};
 ghost use Rattle.road.specs.Refusals.{greatest_demand};
 ghost use Rattle.answer.specs.Volumes.{service_volumes};
 ghost use Rattle.answer.specs.Search.{demand_meets, searched_volumes};
 ghost use Rattle.answer.specs.Answers.{grade_of, answer_to, grade_figures};
-ghost use Rattle.answer.specs.Tries.{found, found_volumes, counted_answer};
+ghost use Rattle.answer.specs.Tries.{tests_of, found, found_volumes, counted_answer};
 
+use curve::service::Letter;
+use method::accepted::{AcceptedCase, CaseTerms, Measures};
+use numbers::units::{Capacity, Demand, Density, FlowRate, Speed};
 use refusals::Refusal;
-use curve::service::{self, Letter};
-use method::assess::{AcceptedCase, CaseTerms, Measures};
-use method::checked;
 use road::Case;
 use road::refusal::GREATEST_DEMAND;
 
-/// The service volumes A to E.
+/// The service volumes of A to E.
 #[derive(Clone, Copy, PartialEq, Eq)]
 pub struct Volumes {
-    pub a: u64,
-    pub b: u64,
-    pub c: u64,
-    pub d: u64,
-    pub e: u64,
+    pub a: Demand,
+    pub b: Demand,
+    pub c: Demand,
+    pub d: Demand,
+    pub e: Demand,
 }
 
-/// Letter, F, c, v, speed, density and the service volumes.
+/// The answer to an accepted case.
 #[derive(Clone, Copy, PartialEq, Eq)]
 pub struct Grade {
     pub letter: Letter,
-    pub free_flow_speed: u64,
-    pub capacity: u64,
-    pub flow_rate: u64,
-    pub speed: u64,
-    pub density: u64,
+    pub free_flow_speed: Speed,
+    pub capacity: Capacity,
+    pub flow_rate: FlowRate,
+    /// 0 above capacity
+    pub speed: Speed,
+    /// 0 above capacity
+    pub density: Density,
     pub volumes: Volumes,
 }
 
-/// What is found, and how many demands were tried for it.
+/// A value, and how many demands were tried for it.
 #[derive(Clone, Copy)]
 pub struct Counted<T> {
     pub value: T,
@@ -60,7 +63,7 @@ impl Grade {
         }
     }
 
-    /// The eleven figures of a grade, the letter by its number.
+    /// Its eleven figures in the order of an answer's text, the letter by its number.
     pub fn figures(&self) -> [u64; 11]
         ensures { result ≡ grade_figures (Ok self.now) }
     {
@@ -83,7 +86,7 @@ impl Grade {
 
 /// Whether a demand keeps to capacity and to a density.
 #[tactic(auto, unfolding(crate::specs::Search::demand_meets))]
-fn demand_meets(terms: &CaseTerms, limit: u64, demand: u64) -> bool
+fn demand_meets(terms: &CaseTerms, limit: Density, demand: Demand) -> bool
     requires limit_high { limit ≤ 450 }
     requires demand_high { demand ≤ greatest_demand }
     ensures { result ≡ demand_meets terms.now.curve_terms.curve terms.now.load limit demand }
@@ -92,17 +95,19 @@ fn demand_meets(terms: &CaseTerms, limit: u64, demand: u64) -> bool
     terms.curve_terms.meets_limit(flow_rate, limit)
 }
 
-/// The greatest demand up to the end that keeps to a density, by halving; 0 is known to.
-fn greatest_meeting(terms: &CaseTerms, limit: u64, end: u64) -> Counted<u64>
-    requires limit_high { limit ≤ 450 }
-    requires end_high { end ≤ greatest_demand }
-    ensures { result ≡ found (demand_meets terms.now.curve_terms.curve terms.now.load limit) end }
+/// The greatest demand up to the end that keeps to capacity and to a letter's density, by halving: 0 does.
+fn greatest_meeting(terms: &CaseTerms, letter: Letter, end: Demand) -> Counted<Demand>
+    requires { end ≤ greatest_demand }
+    ensures found { result ≡ found (tests_of terms.now.curve_terms.curve terms.now.load (letter_number letter)) end }
+    ensures value { result.value ≤ end }
+    ensures tries { result.tries ≤ end }
 {
+    let limit = letter.density_limit();
     let mut low = 0;
     let mut high = end + 1;
     let mut tries = 0;
-    while 1 < high - low {
-        let middle = low + (high - low) / 2;
+    while low + 1 < high {
+        let middle = (low + high) / 2;
         tries += 1;
         if demand_meets(terms, limit, middle) {
             low = middle;
@@ -114,34 +119,35 @@ fn greatest_meeting(terms: &CaseTerms, limit: u64, end: u64) -> Counted<u64>
 }
 
 /// E first, then each better letter up to the volume found before: no volume is above that of the next worse letter.
+#[tactic(auto, using(crate::proofs::TriesLaws::search_laws))]
 fn found_volumes(terms: &CaseTerms) -> Counted<Volumes>
     ensures { result ≡ found_volumes terms.now.curve_terms.curve terms.now.load }
 {
-    let mut volumes = [0; 5];
-    let mut end = GREATEST_DEMAND;
-    let mut tries = 0;
-    for place in (0..5).rev() {
-        let limit = service::density_limit(place as u64 + 1);
-        let found = greatest_meeting(terms, limit, end);
-        volumes[place] = found.value;
-        end = found.value;
-        tries += found.tries;
-    }
-    let [a, b, c, d, e] = volumes;
+    let e = greatest_meeting(terms, Letter::E, GREATEST_DEMAND);
+    let d = greatest_meeting(terms, Letter::D, e.value);
+    let c = greatest_meeting(terms, Letter::C, d.value);
+    let b = greatest_meeting(terms, Letter::B, c.value);
+    let a = greatest_meeting(terms, Letter::A, b.value);
     Counted {
-        value: Volumes { a, b, c, d, e },
-        tries,
+        value: Volumes {
+            a: a.value,
+            b: b.value,
+            c: c.value,
+            d: d.value,
+            e: e.value,
+        },
+        tries: e.tries + d.tries + c.tries + b.tries + a.tries,
     }
 }
 
-/// The volumes on any curve, with any load that fits.
+/// The service volumes on any curve with any load.
 pub fn searched_volumes(terms: &CaseTerms) -> Volumes
     ensures { result ≡ searched_volumes terms.now.curve_terms.curve terms.now.load }
 {
     found_volumes(terms).value
 }
 
-/// Those of an accepted case.
+/// The service volumes of an accepted case.
 #[tactic(auto, using(crate::proofs::VolumeLaws::volume_laws))]
 pub fn service_volumes(accepted: &AcceptedCase) -> Volumes
     ensures { result ≡ service_volumes accepted.now.case }
@@ -150,7 +156,7 @@ pub fn service_volumes(accepted: &AcceptedCase) -> Volumes
 }
 
 #[tactic(auto, using(crate::proofs::TriesLaws::found_laws), unfolding(crate::specs::Answers::graded))]
-fn graded(accepted: &AcceptedCase) -> Counted<Result<Grade, Refusal>>
+fn counted_grade(accepted: &AcceptedCase) -> Counted<Result<Grade, Refusal>>
     ensures { result ≡ counted_answer accepted.now.case }
 {
     let found = found_volumes(&accepted.terms);
@@ -160,12 +166,13 @@ fn graded(accepted: &AcceptedCase) -> Counted<Result<Grade, Refusal>>
     }
 }
 
-/// No demand is tried for a case that is refused.
+/// The grade of a case, or the first of 1 to 9, 19 and 10 that refuses it, and how many demands were tried: none for a case that is refused.
+#[tactic(auto, using(crate::proofs::TriesLaws::counted_laws))]
 pub fn evaluate_counted(case: Case) -> Counted<Result<Grade, Refusal>>
     ensures { result ≡ counted_answer case }
 {
-    match checked::check(&case) {
-        Ok(curve) => graded(&AcceptedCase::new(case, curve)),
+    match AcceptedCase::check(case) {
+        Ok(accepted) => counted_grade(&accepted),
         Err(refusal) => Counted {
             value: Err(refusal),
             tries: 0,
@@ -173,7 +180,7 @@ pub fn evaluate_counted(case: Case) -> Counted<Result<Grade, Refusal>>
     }
 }
 
-/// Without the count.
+/// The grade of a case, or the first of 1 to 9, 19 and 10 that refuses it.
 pub fn evaluate(case: Case) -> Result<Grade, Refusal>
     ensures { result ≡ answer_to case }
 {

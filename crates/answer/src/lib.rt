@@ -1,6 +1,7 @@
-//! Answer: what a case gets, with its service volumes, and the lanes question.
+//! The answer to a case with its service volumes, the lanes question, and what is promised of both.
 
 #![tactic(auto)]
 
 pub mod evaluate;
 pub mod lanes;
+pub mod promises;

@@ -9,7 +9,7 @@ use Rattle.curve.specs.Laws.{PowerIsLeast, PowerNeverFalls, TableHoldsPowers}
 use Rattle.curve.specs.Laws.{CapacityWithinEnds, CapacityReachesEnds, ClearWeatherChangesNothing, CurveUnderIsWellFormed, SpeedIsAboveZero}
 use Rattle.curve.specs.Laws.{SpeedNeverBelowCapacitySpeed, SpeedNeverRisesWithFlow, DensityNeverFallsWithFlow}
 use Rattle.curve.specs.Laws.{SpeedNeverFallsWithFreeFlowSpeed, DensityMeetsLimitByExactSpeed, DensityAtMost450, LetterNeverBetterWithFlow}
-use Rattle.curve.specs.Laws.{LetterNeverBetter}
+use Rattle.curve.specs.Laws.{LetterNeverBetter, KindsCarry}
 use Rattle.curve.proofs.PowerTable.{power_table}
 use Rattle.curve.proofs.PowerLaws.{power_table-at, power-le, power-mono}
 use Rattle.curve.proofs.CurveLaws.{capacity-within}
@@ -35,6 +35,9 @@ power-never-falls i j h k = (power-mono i j h k, power-le j k)
 pub table-holds-powers : TableHoldsPowers
 unfolding power_table
 table-holds-powers = (refl, λ i h. sym (power_table-at i h))
+
+pub kinds-carry : KindsCarry
+kinds-carry = (refl, refl)
 
 pub capacity-within-ends : CapacityWithinEnds
 capacity-within-ends = capacity-within

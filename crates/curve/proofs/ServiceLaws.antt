@@ -1,5 +1,5 @@
 -- Density and letter (specs/Service).
-use Rattle.std.proofs.Common.{◌≡◌, refl, ap, Bool, true, false, cond, ◌↔◌, ℕ, ◌*◌, ◌/◌, ◌≤◌, ◌<◌, arith, le_trans, le_of_eq, zero-mul}
+use Rattle.std.proofs.Common.{zero, suc, ◌≡◌, refl, ap, Bool, true, false, cond, ◌↔◌, ℕ, ◌*◌, ◌/◌, ◌≤◌, ◌<◌, arith, le_trans, le_of_eq, zero-mul}
 use Rattle.std.proofs.Common.{mul-le-mul_right, div-one, le-leb, T, leb, leb→le, le→leb}
 use Rattle.std.proofs.Math.Decide.{dec_le}
 use Rattle.std.proofs.lemmas.Bool.{lt-leb}
@@ -123,6 +123,16 @@ density-zero curve ok =
     (div_up-zero (1 * (speed curve 0).numerator) (omega (arith, speed-numerator-pos curve 0 ok (omega arith))))
 
 -- ---- letters
+-- what holds of the five letter numbers holds of each
+pub by-letter : (P : ℕ → Type 0) → P 1 → P 2 → P 3 → P 4 → P 5 → (n : ℕ) → 1 ≤ n → n ≤ 5 → P n
+by-letter P a b c d e zero h k = absurd (omega arith)
+by-letter P a b c d e (suc zero) h k = a
+by-letter P a b c d e (suc (suc zero)) h k = b
+by-letter P a b c d e (suc (suc (suc zero))) h k = c
+by-letter P a b c d e (suc (suc (suc (suc zero)))) h k = d
+by-letter P a b c d e (suc (suc (suc (suc (suc zero))))) h k = e
+by-letter P a b c d e (suc (suc (suc (suc (suc (suc n)))))) h k = absurd (omega arith)
+
 letter_number-cond : (b : Bool) (x y : Letter) → letter_number (cond b x y) ≡ cond b (letter_number x) (letter_number y)
 letter_number-cond true x y = refl
 letter_number-cond false x y = refl
@@ -142,7 +152,7 @@ grade_number-mono : (d e : ℕ) → d ≤ e → grade_number d ≤ grade_number 
 unfolding grade_number
 grade_number-mono d e h = grind (arith, nat_tests)
 
--- density_letter-mono, letter_number-le: a greater density gets no better letter; none is past F
+-- density_letter-mono, letter_number-le, letter_number-ge: a greater density gets no better letter; none is past F nor before A
 pub density_letter-mono : (d e : ℕ) → d ≤ e → letter_number (density_letter d) ≤ letter_number (density_letter e)
 density_letter-mono d e h = rw (density_letter-number d, density_letter-number e) (grade_number-mono d e h)
 
@@ -153,6 +163,14 @@ letter_number-le Letter.C = omega arith
 letter_number-le Letter.D = omega arith
 letter_number-le Letter.E = omega arith
 letter_number-le Letter.F = omega arith
+
+pub letter_number-ge : (l : Letter) → 1 ≤ letter_number l
+letter_number-ge Letter.A = omega arith
+letter_number-ge Letter.B = omega arith
+letter_number-ge Letter.C = omega arith
+letter_number-ge Letter.D = omega arith
+letter_number-ge Letter.E = omega arith
+letter_number-ge Letter.F = omega arith
 
 -- without flow the letter is A
 pub letter_at-zero : (curve : Curve) → WellFormed curve → letter_at curve 0 ≡ Letter.A

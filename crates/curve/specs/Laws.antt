@@ -1,13 +1,14 @@
 -- The laws of the curve, stated over the definitions that the contracts cite; proofs/Laws proves each.
 -- Under weather the laws in v hold, on one curve. Those in F are for clear weather: with a capacity factor of 501 to 506 the speed may fall
 -- as F rises, by the rounding of b.
-use Rattle.std.specs.Prelude.{◌≡◌, ◌↔◌, ℕ, ◌*◌, ◌^◌, ◌≤◌, ◌<◌}
+use Rattle.std.specs.Prelude.{◌≡◌, ◌↔◌, List, [], ◌∷◌, ℕ, ◌*◌, ◌^◌, ◌≤◌, ◌<◌}
 use Rattle.numbers.specs.Fraction.{over, whole, times, AtMost}
 use Rattle.curve.specs.declared.kind.Kind.{Kind}
 use Rattle.curve.specs.declared.power_table.TheConstants.{POWERS}
 use Rattle.curve.specs.declared.Curve.{Curve}
 use Rattle.curve.specs.declared.Weather.{Weather}
-use Rattle.curve.specs.Kinds.{lowest_speed, highest_speed, lowest_adjusted_speed, lowest_capacity, highest_capacity}
+use Rattle.curve.specs.Kinds.{lowest_speed, highest_speed, lowest_adjusted_speed, lowest_factor, fewest_lanes, most_lanes}
+use Rattle.curve.specs.Kinds.{lowest_capacity, highest_capacity}
 use Rattle.curve.specs.Curves.{capacity, curve_at, WellFormed, Sized}
 use Rattle.curve.specs.Power.{power, PowerTable}
 use Rattle.curve.specs.Weather.{clear, FactorsFit, adjusted_speed, curve_under}
@@ -29,6 +30,20 @@ PowerNeverFalls = (i j : ℕ) → i ≤ j → j ≤ 1000 → (power i ≤ power 
 abbrev pub TableHoldsPowers : Type 0
 TableHoldsPowers = PowerTable POWERS
 
+-- ---- kinds
+-- What each kind carries, in figures: the ends of F, the lower end of F after its factor and of the weather's factors, the ends of the lane
+-- count, and the ends of capacity.
+abbrev pub KindsCarry : Type 0
+KindsCarry =
+    (carried_by Kind.Freeway ≡ 55000 ∷ 75000 ∷ 50000 ∷ 500 ∷ 2 ∷ 8 ∷ 225000 ∷ 240000 ∷ [])
+    × (carried_by Kind.Multilane ≡ 45000 ∷ 70000 ∷ 45000 ∷ 1000 ∷ 2 ∷ 3 ∷ 190000 ∷ 230000 ∷ [])
+  where
+    carried_by : Kind → List ℕ
+    carried_by kind =
+        lowest_speed kind ∷ highest_speed kind ∷ lowest_adjusted_speed kind ∷ lowest_factor kind
+        ∷ fewest_lanes kind ∷ most_lanes kind
+        ∷ lowest_capacity kind ∷ highest_capacity kind ∷ []
+
 -- ---- capacity
 -- Capacity lies between the kind's ends, for every F between its ends.
 abbrev pub CapacityWithinEnds : Type 0
@@ -39,7 +54,9 @@ CapacityWithinEnds =
 -- and it reaches them, at the ends of F.
 abbrev pub CapacityReachesEnds : Type 0
 CapacityReachesEnds =
-    (kind : Kind) → (capacity kind (lowest_speed kind) ≡ lowest_capacity kind) × (capacity kind (highest_speed kind) ≡ highest_capacity kind)
+    (kind : Kind)
+    → (capacity kind (lowest_speed kind) ≡ lowest_capacity kind)
+    × (capacity kind (highest_speed kind) ≡ highest_capacity kind)
 
 -- ---- weather
 -- With both factors 1,000 the curve is that of document 01.
@@ -50,7 +67,8 @@ ClearWeatherChangesNothing = (kind : Kind) (f : ℕ) → curve_under clear kind 
 -- is at most F, and 64 bits hold the products.
 abbrev pub CurveUnderIsWellFormed : Type 0
 CurveUnderIsWellFormed =
-    (kind : Kind) (weather : Weather) (f : ℕ) → FactorsFit kind weather → lowest_adjusted_speed kind ≤ adjusted_speed weather f
+    (kind : Kind) (weather : Weather) (f : ℕ) → FactorsFit kind weather
+    → lowest_adjusted_speed kind ≤ adjusted_speed weather f
     → f ≤ highest_speed kind
     → WellFormed (curve_under weather kind f) × Sized (curve_under weather kind f)
 
@@ -64,22 +82,26 @@ SpeedIsAboveZero =
 -- Up to capacity the speed is never below that at capacity, 10c/45: so no subtraction in S goes below 0.
 abbrev pub SpeedNeverBelowCapacitySpeed : Type 0
 SpeedNeverBelowCapacitySpeed =
-    (curve : Curve) (v : ℕ) → WellFormed curve → 100 * v ≤ curve.capacity → AtMost (over (10 * curve.capacity) 45) (speed curve v)
+    (curve : Curve) (v : ℕ) → WellFormed curve → 100 * v ≤ curve.capacity
+    → AtMost (over (10 * curve.capacity) 45) (speed curve v)
 
 -- With more flow the speed never rises.
 abbrev pub SpeedNeverRisesWithFlow : Type 0
 SpeedNeverRisesWithFlow =
-    (curve : Curve) (v₁ v₂ : ℕ) → WellFormed curve → v₁ ≤ v₂ → 100 * v₂ ≤ curve.capacity → AtMost (speed curve v₂) (speed curve v₁)
+    (curve : Curve) (v₁ v₂ : ℕ) → WellFormed curve → v₁ ≤ v₂ → 100 * v₂ ≤ curve.capacity
+    → AtMost (speed curve v₂) (speed curve v₁)
 
 -- With more flow the density never falls.
 abbrev pub DensityNeverFallsWithFlow : Type 0
 DensityNeverFallsWithFlow =
-    (curve : Curve) (v₁ v₂ : ℕ) → WellFormed curve → v₁ ≤ v₂ → 100 * v₂ ≤ curve.capacity → density curve v₁ ≤ density curve v₂
+    (curve : Curve) (v₁ v₂ : ℕ) → WellFormed curve → v₁ ≤ v₂ → 100 * v₂ ≤ curve.capacity
+    → density curve v₁ ≤ density curve v₂
 
 -- With a higher free-flow speed the speed never falls, of either kind, in clear weather.
 abbrev pub SpeedNeverFallsWithFreeFlowSpeed : Type 0
 SpeedNeverFallsWithFreeFlowSpeed =
-    (kind : Kind) (f g v : ℕ) → lowest_speed kind ≤ f → f ≤ g → g ≤ highest_speed kind → 100 * v ≤ capacity kind f
+    (kind : Kind) (f g v : ℕ) → lowest_speed kind ≤ f → f ≤ g → g ≤ highest_speed kind
+    → 100 * v ≤ capacity kind f
     → AtMost (speed (curve_at kind f) v) (speed (curve_at kind g) v)
 
 -- ---- density and letter
@@ -91,12 +113,14 @@ DensityMeetsLimitByExactSpeed =
 
 -- Up to capacity the density is at most 450: no case there is past E.
 abbrev pub DensityAtMost450 : Type 0
-DensityAtMost450 = (curve : Curve) (v : ℕ) → WellFormed curve → 100 * v ≤ curve.capacity → density curve v ≤ 450
+DensityAtMost450 =
+    (curve : Curve) (v : ℕ) → WellFormed curve → 100 * v ≤ curve.capacity → density curve v ≤ 450
 
 -- More flow never gets a better letter, on any curve.
 abbrev pub LetterNeverBetterWithFlow : Type 0
 LetterNeverBetterWithFlow =
-    (curve : Curve) (v₁ v₂ : ℕ) → WellFormed curve → v₁ ≤ v₂ → letter_number (letter_at curve v₁) ≤ letter_number (letter_at curve v₂)
+    (curve : Curve) (v₁ v₂ : ℕ) → WellFormed curve → v₁ ≤ v₂
+    → letter_number (letter_at curve v₁) ≤ letter_number (letter_at curve v₂)
 
 -- More flow at a free-flow speed that is no higher never gets a better letter, in clear weather.
 abbrev pub LetterNeverBetter : Type 0

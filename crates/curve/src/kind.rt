@@ -1,62 +1,93 @@
-//! The two kinds of road and what each carries.
+//! The two kinds of road, and the constants that each carries.
 
 ghost use Rattle.std.specs.Prelude.{◌≡◌};
 ghost use Rattle.curve.specs.Kinds.{lowest_speed, highest_speed, lowest_adjusted_speed, lowest_factor, fewest_lanes, most_lanes};
 ghost use Rattle.curve.specs.Kinds.{lowest_capacity, highest_capacity};
 
-/// The ends of F, of the weather's factors, of the lane count and of capacity.
-#[derive(Clone, Copy)]
-pub struct Limits {
-    /// the ends of F, thousandths of mi/h
-    pub lowest_speed: u64,
-    pub highest_speed: u64,
-    /// the lower end of F after the speed factor
-    pub lowest_adjusted_speed: u64,
-    /// the lower end of the weather's factors, thousandths
-    pub lowest_factor: u64,
-    /// the ends of the lane count
-    pub fewest_lanes: u64,
-    pub most_lanes: u64,
-    /// capacity in clear weather at the ends of F, hundredths of passenger cars per hour per lane
-    pub lowest_capacity: u64,
-    pub highest_capacity: u64,
-}
+use numbers::units::{Capacity, Share, Speed};
 
 /// Kind F: a basic freeway segment.
 #[derive(Clone, Copy)]
 pub struct Freeway;
 
+impl Freeway {
+    /// The lower end of F, thousandths of mi/h.
+    pub const LOWEST_SPEED: Speed = 55_000;
+    /// The upper end of F, thousandths of mi/h.
+    pub const HIGHEST_SPEED: Speed = 75_000;
+    /// The lower end of F after the speed factor, thousandths of mi/h.
+    pub const LOWEST_ADJUSTED_SPEED: Speed = 50_000;
+    /// The lower end of the weather's factors, thousandths.
+    pub const LOWEST_FACTOR: Share = 500;
+    /// The fewest lanes in one direction.
+    pub const FEWEST_LANES: u64 = 2;
+    /// The most lanes in one direction.
+    pub const MOST_LANES: u64 = 8;
+    /// Capacity in clear weather at the lower end of F, hundredths of passenger cars per hour per lane.
+    pub const LOWEST_CAPACITY: Capacity = 225_000;
+    /// The same at the upper end.
+    pub const HIGHEST_CAPACITY: Capacity = 240_000;
+
+    const LIMITS: Limits = Limits {
+        lowest_speed: Self::LOWEST_SPEED,
+        highest_speed: Self::HIGHEST_SPEED,
+        lowest_adjusted_speed: Self::LOWEST_ADJUSTED_SPEED,
+        lowest_factor: Self::LOWEST_FACTOR,
+        fewest_lanes: Self::FEWEST_LANES,
+        most_lanes: Self::MOST_LANES,
+        lowest_capacity: Self::LOWEST_CAPACITY,
+        highest_capacity: Self::HIGHEST_CAPACITY,
+    };
+}
+
 /// Kind M: a multilane highway.
 #[derive(Clone, Copy)]
 pub struct Multilane;
 
-impl Freeway {
-    pub const LIMITS: Limits = Limits {
-        lowest_speed: 55_000,
-        highest_speed: 75_000,
-        lowest_adjusted_speed: 50_000,
-        lowest_factor: 500,
-        fewest_lanes: 2,
-        most_lanes: 8,
-        lowest_capacity: 225_000,
-        highest_capacity: 240_000,
-    };
-}
-
 impl Multilane {
-    pub const LIMITS: Limits = Limits {
-        lowest_speed: 45_000,
-        highest_speed: 70_000,
-        lowest_adjusted_speed: 45_000,
-        lowest_factor: 1_000,
-        fewest_lanes: 2,
-        most_lanes: 3,
-        lowest_capacity: 190_000,
-        highest_capacity: 230_000,
+    /// The lower end of F, thousandths of mi/h.
+    pub const LOWEST_SPEED: Speed = 45_000;
+    /// The upper end of F, thousandths of mi/h.
+    pub const HIGHEST_SPEED: Speed = 70_000;
+    /// The lower end of F after the speed factor, thousandths of mi/h.
+    pub const LOWEST_ADJUSTED_SPEED: Speed = 45_000;
+    /// The lower end of the weather's factors, thousandths.
+    pub const LOWEST_FACTOR: Share = 1_000;
+    /// The fewest lanes in one direction.
+    pub const FEWEST_LANES: u64 = 2;
+    /// The most lanes in one direction.
+    pub const MOST_LANES: u64 = 3;
+    /// Capacity in clear weather at the lower end of F, hundredths of passenger cars per hour per lane.
+    pub const LOWEST_CAPACITY: Capacity = 190_000;
+    /// The same at the upper end.
+    pub const HIGHEST_CAPACITY: Capacity = 230_000;
+
+    const LIMITS: Limits = Limits {
+        lowest_speed: Self::LOWEST_SPEED,
+        highest_speed: Self::HIGHEST_SPEED,
+        lowest_adjusted_speed: Self::LOWEST_ADJUSTED_SPEED,
+        lowest_factor: Self::LOWEST_FACTOR,
+        fewest_lanes: Self::FEWEST_LANES,
+        most_lanes: Self::MOST_LANES,
+        lowest_capacity: Self::LOWEST_CAPACITY,
+        highest_capacity: Self::HIGHEST_CAPACITY,
     };
 }
 
-/// One of the two; figures: what it carries.
+/// A kind's constants, for code that has the kind as a value.
+#[derive(Clone, Copy)]
+pub struct Limits {
+    pub lowest_speed: Speed,
+    pub highest_speed: Speed,
+    pub lowest_adjusted_speed: Speed,
+    pub lowest_factor: Share,
+    pub fewest_lanes: u64,
+    pub most_lanes: u64,
+    pub lowest_capacity: Capacity,
+    pub highest_capacity: Capacity,
+}
+
+/// One of the two kinds.
 #[derive(Clone, Copy, PartialEq, Eq)]
 pub enum Kind {
     Freeway,
@@ -64,6 +95,7 @@ pub enum Kind {
 }
 
 impl Kind {
+    /// The constants of the kind.
     pub fn limits(self) -> Limits
         ensures lowest_speed { result.lowest_speed ≡ lowest_speed self }
         ensures highest_speed { result.highest_speed ≡ highest_speed self }

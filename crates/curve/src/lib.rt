@@ -1,10 +1,11 @@
-//! Curve: the two kinds of road, and the speed-flow curve of a kind at a free-flow speed, under weather.
+//! The speed-flow curve of a kind of road at a free-flow speed, under weather, and what a flow rate gets on it.
 
 #![tactic(auto)]
 
 pub mod kind;
 mod power;
 mod power_table;
+pub mod promises;
 pub mod service;
 pub mod speed;
 
@@ -14,31 +15,29 @@ ghost use Rattle.curve.specs.Curves.{capacity, breakpoint};
 ghost use Rattle.curve.specs.Weather.{FactorsFit, adjusted_speed, curve_under};
 
 use crate::kind::Kind;
+use numbers::units::{Capacity, Share, Speed};
 
-/// Free-flow speed, capacity and breakpoint; Curve::under: of a kind at a free-flow speed under weather.
+/// A speed-flow curve by its free-flow speed, capacity and breakpoint.
 #[derive(Clone, Copy, PartialEq, Eq)]
 pub struct Curve {
     pub kind: Kind,
-    /// thousandths of mi/h
-    pub free_flow_speed: u64,
-    /// hundredths of passenger cars per hour per lane
-    pub capacity: u64,
-    /// the same
-    pub breakpoint: u64,
+    pub free_flow_speed: Speed,
+    pub capacity: Capacity,
+    pub breakpoint: Capacity,
 }
 
-/// Snow or rain. Any number may stand in a field; refusal 19 says which are fit.
+/// What weather does to a curve. Any number may stand in a field; refusal 19 says which are fit.
 #[derive(Clone, Copy, PartialEq, Eq)]
 pub struct Weather {
-    /// thousandths, on the free-flow speed
-    pub speed_factor: u64,
-    /// thousandths, on capacity, and squared on the breakpoint
-    pub capacity_factor: u64,
+    /// on the free-flow speed
+    pub speed_factor: Share,
+    /// on capacity, and squared on the breakpoint
+    pub capacity_factor: Share,
 }
 
 impl Kind {
     #[tactic(auto, unfolding(crate::specs::Curves::capacity))]
-    fn capacity(self, speed: u64) -> u64
+    fn capacity(self, speed: Speed) -> Capacity
         requires { speed ≤ highest_speed self }
         ensures { result ≡ capacity self speed }
     {
@@ -51,7 +50,7 @@ impl Kind {
     }
 
     #[tactic(auto, unfolding(crate::specs::Curves::breakpoint))]
-    fn breakpoint(self, speed: u64) -> u64
+    fn breakpoint(self, speed: Speed) -> Capacity
         requires { speed ≤ highest_speed self }
         ensures { result ≡ breakpoint self speed }
     {
@@ -63,14 +62,14 @@ impl Kind {
 }
 
 impl Weather {
-    /// Both factors 1,000.
+    /// Clear weather: both factors 1,000.
     pub const CLEAR: Weather = Weather {
         speed_factor: 1_000,
         capacity_factor: 1_000,
     };
 
     #[tactic(auto, unfolding(crate::specs::Weather::adjusted_speed))]
-    fn adjusted_speed(self, speed: u64) -> u64
+    fn adjusted_speed(self, speed: Speed) -> Speed
         requires speed_high { speed ≤ 75000 }
         requires factor_high { self.speed_factor ≤ 1000 }
         ensures { result ≡ adjusted_speed self speed }
@@ -80,9 +79,9 @@ impl Weather {
 }
 
 impl Curve {
-    /// From a free-flow speed before its factor. Capacity and breakpoint are worked from the one after it.
+    /// The curve of a kind at a free-flow speed before the weather's factor. Capacity and breakpoint are worked from the speed after it.
     #[tactic(auto, using(crate::proofs::WeatherLaws::curve_laws))]
-    pub fn under(weather: Weather, kind: Kind, speed: u64) -> Curve
+    pub fn under(weather: Weather, kind: Kind, speed: Speed) -> Curve
         requires speed_high { speed ≤ highest_speed kind }
         requires factors_fit { FactorsFit kind weather }
         ensures { result ≡ curve_under weather kind speed }

@@ -5,7 +5,7 @@ ghost use Rattle.curve.specs.Power.{power};
 
 use crate::power_table::POWERS;
 
-/// T(i), from the table of powers.
+/// T(i), in millionths, from the table of powers.
 #[tactic(auto, using(crate::proofs::PowerLaws::table_entries), unfolding(crate::proofs::PowerTable::power_table))]
 pub(crate) fn power(i: u64) -> u64
     requires { i ≤ 1000 }

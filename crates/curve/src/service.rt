@@ -1,11 +1,12 @@
-//! What a flow rate gets on a curve.
+//! What a flow rate gets on a curve: speed, density and letter.
 
 ghost use Rattle.std.specs.Prelude.{◌≡◌, ◌≤◌};
-ghost use Rattle.curve.specs.Service.{letter_number, density_letter, performance, meets_limit, density_limit};
+ghost use Rattle.curve.specs.Service.{letter_number, density_limit, density_letter, performance, meets_limit};
 
 use crate::speed::CurveTerms;
+use numbers::units::{Density, FlowRate, Speed};
 
-/// A to F; number: A is 1, F is 6.
+/// The level of service.
 #[derive(Clone, Copy, PartialEq, Eq)]
 pub enum Letter {
     A = 1,
@@ -19,22 +20,38 @@ pub enum Letter {
 /// Speed and density as they are shown, and the letter.
 #[derive(Clone, Copy, PartialEq, Eq)]
 pub struct Performance {
-    /// thousandths of mi/h, 0 above capacity
-    pub speed: u64,
-    /// tenths of a passenger car per mile per lane, 0 above capacity
-    pub density: u64,
+    /// 0 above capacity
+    pub speed: Speed,
+    /// 0 above capacity
+    pub density: Density,
     pub letter: Letter,
 }
 
 impl Letter {
+    /// A is 1, the best, and F is 6, the worst.
     pub fn number(self) -> u64
         ensures { result ≡ letter_number self }
     {
         self as u64
     }
 
+    /// The greatest density that gets the letter or a better one. F has E's.
+    #[tactic(auto, unfolding(crate::specs::Service::density_limit))]
+    pub fn density_limit(self) -> Density
+        ensures { result ≡ density_limit (letter_number self) }
+    {
+        match self {
+            Letter::A => 110,
+            Letter::B => 180,
+            Letter::C => 260,
+            Letter::D => 350,
+            Letter::E | Letter::F => 450,
+        }
+    }
+
+    /// The letter of a density up to capacity.
     #[tactic(auto, unfolding(crate::specs::Service::density_limit, crate::specs::Service::density_letter))]
-    fn of_density(density: u64) -> Letter
+    fn of_density(density: Density) -> Letter
         ensures { result ≡ density_letter density }
     {
         match density {
@@ -49,9 +66,9 @@ impl Letter {
 }
 
 impl CurveTerms {
-    /// At any flow rate v.
+    /// What any flow rate gets.
     #[tactic(auto, using(crate::proofs::TermsLaws::performance_laws))]
-    pub fn performance_at(&self, v: u64) -> Performance
+    pub fn performance_at(&self, v: FlowRate) -> Performance
         ensures { result ≡ performance self.now.curve v }
     {
         if self.most_flow < v {
@@ -70,9 +87,9 @@ impl CurveTerms {
         }
     }
 
-    /// The same question as a letter's, with no division on kind F.
+    /// Whether a flow rate keeps to capacity and to a density of at most 450. On kind F nothing is divided.
     #[tactic(auto, using(crate::proofs::TermsLaws::limit_laws))]
-    pub fn meets_limit(&self, v: u64, limit: u64) -> bool
+    pub fn meets_limit(&self, v: FlowRate, limit: Density) -> bool
         requires { limit ≤ 450 }
         ensures { result ≡ meets_limit self.now.curve v limit }
     {
@@ -81,19 +98,5 @@ impl CurveTerms {
         }
         let exact = self.exact_speed(v);
         10_000 * v * exact.denominator <= limit * exact.numerator
-    }
-}
-
-/// A to D by their numbers 1 to 4; any other number has E's.
-#[tactic(auto, unfolding(crate::specs::Service::density_limit))]
-pub fn density_limit(letter: u64) -> u64
-    ensures { result ≡ density_limit letter }
-{
-    match letter {
-        1 => 110,
-        2 => 180,
-        3 => 260,
-        4 => 350,
-        _ => 450,
     }
 }

@@ -5,19 +5,19 @@ ghost use Rattle.curve.specs.Curves.{WellFormed, Sized};
 ghost use Rattle.curve.specs.Speed.{beyond_breakpoint, span_to_capacity, fall_share, ExactSpeed};
 ghost use Rattle.curve.specs.Terms.{share_denominator_of};
 
-use crate::Curve;
 use crate::kind::Kind;
-use crate::power;
+use crate::{Curve, power};
 use numbers::Fraction;
+use numbers::units::{Capacity, FlowRate};
 
-/// A curve with what its speeds have in common, worked out once; CurveTerms::new: of a well-formed curve.
+/// A curve with what its speeds have in common, worked out once.
 #[derive(Clone, Copy)]
 pub struct CurveTerms {
     pub curve: Curve,
     /// the greatest flow rate up to capacity
-    pub most_flow: u64,
+    pub most_flow: FlowRate,
     /// c - b
-    pub span: u64,
+    pub span: Capacity,
     /// the denominator of w
     pub share_denominator: u64,
     /// 9F times that
@@ -34,7 +34,7 @@ pub struct CurveTerms {
 }
 
 impl Kind {
-    fn share_denominator(self, span: u64) -> u64
+    fn share_denominator(self, span: Capacity) -> u64
         requires { span ≤ 140000 }
         ensures { result ≡ share_denominator_of self span }
     {
@@ -46,7 +46,7 @@ impl Kind {
 }
 
 impl Curve {
-    fn beyond_breakpoint(&self, v: u64) -> u64
+    fn beyond_breakpoint(&self, v: FlowRate) -> Capacity
         requires up_to_capacity { 100 * v ≤ self.now.capacity }
         requires sized { Sized self.now }
         ensures { result ≡ beyond_breakpoint self.now v }
@@ -56,6 +56,7 @@ impl Curve {
 }
 
 impl CurveTerms {
+    /// The terms of a curve whose breakpoint is below its capacity, within the sizes that 64 bits take.
     pub fn new(curve: Curve) -> CurveTerms
         requires well_formed { WellFormed curve }
         requires sized { Sized curve }
@@ -75,7 +76,7 @@ impl CurveTerms {
 
     /// The numerator of w, its denominator being in the terms.
     #[tactic(auto, using(numbers::proofs::DivisionLaws::divisions), unfolding(crate::specs::Speed::fall_share_by))]
-    fn share_numerator(&self, v: u64) -> u64
+    fn share_numerator(&self, v: FlowRate) -> u64
         requires { 100 * v ≤ self.now.curve.capacity }
         ensures { result ≡ (fall_share self.now.curve v).numerator }
     {
@@ -88,7 +89,7 @@ impl CurveTerms {
 
     /// F - (F - 2c/9) x w, over 9 times the denominator of w.
     #[tactic(auto, using(crate::proofs::TermsLaws::terms_fit))]
-    pub(crate) fn exact_speed(&self, v: u64) -> Fraction
+    pub(crate) fn exact_speed(&self, v: FlowRate) -> Fraction
         requires { 100 * v ≤ self.now.curve.capacity }
         ensures { ExactSpeed self.now.curve v result }
     {

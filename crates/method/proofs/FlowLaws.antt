@@ -5,11 +5,11 @@ use Rattle.numbers.proofs.DivisionLaws.{div_up-mono, div_up-zero}
 use Rattle.curve.proofs.KindLaws.{kind-ends}
 use Rattle.road.specs.declared.Terrain.{Terrain}
 use Rattle.road.specs.declared.Case.{Case}
-use Rattle.road.specs.Cases.{with_lanes}
+use Rattle.curve.specs.Kinds.{fewest_lanes, most_lanes}
 use Rattle.road.specs.Refusals.{FieldsFit}
 use Rattle.road.proofs.RefusalLaws.{load-ends}
 use Rattle.method.specs.declared.flow.Load.{Load}
-use Rattle.method.specs.Flow.{truck_equivalent, heavy_factor_of, load_of, flow_rate_of, case_flow_rate, LoadFits}
+use Rattle.method.specs.Flow.{truck_equivalent, heavy_factor_of, load_of, flow_rate_of, case_flow_rate, LoadSized}
 
 -- E is 2 or 3
 pub truck_equivalent-ends : (t : Terrain) → (2 ≤ truck_equivalent t) × (truck_equivalent t ≤ 3)
@@ -17,30 +17,31 @@ truck_equivalent-ends Terrain.Level = (omega arith, omega arith)
 truck_equivalent-ends Terrain.Rolling = (omega arith, omega arith)
 
 -- what the heavy vehicles add
-pub heavy-le : (case : Case) (n : ℕ) → FieldsFit (with_lanes case n) → case.heavy_share * (truck_equivalent case.terrain - 1) ≤ 2000
-heavy-le case n z =
+pub heavy-le : (case : Case) → FieldsFit case → case.heavy_share * (truck_equivalent case.terrain - 1) ≤ 2000
+heavy-le case z =
     let ends = truck_equivalent-ends case.terrain in
-    mul-le-mul {n₂ = 1000} {m₂ = 2} (load-ends (with_lanes case n) z).share-high (omega arith)
+    mul-le-mul {n₂ = 1000} {m₂ = 2} (load-ends case z).share-high (omega arith)
 
--- 64 bits hold the products with the load of a case that 1 to 9 and 19 do not refuse
-pub load_of-fits : (case : Case) (n : ℕ) → FieldsFit (with_lanes case n) → LoadFits (load_of case n)
+-- 64 bits hold the products with the load of a case that 1 to 9 and 19 do not refuse, with each lane count of its kind
+pub load_of-sized : (case : Case) (n : ℕ) → FieldsFit case → fewest_lanes case.road.kind ≤ n → n ≤ most_lanes case.road.kind
+    → LoadSized (load_of case n)
 unfolding heavy_factor_of
-load_of-fits case n z =
-    let ends = load-ends (with_lanes case n) z in
+load_of-sized case n z few most =
+    let ends = load-ends case z in
     let kind = kind-ends case.road.kind in
     record {
       heavy-ge = omega arith;
-      heavy-le = omega (arith, heavy-le case n z);
-      divisor-pos = mul-pos (omega (arith, ends.factor-low)) (omega (arith, ends.lanes-low, kind.lanes-ge));
-      divisor-le = mul-le-mul {n₂ = 1000} {m₂ = 8} ends.factor-high (omega (arith, ends.lanes-high, kind.lanes-le));
+      heavy-le = omega (arith, heavy-le case z);
+      divisor-pos = mul-pos (omega (arith, ends.factor-low)) (omega (arith, few, kind.lanes-ge));
+      divisor-le = mul-le-mul {n₂ = 1000} {m₂ = 8} ends.factor-high (omega (arith, most, kind.lanes-le));
     }
 
 -- for tactics: the three
-pub ruleset load_laws = (truck_equivalent-ends, heavy-le, load_of-fits)
+pub ruleset load_laws = (truck_equivalent-ends, heavy-le, load_of-sized)
 
 -- the same with its own lanes
-pub case_load-fits : (case : Case) → FieldsFit case → LoadFits (load_of case case.lanes)
-case_load-fits case z = load_of-fits case case.lanes z
+pub case_load-sized : (case : Case) → FieldsFit case → LoadSized (load_of case case.lanes)
+case_load-sized case z = let ends = load-ends case z in load_of-sized case case.lanes z ends.lanes-low ends.lanes-high
 
 -- it rises with demand and heavy factor, and falls with the divisor
 pub flow_rate_of-mono : (l m : Load) (a b : ℕ) → 0 < m.divisor → a ≤ b → l.heavy_factor ≤ m.heavy_factor → m.divisor ≤ l.divisor
@@ -64,7 +65,7 @@ pub case_flow_rate-mono : (c d : Case) → FieldsFit d → c.demand ≤ d.demand
     → d.lanes ≤ c.lanes
     → case_flow_rate c ≤ case_flow_rate d
 case_flow_rate-mono c d z hd hs he hh hn =
-    flow_rate_of-mono (load_of c c.lanes) (load_of d d.lanes) c.demand d.demand (case_load-fits d z).divisor-pos hd
+    flow_rate_of-mono (load_of c c.lanes) (load_of d d.lanes) c.demand d.demand (case_load-sized d z).divisor-pos hd
     (heavy_factor_of-mono c d hs he) (mul-le-mul hh hn)
 
 -- of no demand it is 0

@@ -13,7 +13,7 @@ use Rattle.method.specs.Laws.{AcceptedCurveIsWellFormed, MultilaneIsInClearWeath
 use Rattle.method.specs.Laws.{RefusedByTheList, RefusalsInOrder}
 use Rattle.method.proofs.RefusalLaws.{accepted-fields}
 use Rattle.method.proofs.CheckedLaws.{case_curve-well_formed, case_curve-sized}
-use Rattle.method.proofs.FlowLaws.{case_flow_rate-mono, case_load-fits, flow_rate_of-zero}
+use Rattle.method.proofs.FlowLaws.{case_flow_rate-mono, case_load-sized, flow_rate_of-zero}
 use Rattle.method.proofs.AssessLaws.{assessment-refusal}
 
 pub accepted-curve-is-well-formed : AcceptedCurveIsWellFormed
@@ -29,7 +29,7 @@ flow-rate-never-falls-with-load = case_flow_rate-mono
 pub no-demand-gets-a : NoDemandGetsA
 unfolding measures performance
 no-demand-gets-a case a e =
-    rw (flow_rate_of-zero (load_of case case.lanes) case.demand (case_load-fits case (accepted-fields case a)).divisor-pos e)
+    rw (flow_rate_of-zero (load_of case case.lanes) case.demand (case_load-sized case (accepted-fields case a)).divisor-pos e)
     (letter_at-zero (case_curve case) (case_curve-well_formed case a))
 
 pub refused-by-the-list : RefusedByTheList

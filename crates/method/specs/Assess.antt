@@ -4,7 +4,7 @@ use Rattle.refusals.specs.declared.Refusal.{Refusal}
 use Rattle.refusals.specs.Numbers.{ok_unless}
 use Rattle.curve.specs.Service.{letter_number, performance}
 use Rattle.road.specs.declared.Case.{Case}
-use Rattle.method.specs.declared.assess.Measures.{Measures}
+use Rattle.method.specs.declared.accepted.Measures.{Measures}
 use Rattle.method.specs.Refusals.{refusal}
 use Rattle.method.specs.Checked.{case_curve}
 use Rattle.method.specs.Flow.{case_flow_rate}

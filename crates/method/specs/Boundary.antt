@@ -1,8 +1,10 @@
--- The boundary sections of document 01, with clearances, weather and ramps by document 02, as far as this layer can state them: one list,
+-- The boundary sections of document 01 and of document 02, as far as a case alone decides them, with those of the layer below: one list,
 -- which the layers above make longer.
-use Rattle.std.specs.Prelude.{List, [], ◌∷◌, map, ℕ}
+use Rattle.std.specs.Prelude.{List, [], ◌∷◌, ◌++◌, map, ℕ, Result, Ok, Err}
 use Rattle.refusals.specs.Facts.{Fact, fact}
-use Rattle.refusals.specs.Numbers.{refusal_number}
+use Rattle.refusals.specs.declared.Refusal.{Refusal}
+use Rattle.refusals.specs.Numbers.{refusal_number, ok_unless}
+use Rattle.curve.specs.declared.Curve.{Curve}
 use Rattle.curve.specs.Power.{power}
 use Rattle.curve.specs.declared.kind.Kind.{Kind}
 use Rattle.curve.specs.declared.Weather.{Weather}
@@ -15,16 +17,17 @@ use Rattle.road.specs.declared.Terrain.TheVariants as Terrain
 use Rattle.road.specs.declared.Road.{Road}
 use Rattle.road.specs.declared.Case.{Case}
 use Rattle.road.specs.Cases.{road, loaded}
-use Rattle.road.specs.Adjustments.{right_clearance_adjustment, total_clearance, total_clearance_adjustment}
 use Rattle.road.specs.RampTerm.{ramp_term}
 use Rattle.road.specs.FreeFlowSpeed.{free_flow_speed_of}
+use Rattle.road.specs.Boundary.{right_off, with_24_ramps, road_facts}
 use Rattle.method.specs.Refusals.{refusal}
-use Rattle.method.specs.Checked as checked
+use Rattle.method.specs.Checked.{case_curve}
 use Rattle.method.specs.Assess.{assessment, measure_figures}
 
 -- density and letter at v
 abbrev density_and_letter : Kind → ℕ → ℕ → List ℕ
-density_and_letter kind f v = shown_density (curve_at kind f) v ∷ letter_number (letter_at (curve_at kind f) v) ∷ []
+density_and_letter kind f v =
+    shown_density (curve_at kind f) v ∷ letter_number (letter_at (curve_at kind f) v) ∷ []
 
 -- a road of given speed f and lane width w
 abbrev pub given : Kind → ℕ → ℕ → Road
@@ -42,27 +45,27 @@ two_lanes = two_lanes_under clear
 -- the printed line's case
 -- the line F E 75400 110 20 0 D 24 2 2000 920 50 R
 abbrev pub example : Case
-example = loaded (road Kind.Freeway Way.Estimated 75400 110 20 0 Median.Divided 24) 2 2000 920 50 Terrain.Rolling clear
+example =
+    loaded (road Kind.Freeway Way.Estimated 75400 110 20 0 Median.Divided 24) 2 2000 920 50 Terrain.Rolling clear
 
 -- M, E, 60,000, width 110, right 40, left 20, 10 access points
 abbrev multilane : Median → Road
 multilane m = road Kind.Multilane Way.Estimated 60000 110 40 20 m 10
 
--- what right clearance r takes off with 2 to 8 lanes
-abbrev right_off : ℕ → List ℕ
-right_off r = map (right_clearance_adjustment r) (2 ∷ 3 ∷ 4 ∷ 5 ∷ 6 ∷ 7 ∷ 8 ∷ [])
-
--- what right clearance r and left clearance l take off with 2 and with 3 lanes
-abbrev total_off : Median → ℕ → ℕ → List ℕ
-total_off m r l = map (λ n. total_clearance_adjustment n (total_clearance m r l)) (2 ∷ 3 ∷ [])
-
 -- the number of an assessment's refusal, 0 for none, and its values
 abbrev assessed : Case → List ℕ
 assessed case = refusal_number (assessment case) ∷ measure_figures (assessment case)
 
--- the same of the check of a case
+-- F, c and b of a curve; of a refusal no value
+abbrev curve_figures : Result Curve Refusal → List ℕ
+curve_figures (Ok curve) = curve.free_flow_speed ∷ curve.capacity ∷ curve.breakpoint ∷ []
+curve_figures (Err r) = []
+
+-- the number of the refusal of a case, 0 for none, and its curve
 abbrev checked_as : Case → List ℕ
-checked_as case = refusal_number (checked.checked case) ∷ checked.curve_figures (checked.checked case)
+checked_as case =
+    let curve : Result Curve Refusal = ok_unless (refusal case) (case_curve case) in
+    refusal_number curve ∷ curve_figures curve
 
 -- a case of kind F with these fields, level, with a speed factor
 abbrev faulty : (speed width right : ℕ) → Median → (access lanes demand factor share speed_factor : ℕ) → Case
@@ -74,14 +77,14 @@ faulty speed width right median access lanes demand factor share speed_factor =
 abbrev pub refused_by_all : Case
 refused_by_all = faulty 0 99 401 Median.Undivided 49 1 1000000 249 1001 499
 
--- boundary_facts, clearance_facts, ramp_facts, speed_facts, weather_facts, order_facts,
--- limit_facts: the list, and its last parts, each the end of the one before
 -- The numbers that 1 to 9 leave at the ends of each range, and those past them: speed, width, clearance on either side, medians of kind F
 -- and of kind M, ramps and access, lanes of kind F and of kind M, demand, peak-hour factor, heavy share. 10 refuses a given speed of 30,000.
 unfoldable pub limit_facts : List Fact
 limit_facts =
-    fact (map (λ f. refusal (two_lanes (given Kind.Freeway f 120) 0)) (29999 ∷ 30000 ∷ 90000 ∷ 90001 ∷ [])) (1 ∷ 10 ∷ 0 ∷ 1 ∷ [])
-    ∷ fact (map (λ w. refusal (two_lanes (given Kind.Freeway 60000 w) 0)) (99 ∷ 100 ∷ 200 ∷ 201 ∷ [])) (2 ∷ 0 ∷ 0 ∷ 2 ∷ [])
+    fact (map (λ f. refusal (two_lanes (given Kind.Freeway f 120) 0)) (29999 ∷ 30000 ∷ 90000 ∷ 90001 ∷ []))
+    (1 ∷ 10 ∷ 0 ∷ 1 ∷ [])
+    ∷ fact (map (λ w. refusal (two_lanes (given Kind.Freeway 60000 w) 0)) (99 ∷ 100 ∷ 200 ∷ 201 ∷ []))
+    (2 ∷ 0 ∷ 0 ∷ 2 ∷ [])
     ∷ fact (freeway 400 400 Median.Divided 0 ∷ freeway 401 0 Median.Divided 0 ∷ freeway 0 401 Median.Divided 0 ∷ []) (0 ∷ 3 ∷ 3 ∷ [])
     ∷ fact (map (λ m. freeway 60 60 m 0) medians) (4 ∷ 0 ∷ 4 ∷ [])
     ∷ fact (map (λ m. multilane_with m 0) medians) (0 ∷ 0 ∷ 0 ∷ [])
@@ -89,7 +92,8 @@ limit_facts =
     ∷ fact (map (multilane_with Median.Divided) (200 ∷ 201 ∷ [])) (0 ∷ 5 ∷ [])
     ∷ fact (map (λ n. loaded_by Kind.Freeway n 0 1000 0) (1 ∷ 2 ∷ 8 ∷ 9 ∷ [])) (6 ∷ 0 ∷ 0 ∷ 6 ∷ [])
     ∷ fact (map (λ n. loaded_by Kind.Multilane n 0 1000 0) (1 ∷ 2 ∷ 3 ∷ 4 ∷ [])) (6 ∷ 0 ∷ 0 ∷ 6 ∷ [])
-    ∷ fact (map (λ v. loaded_by Kind.Freeway 2 v 1000 0) (99999 ∷ 100000 ∷ 999999 ∷ 1000000 ∷ [])) (0 ∷ 0 ∷ 0 ∷ 7 ∷ [])
+    ∷ fact (map (λ v. loaded_by Kind.Freeway 2 v 1000 0) (99999 ∷ 100000 ∷ 999999 ∷ 1000000 ∷ []))
+    (0 ∷ 0 ∷ 0 ∷ 7 ∷ [])
     ∷ fact (map (λ h. loaded_by Kind.Freeway 2 0 h 0) (249 ∷ 250 ∷ 1000 ∷ 1001 ∷ [])) (8 ∷ 0 ∷ 0 ∷ 8 ∷ [])
     ∷ fact (map (λ p. loaded_by Kind.Freeway 2 0 1000 p) (1000 ∷ 1001 ∷ [])) (0 ∷ 9 ∷ [])
     ∷ []
@@ -105,7 +109,8 @@ limit_facts =
     multilane_with m access = refusal (two_lanes (road Kind.Multilane Way.Given 60000 120 60 60 m access) 0)
 
     loaded_by : Kind → (lanes demand factor share : ℕ) → ℕ
-    loaded_by kind lanes demand factor share = refusal (loaded (given kind 60000 120) lanes demand factor share Terrain.Level clear)
+    loaded_by kind lanes demand factor share =
+        refusal (loaded (given kind 60000 120) lanes demand factor share Terrain.Level clear)
 
 -- The order of refusals: a case that breaks all of 1 to 9, 19 and 10, and then without its first fault, again and again.
 unfoldable pub order_facts : List Fact
@@ -126,7 +131,7 @@ order_facts =
     ∷ []
     )
     (1 ∷ 2 ∷ 3 ∷ 4 ∷ 5 ∷ 6 ∷ 7 ∷ 8 ∷ 9 ∷ 19 ∷ 10 ∷ 0 ∷ [])
-    ∷ limit_facts
+    ∷ []
 
 -- Under snow or rain (document 02, T-03): b rounded down once; b and c from F after its factor, below the breakpoint and past it; F, c and
 -- b each with a fraction above a half; the upper end before the factor; F, c and both factors at once; 50,000 after the factor, and 55,000
@@ -148,12 +153,15 @@ weather_facts =
     ∷ fact (checked_as (snow 55000 910 1000 0)) (0 ∷ 50050 ∷ 220050 ∷ 199800 ∷ [])
     ∷ fact (checked_as (snow 55000 909 1000 0)) (10 ∷ [])
     ∷ fact (checked_as (snow 54999 910 1000 0)) (10 ∷ [])
-    ∷ fact (map (λ s. refusal (snow 75000 s 1000 0)) (0 ∷ 499 ∷ 500 ∷ 1000 ∷ 1001 ∷ 99999 ∷ [])) (19 ∷ 19 ∷ 10 ∷ 0 ∷ 19 ∷ 19 ∷ [])
-    ∷ fact (map (λ k. refusal (snow 75000 1000 k 0)) (0 ∷ 499 ∷ 500 ∷ 1000 ∷ 1001 ∷ 99999 ∷ [])) (19 ∷ 19 ∷ 0 ∷ 0 ∷ 19 ∷ 19 ∷ [])
+    ∷ fact (map (λ s. refusal (snow 75000 s 1000 0)) (0 ∷ 499 ∷ 500 ∷ 1000 ∷ 1001 ∷ 99999 ∷ []))
+    (19 ∷ 19 ∷ 10 ∷ 0 ∷ 19 ∷ 19 ∷ [])
+    ∷ fact (map (λ k. refusal (snow 75000 1000 k 0)) (0 ∷ 499 ∷ 500 ∷ 1000 ∷ 1001 ∷ 99999 ∷ []))
+    (19 ∷ 19 ∷ 0 ∷ 0 ∷ 19 ∷ 19 ∷ [])
     ∷ fact (map (λ s. refusal (on_multilane 60000 s 1000)) (999 ∷ 1000 ∷ 1001 ∷ [])) (19 ∷ 0 ∷ 19 ∷ [])
     ∷ fact (map (λ k. refusal (on_multilane 60000 1000 k)) (999 ∷ 1000 ∷ 1001 ∷ [])) (19 ∷ 0 ∷ 19 ∷ [])
-    ∷ fact (refusal (on_multilane 30000 1000 999) ∷ refusal (on_multilane 30000 1000 1000) ∷ []) (19 ∷ 10 ∷ [])
-    ∷ order_facts
+    ∷ fact (refusal (on_multilane 30000 1000 999) ∷ refusal (on_multilane 30000 1000 1000) ∷ [])
+    (19 ∷ 10 ∷ [])
+    ∷ []
   where
     -- F, given: speed, speed factor, capacity factor, demand
     snow : ℕ → ℕ → ℕ → ℕ → Case
@@ -162,70 +170,53 @@ weather_facts =
     on_multilane : ℕ → ℕ → ℕ → Case
     on_multilane f s k = two_lanes_under (factors s k) (given Kind.Multilane f 120) 0
 
--- F with such clearances and by the lanes; the worst road fields, which take off nothing from a given speed.
-unfoldable pub speed_facts : List Fact
-speed_facts =
-    fact (free_flow_speed_of (road Kind.Multilane Way.Estimated 60000 120 30 7 Median.Undivided 0) 2 ∷ []) (57750 ∷ [])
-    ∷ fact (free_flow_speed_of (road Kind.Multilane Way.Estimated 60000 120 30 7 Median.TwoWayLeftTurnLane 0) 2 ∷ []) (59350 ∷ [])
-    ∷ fact (map (free_flow_speed_of (road Kind.Freeway Way.Estimated 75000 120 0 0 Median.Divided 0)) (2 ∷ 3 ∷ 4 ∷ 5 ∷ []))
-    (71400 ∷ 72600 ∷ 73800 ∷ 74400 ∷ [])
-    ∷ fact (map (free_flow_speed_of (road Kind.Multilane Way.Estimated 70000 100 0 0 Median.Divided 200)) (2 ∷ 3 ∷ [])) (48000 ∷ 49500 ∷ [])
-    ∷ fact (free_flow_speed_of (road Kind.Freeway Way.Given 60000 100 0 0 Median.Divided 48) 2 ∷ []) (60000 ∷ [])
-    ∷ fact (free_flow_speed_of (road Kind.Multilane Way.Given 60000 100 0 0 Median.Undivided 200) 2 ∷ []) (60000 ∷ [])
-    ∷ weather_facts
-
--- Ramps (document 02, T-08): the terms of the fewest and the most, and of 10 and 36, whose exact terms, 4,945.48 and 14,504.51, are nearest
--- a half; with 24, the bases whose estimate is the lower end of F, one less, the upper end, one less and one more; 10 refuses the second.
-unfoldable pub ramp_facts : List Fact
-ramp_facts =
-    fact (map ramp_term (1 ∷ 10 ∷ 36 ∷ 48 ∷ [])) (715 ∷ 4945 ∷ 14505 ∷ 18469 ∷ [])
-    ∷ fact (map (λ base. free_flow_speed_of (ramps base) 2) (65318 ∷ 65317 ∷ 85318 ∷ 85317 ∷ 85319 ∷ []))
-    (55000 ∷ 54999 ∷ 75000 ∷ 74999 ∷ 75000 ∷ [])
-    ∷ fact (map (λ base. refusal (two_lanes (ramps base) 1000)) (65318 ∷ 65317 ∷ [])) (0 ∷ 10 ∷ [])
-    ∷ speed_facts
-  where
-    ramps : ℕ → Road
-    ramps base = road Kind.Freeway Way.Estimated base 120 60 60 Median.Divided 24
-
--- Clearances between the table's entries, at its ends and past them (document 02, T-02).
-unfoldable pub clearance_facts : List Fact
-clearance_facts =
-    fact (right_off 0) (3600 ∷ 2400 ∷ 1200 ∷ 600 ∷ 600 ∷ 600 ∷ 600 ∷ [])
-    ∷ fact (right_off 61) (0 ∷ 0 ∷ 0 ∷ 0 ∷ 0 ∷ 0 ∷ 0 ∷ [])
-    ∷ fact (right_off 400) (0 ∷ 0 ∷ 0 ∷ 0 ∷ 0 ∷ 0 ∷ 0 ∷ [])
-    ∷ fact (total_off Median.Divided 38 45) (825 ∷ 825 ∷ [])
-    ∷ fact (total_off Median.Divided 25 25) (1550 ∷ 1500 ∷ [])
-    ∷ fact (total_off Median.Divided 0 0) (5400 ∷ 3900 ∷ [])
-    ∷ fact (total_off Median.Divided 1 0) (5310 ∷ 3845 ∷ [])
-    ∷ fact (total_off Median.Undivided 30 7) (650 ∷ 650 ∷ [])
-    ∷ fact (total_off Median.TwoWayLeftTurnLane 400 0) (0 ∷ 0 ∷ [])
-    ∷ fact (total_off Median.Undivided 400 0) (0 ∷ 0 ∷ [])
-    ∷ fact (total_off Median.Divided 400 0) (1300 ∷ 1300 ∷ [])
-    ∷ fact (total_off Median.Divided 0 400) (1300 ∷ 1300 ∷ [])
-    ∷ ramp_facts
+-- The ends of F: with 24 ramps on kind F, and given on kind M.
+unfoldable pub end_facts : List Fact
+end_facts =
+    fact (map (λ base. refusal (two_lanes (with_24_ramps base) 1000)) (65318 ∷ 65317 ∷ [])) (0 ∷ 10 ∷ [])
+    ∷ fact (assessed (two_lanes (given Kind.Multilane 44999 120) 0)) (10 ∷ [])
+    ∷ fact (checked_as (two_lanes (given Kind.Multilane 45000 120) 0)) (0 ∷ 45000 ∷ 190000 ∷ 140000 ∷ [])
+    ∷ fact (checked_as (two_lanes (given Kind.Multilane 70000 120) 0)) (0 ∷ 70000 ∷ 230000 ∷ 140000 ∷ [])
+    ∷ fact (checked_as (two_lanes (given Kind.Multilane 70001 120) 0)) (0 ∷ 70000 ∷ 230000 ∷ 140000 ∷ [])
+    ∷ []
 
 -- Of a case that is accepted 0, and then letter, F, c, v, speed and density, of one that is refused its number. A is 1 and F is 6.
 -- Starred in document 01: all down to the right clearance of 59, which takes off 60 by document 02; by document 02 the printed line and 24
 -- ramps have other figures too. Not starred: no demand; two letters that the shown speed would miss; a case that breaks 1 and 2; the curve
--- of a case and its refusal; more clearances; ramps; snow and rain; the order of refusals; the ends that they leave.
-unfoldable pub boundary_facts : List Fact
-boundary_facts =
+-- of a case and its refusal.
+unfoldable pub section_facts : List Fact
+section_facts =
     fact (assessed example) (0 ∷ 3 ∷ 60782 ∷ 230782 ∷ 1196 ∷ 60782 ∷ 197 ∷ [])
     ∷ fact (ramp_term 6 ∷ ramp_term 24 ∷ ramp_term 0 ∷ []) (3220 ∷ 10318 ∷ 0 ∷ [])
     ∷ fact (density_and_letter Kind.Freeway 75000 825) (110 ∷ 1 ∷ [])
     ∷ fact (density_and_letter Kind.Freeway 75000 826) (111 ∷ 2 ∷ [])
-    ∷ fact (assessed (two_lanes (given Kind.Freeway 55000 120) 4500)) (0 ∷ 5 ∷ 55000 ∷ 225000 ∷ 2250 ∷ 50000 ∷ 450 ∷ [])
-    ∷ fact (assessed (two_lanes (given Kind.Freeway 55000 120) 4501)) (0 ∷ 6 ∷ 55000 ∷ 225000 ∷ 2251 ∷ 0 ∷ 0 ∷ [])
+    ∷ fact (assessed (two_lanes (given Kind.Freeway 55000 120) 4500))
+    (0 ∷ 5 ∷ 55000 ∷ 225000 ∷ 2250 ∷ 50000 ∷ 450 ∷ [])
+    ∷ fact (assessed (two_lanes (given Kind.Freeway 55000 120) 4501))
+    (0 ∷ 6 ∷ 55000 ∷ 225000 ∷ 2251 ∷ 0 ∷ 0 ∷ [])
     ∷ fact (assessed (two_lanes (given Kind.Freeway 54999 120) 4500)) (10 ∷ [])
-    ∷ fact (assessed (two_lanes (given Kind.Multilane 60000 120) 2800)) (0 ∷ 3 ∷ 60000 ∷ 220000 ∷ 1400 ∷ 60000 ∷ 234 ∷ [])
-    ∷ fact (assessed (two_lanes (given Kind.Multilane 60000 120) 3600)) (0 ∷ 4 ∷ 60000 ∷ 220000 ∷ 1800 ∷ 55518 ∷ 325 ∷ [])
+    ∷ fact (assessed (two_lanes (given Kind.Multilane 60000 120) 2800))
+    (0 ∷ 3 ∷ 60000 ∷ 220000 ∷ 1400 ∷ 60000 ∷ 234 ∷ [])
+    ∷ fact (assessed (two_lanes (given Kind.Multilane 60000 120) 3600))
+    (0 ∷ 4 ∷ 60000 ∷ 220000 ∷ 1800 ∷ 55518 ∷ 325 ∷ [])
     ∷ fact (power 500 ∷ []) (403321 ∷ [])
     ∷ fact (free_flow_speed_of (multilane Median.Divided) 2 ∷ free_flow_speed_of (multilane Median.Undivided) 2 ∷ []) (54300 ∷ 53600 ∷ [])
     ∷ fact (right_off 59) (60 ∷ 40 ∷ 20 ∷ 10 ∷ 10 ∷ 10 ∷ 10 ∷ [])
-    ∷ fact (assessed (two_lanes (given Kind.Freeway 55000 120) 0)) (0 ∷ 1 ∷ 55000 ∷ 225000 ∷ 0 ∷ 55000 ∷ 0 ∷ [])
-    ∷ fact (assessed (two_lanes (given Kind.Freeway 55052 120) 3830)) (0 ∷ 4 ∷ 55052 ∷ 225052 ∷ 1915 ∷ 54714 ∷ 350 ∷ [])
-    ∷ fact (assessed (two_lanes (given Kind.Multilane 45000 120) 3800)) (0 ∷ 5 ∷ 45000 ∷ 190000 ∷ 1900 ∷ 42222 ∷ 450 ∷ [])
+    ∷ fact (assessed (two_lanes (given Kind.Freeway 55000 120) 0))
+    (0 ∷ 1 ∷ 55000 ∷ 225000 ∷ 0 ∷ 55000 ∷ 0 ∷ [])
+    ∷ fact (assessed (two_lanes (given Kind.Freeway 55052 120) 3830))
+    (0 ∷ 4 ∷ 55052 ∷ 225052 ∷ 1915 ∷ 54714 ∷ 350 ∷ [])
+    ∷ fact (assessed (two_lanes (given Kind.Multilane 45000 120) 3800))
+    (0 ∷ 5 ∷ 45000 ∷ 190000 ∷ 1900 ∷ 42222 ∷ 450 ∷ [])
     ∷ fact (assessed (two_lanes (given Kind.Freeway 0 0) 0)) (1 ∷ [])
     ∷ fact (checked_as (two_lanes (given Kind.Freeway 55000 120) 0)) (0 ∷ 55000 ∷ 225000 ∷ 180000 ∷ [])
     ∷ fact (checked_as (two_lanes (given Kind.Freeway 54999 120) 0)) (10 ∷ [])
-    ∷ clearance_facts
+    ∷ []
+
+-- those of a case
+abbrev pub case_facts : List Fact
+case_facts = section_facts ++ (end_facts ++ (weather_facts ++ (order_facts ++ limit_facts)))
+
+-- all of them
+abbrev pub boundary_facts : List Fact
+boundary_facts = road_facts ++ case_facts

@@ -1,7 +1,7 @@
--- The curve of a case, or its refusal.
-use Rattle.std.specs.Prelude.{ℕ, List, [], ◌∷◌, Result, Ok, Err}
+-- The curve of a case, and refusal 10 in its place.
+use Rattle.std.specs.Prelude.{ℕ, Result}
 use Rattle.refusals.specs.declared.Refusal.{Refusal}
-use Rattle.refusals.specs.Refusals.{Condition, first_refusal}
+use Rattle.refusals.specs.Refusals.{first_refusal}
 use Rattle.refusals.specs.Numbers.{ok_unless}
 use Rattle.curve.specs.declared.Curve.{Curve}
 use Rattle.curve.specs.declared.Weather.{Weather}
@@ -9,7 +9,7 @@ use Rattle.curve.specs.Weather.{curve_under}
 use Rattle.road.specs.declared.Road.{Road}
 use Rattle.road.specs.declared.Case.{Case}
 use Rattle.road.specs.FreeFlowSpeed.{free_flow_speed_of}
-use Rattle.method.specs.Refusals.{speed_refusals, refusals_with, refusal}
+use Rattle.method.specs.Refusals.{speed_refusals}
 
 -- the curve of a road with n lanes under weather
 unfoldable pub curve_of : Road → Weather → ℕ → Curve
@@ -21,17 +21,5 @@ case_curve case = curve_of case.road case.weather case.lanes
 
 -- the curve of a road with n lanes under weather, or 10
 abbrev pub checked_curve : Road → Weather → ℕ → Result Curve Refusal
-checked_curve road weather n = ok_unless (first_refusal (speed_refusals road weather n)) (curve_of road weather n)
-
--- the curve of a case, or its refusal, with what is asked in the place of 7 to 9
-abbrev pub checked_with : List Condition → Case → Result Curve Refusal
-checked_with loads case = ok_unless (first_refusal (refusals_with loads case)) (case_curve case)
-
--- the curve of a case, or its refusal
-abbrev pub checked : Case → Result Curve Refusal
-checked case = ok_unless (refusal case) (case_curve case)
-
--- F, c and b; of a refusal no value
-abbrev pub curve_figures : Result Curve Refusal → List ℕ
-curve_figures (Ok curve) = curve.free_flow_speed ∷ curve.capacity ∷ curve.breakpoint ∷ []
-curve_figures (Err r) = []
+checked_curve road weather n =
+    ok_unless (first_refusal (speed_refusals road weather n)) (curve_of road weather n)

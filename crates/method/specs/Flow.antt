@@ -32,7 +32,7 @@ abbrev pub case_flow_rate : Case → ℕ
 case_flow_rate case = flow_rate_of (load_of case case.lanes) case.demand
 
 -- the ends within which 64 bits hold the product with a demand
-pub record LoadFits (load : Load) : Type 0 where
+pub record LoadSized (load : Load) : Type 0 where
   pub heavy-ge : 1000 ≤ load.heavy_factor
   pub heavy-le : load.heavy_factor ≤ 3000
   pub divisor-pos : 0 < load.divisor

@@ -14,11 +14,13 @@ use Rattle.method.specs.Assess.{measures, assessment}
 
 -- The curve of an accepted case has its breakpoint below its capacity, the speed at capacity is at most F, and 64 bits hold its products.
 abbrev pub AcceptedCurveIsWellFormed : Type 0
-AcceptedCurveIsWellFormed = (case : Case) → Accepted case → WellFormed (case_curve case) × Sized (case_curve case)
+AcceptedCurveIsWellFormed =
+    (case : Case) → Accepted case → WellFormed (case_curve case) × Sized (case_curve case)
 
 -- "Kind M takes 1,000 only": an accepted case of kind M is in clear weather, so that what is said of clear weather holds of it.
 abbrev pub MultilaneIsInClearWeather : Type 0
-MultilaneIsInClearWeather = (case : Case) → Accepted case → case.road.kind ≡ Kind.Multilane → case.weather ≡ clear
+MultilaneIsInClearWeather =
+    (case : Case) → Accepted case → case.road.kind ≡ Kind.Multilane → case.weather ≡ clear
 
 -- The flow rate never falls with more demand, a larger heavy share, a larger truck equivalent, a lower peak-hour factor or fewer lanes.
 abbrev pub FlowRateNeverFallsWithLoad : Type 0
@@ -31,7 +33,8 @@ FlowRateNeverFallsWithLoad =
 
 -- An accepted case without demand gets letter A.
 abbrev pub NoDemandGetsA : Type 0
-NoDemandGetsA = (case : Case) → Accepted case → case.demand ≡ 0 → (measures case).performance.letter ≡ Letter.A
+NoDemandGetsA =
+    (case : Case) → Accepted case → case.demand ≡ 0 → (measures case).performance.letter ≡ Letter.A
 
 -- A case is refused with the number of the first of 1 to 9, 19 and 10 that it breaks, and is measured where it breaks none.
 abbrev pub RefusedByTheList : Type 0

@@ -7,7 +7,7 @@ use Rattle.curve.specs.Weather.{adjusted_speed}
 use Rattle.road.specs.declared.Road.{Road}
 use Rattle.road.specs.declared.Case.{Case}
 use Rattle.road.specs.FreeFlowSpeed.{free_flow_speed_of}
-use Rattle.road.specs.Refusals.{field_refusals_with, field_refusals}
+use Rattle.road.specs.Refusals.{field_refusals}
 
 -- 10, of a road with n lanes under weather
 -- "10 F below the lower end", before the weather's factor and after it: "On kind F, free-flow speed after the factors must be at least
@@ -21,10 +21,6 @@ speed_refusals road weather n =
 -- 1 to 9, 19 and 10
 unfoldable pub refusals : Case → List Condition
 refusals case = field_refusals case ++ speed_refusals case.road case.weather case.lanes
-
--- the same with something else in the place of 7 to 9
-abbrev pub refusals_with : List Condition → Case → List Condition
-refusals_with loads case = field_refusals_with loads case ++ speed_refusals case.road case.weather case.lanes
 
 -- the number of the first of them that refuses the case, 0 where none does
 abbrev pub refusal : Case → ℕ

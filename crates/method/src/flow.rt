@@ -1,19 +1,21 @@
-//! Flow rate, in whole passenger cars per hour per lane.
+//! The flow rate of a demand, by the load of a case.
 
 ghost use Rattle.std.specs.Prelude.{◌≡◌, ◌≤◌};
-ghost use Rattle.road.specs.Cases.{with_lanes};
-ghost use Rattle.road.specs.Refusals.{greatest_demand, FieldsFit};
-ghost use Rattle.method.specs.Flow.{truck_equivalent, load_of, flow_rate_of, LoadFits};
+ghost use Rattle.curve.specs.Kinds.{fewest_lanes, most_lanes};
+ghost use Rattle.road.specs.Refusals.{greatest_demand};
+ghost use Rattle.method.specs.Flow.{truck_equivalent, load_of, flow_rate_of, LoadSized};
 
-use road::{Case, Terrain};
+use numbers::units::{Demand, FlowRate, Share};
+use road::Terrain;
+use road::refusal::FitCase;
 
-/// What a demand is worked with; Load::of: the load of a case with a lane count.
+/// What turns a demand into a flow rate.
 #[derive(Clone, Copy)]
 pub struct Load {
-    /// what a vehicle counts for, thousandths of a passenger car
-    pub heavy_factor: u64,
-    /// H x N
-    pub divisor: u64,
+    /// what a vehicle counts for, of a passenger car
+    pub heavy_factor: Share,
+    /// peak-hour factor times lanes
+    pub divisor: Share,
 }
 
 fn truck_equivalent(terrain: Terrain) -> u64
@@ -26,24 +28,29 @@ fn truck_equivalent(terrain: Terrain) -> u64
 }
 
 impl Load {
+    /// The load of a fit case with a lane count of its kind.
     #[tactic(auto, using(crate::proofs::FlowLaws::load_laws), unfolding(crate::specs::Flow::heavy_factor_of))]
-    pub fn of(case: &Case, lanes: u64) -> Load
-        requires { FieldsFit (with_lanes case.now lanes) }
-        ensures { result ≡ load_of case.now lanes }
+    pub fn of(fit: &FitCase, lanes: u64) -> Load
+        requires fewest { fewest_lanes fit.now.case.road.kind ≤ lanes }
+        requires most { lanes ≤ most_lanes fit.now.case.road.kind }
+        ensures { result ≡ load_of fit.now.case lanes }
     {
+        let case = &fit.case;
         Load {
             heavy_factor: 1_000 + case.heavy_share * (truck_equivalent(case.terrain) - 1),
             divisor: case.peak_hour_factor * lanes,
         }
     }
 
-    /// Of a demand.
+    /// The flow rate of a demand.
     #[tactic(auto, using(numbers::proofs::DivisionLaws::divisions), unfolding(crate::specs::Flow::flow_rate_of))]
-    pub fn flow_rate(&self, demand: u64) -> u64
-        requires load_fits { LoadFits self.now }
+    pub fn flow_rate(&self, demand: Demand) -> FlowRate
+        requires sized { LoadSized self.now }
         requires demand_high { demand ≤ greatest_demand }
         ensures { result ≡ flow_rate_of self.now demand }
     {
-        (demand * self.heavy_factor).div_ceil(self.divisor)
+        // Both fit 32 bits, in which a division costs less.
+        let cars = (demand * self.heavy_factor) as u32;
+        u64::from(cars.div_ceil(self.divisor as u32))
     }
 }

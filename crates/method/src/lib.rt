@@ -1,7 +1,8 @@
-//! Method: from a case to its curve and flow rate, and to what it gets, or to its refusal.
+//! The accepted case: its curve, its flow rate, and what a demand gets on it.
 
 #![tactic(auto)]
 
-pub mod assess;
+pub mod accepted;
 pub mod checked;
 pub mod flow;
+pub mod promises;

@@ -1,5 +1,5 @@
 -- What halving tries (specs/Halving).
-use Rattle.std.proofs.Common.{◌≡◌, refl, sym, ap, ◌∙◌, Bool, true, false, cond, List, [], ◌∷◌, T, length, ℕ, zero, suc, ◌+◌, ◌-◌, ◌*◌, ◌^◌}
+use Rattle.std.proofs.Common.{◌/◌, ◌≡◌, refl, sym, ap, ◌∙◌, Bool, true, false, cond, List, [], ◌∷◌, T, length, ℕ, zero, suc, ◌+◌, ◌-◌, ◌*◌, ◌^◌}
 use Rattle.std.proofs.Common.{◌≤◌, ◌<◌, zero-le, arith, le_refl, lt-ltb, le-ltb}
 use Rattle.std.proofs.Math.Numerals.{unary_clauses}
 use Rattle.std.proofs.Math.Decide.{dec_le}
@@ -75,6 +75,11 @@ module _ (p : ℕ → Bool) where
   unfolding tried_up_to
   tried_up_to-some zero h = absurd (omega arith)
   tried_up_to-some (suc end) h = rw (next end 0 (suc (suc end)) (omega arith)) (omega arith)
+
+-- the middle is half the sum, rounded down
+pub middle-half : (low high : ℕ) → low ≤ high → (low + high) / 2 ≡ middle low high
+unfolding middle
+middle-half low high h = omega arith
 
 -- ---- a search that counts
 -- so many were tried on the way to low, which passes, and high, which fails or is past the end; what is left to try makes up the rest

@@ -1,8 +1,10 @@
-//! Numbers: what the layers above count with.
+//! What the crates above count with: an exact fraction here; division rounded up, searches and tests of a whole table in specs/.
 
 #![tactic(auto)]
 
-/// An exact fraction.
+pub mod units;
+
+/// An exact fraction, not reduced.
 #[derive(Clone, Copy)]
 pub struct Fraction {
     pub numerator: u64,

@@ -1,7 +1,8 @@
 -- The laws of the numbers of refusals (specs/Numbers).
-use Rattle.std.proofs.Common.{◌≡◌, refl, sym, ℕ, suc, ◌-◌, ◌≤◌, ◌<◌, Result, Ok, Err, T, eqb, eqb→eq, subst, lit<, lit≤, arith, Bool, ◌∙◌}
+use Rattle.std.proofs.Common.{◌≡◌, refl, sym, ℕ, suc, ◌-◌, ◌≤◌, ◌<◌, Result, Ok, Err, IsErrAnd, T, eqb, eqb→eq, subst, lit<, lit≤, arith, Bool, ◌∙◌}
 use Rattle.std.proofs.Common.{List, ◌++◌, ne_eqb, ⊎_elim, eq-zero-or-pos}
 use Rattle.std.proofs.lemmas.Bool.Decides.{nat_tests}
+use Rattle.std.proofs.lemmas.Result.{err_from_is_err_and}
 use Rattle.numbers.specs.Table.{every_up_to}
 use Rattle.numbers.proofs.TableLaws.{every_up_to-at}
 use Rattle.refusals.specs.declared.Refusal.{Refusal}
@@ -72,6 +73,12 @@ ok_unless-ok n a b z e = rw z (rw e refl)
 pub ok_unless-err : {A : Type 0} (r : Refusal) (n : ℕ) (b : A) → number r ≡ n → ◌≡◌ {A = Result A Refusal} (Err r) (ok_unless n b)
 ok_unless-err r n b e = rw (sym e) (rw (ne_eqb (number r) 0 (λ z. omega (arith, number-above r))) (rw (refusal_of-number r) refl))
 
+-- what a `?` hands back where it passes on a refusal
+pub passed_on : {A : Type 0} (n : ℕ) (a : A) (answer : Result A Refusal) (r : Refusal) → IsErrAnd answer (λ passed. passed ≡ r) → number r ≡ n
+    → ◌≡◌ {A = Result A Refusal} answer (ok_unless n a)
+passed_on n a answer r h e =
+    let p = err_from_is_err_and answer h in rw (p.1, p.2) (ok_unless-err r n a e)
+
 -- ok_unless-none, ok_unless-some: the same by the number alone
 pub ok_unless-none : {A : Type 0} (n : ℕ) (a : A) → n ≡ 0 → ok_unless n a ≡ Ok a
 ok_unless-none n a z = rw z refl
@@ -111,4 +118,5 @@ first_refusal-err rs ss r e = e ∙ sym (first_refusal-some rs ss (rw (sym e) (n
 pub first_refusal-ok : (rs ss : List Condition) (n : ℕ) → T (numbered rs) → 0 ≡ first_refusal rs → n ≡ first_refusal ss → n ≡ first_refusal (rs ++ ss)
 first_refusal-ok rs ss n t z e = e ∙ sym (first_refusal-none rs ss t (sym z))
 
+-- for tactics: of questions in their order
 pub ruleset in_turn = (first_refusal-err, first_refusal-ok)

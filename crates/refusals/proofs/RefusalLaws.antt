@@ -1,9 +1,9 @@
 -- Lists of refusals, and an answer unless one is met (specs/Refusals).
-use Rattle.std.proofs.Common.{◌≡◌, refl, sym, ap, ◌∙◌, Bool, true, false, cond, ◌&&◌, List, [], ◌∷◌, ◌++◌, ⊎_elim, ℕ, suc, ◌≤◌, ◌<◌, min}
-use Rattle.std.proofs.Common.{eq-zero-or-pos, arith, lt-ltb, le-ltb, ne_eqb, T, leb, ltb, eqb, leb→le, ltb→lt, eqb→eq}
+use Rattle.std.proofs.Common.{◌≡◌, refl, sym, ◌∙◌, Bool, true, false, cond, not, ◌&&◌, List, [], ◌∷◌, ◌++◌, ⊎_elim, ℕ, suc, ◌≤◌, ◌<◌, min}
+use Rattle.std.proofs.Common.{eq-zero-or-pos, arith, le-ltb, ne_eqb, T, leb, ltb, eqb, leb→le, ltb→lt, eqb→eq}
 use Rattle.std.proofs.lemmas.Bool.Decides.{nat_tests}
 use Rattle.numbers.proofs.BoolLaws.{and-left, and-right, cond-le}
-use Rattle.refusals.specs.Refusals.{Condition, refuses, first_refusal, found, by_turns, lesser_refusal, unless_refused, outside}
+use Rattle.refusals.specs.Refusals.{Condition, refuses, first_refusal, by_turns, lesser_refusal, unless_refused, outside}
 
 -- ---- the first of a list
 -- every refusal of the list has a number above 0
@@ -88,14 +88,20 @@ first_refusal-ge m (r ∷ rs) t p = go r.met p (first_refusal-ge m rs (and-right
     go true q rest = leb→le m r.number (and-left (leb m r.number) (at_least m rs) t)
     go false q rest = rest q
 
--- ---- a number in the place of a list
--- a number that was found stands for the list that it was found in
-pub first_refusal-found : (rs ls ss : List Condition) → T (numbered ls)
-    → first_refusal (rs ++ (found (first_refusal ls) ++ ss)) ≡ first_refusal (rs ++ (ls ++ ss))
-first_refusal-found [] ls ss t =
-    ⊎_elim (λ z. rw z (sym (first_refusal-none ls ss t z)))
-    (λ p. rw (lt-ltb 0 (first_refusal ls) p) (sym (first_refusal-some ls ss p))) (eq-zero-or-pos (first_refusal ls))
-first_refusal-found (r ∷ rs) ls ss t = ap (cond r.met r.number) (first_refusal-found rs ls ss t)
+-- lacks, first_refusal-lacks: a number that no refusal of the list has is not the first
+abbrev pub lacks : ℕ → List Condition → Bool
+lacks n [] = true
+lacks n (r ∷ rs) = not (eqb r.number n) && lacks n rs
+
+pub first_refusal-lacks : (n : ℕ) (rs : List Condition) → T (lacks n rs) → 0 < n → first_refusal rs ≡ n → ⊥
+first_refusal-lacks n [] t p e = omega arith
+first_refusal-lacks n (r ∷ rs) t p e =
+    go r.met e (first_refusal-lacks n rs (and-right (not (eqb r.number n)) (lacks n rs) t) p)
+  where
+    go : (b : Bool) → cond b r.number (first_refusal rs) ≡ n → (first_refusal rs ≡ n → ⊥) → ⊥
+    go true q rest =
+        let other : T (not (eqb r.number n)) = and-left (not (eqb r.number n)) (lacks n rs) t in grind (arith, nat_tests)
+    go false q rest = rest q
 
 -- ---- two lists by turns
 -- two lists with the same numbers above 0, each greater than those before it

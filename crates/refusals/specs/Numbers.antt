@@ -31,11 +31,12 @@ number Refusal.EndsReversed = 22
 -- the refusals, in the order of their numbers
 unfoldable pub in_order : List Refusal
 in_order =
-    Refusal.SpeedOutOfRange ∷ Refusal.WidthOutOfRange ∷ Refusal.ClearanceTooLarge ∷ Refusal.MedianUnfit ∷ Refusal.AccessTooLarge
-    ∷ Refusal.LanesNotOfTheKind ∷ Refusal.DemandTooLarge ∷ Refusal.FactorOutOfRange ∷ Refusal.ShareTooLarge ∷ Refusal.SpeedBelowLowerEnd
-    ∷ Refusal.CarsTooFew ∷ Refusal.FlowTooLarge ∷ Refusal.SurveyedSpeedOutOfRange ∷ Refusal.NoLaneCount ∷ Refusal.LineMalformed
-    ∷ Refusal.LetterUnknown ∷ Refusal.BufferTooShort ∷ Refusal.DayUnfit ∷ Refusal.WeatherUnfit ∷ Refusal.SharesUnfit
-    ∷ Refusal.DailyTrafficTooLarge ∷ Refusal.EndsReversed ∷ []
+    Refusal.SpeedOutOfRange ∷ Refusal.WidthOutOfRange ∷ Refusal.ClearanceTooLarge ∷ Refusal.MedianUnfit
+    ∷ Refusal.AccessTooLarge ∷ Refusal.LanesNotOfTheKind ∷ Refusal.DemandTooLarge
+    ∷ Refusal.FactorOutOfRange ∷ Refusal.ShareTooLarge ∷ Refusal.SpeedBelowLowerEnd ∷ Refusal.CarsTooFew
+    ∷ Refusal.FlowTooLarge ∷ Refusal.SurveyedSpeedOutOfRange ∷ Refusal.NoLaneCount ∷ Refusal.LineMalformed
+    ∷ Refusal.LetterUnknown ∷ Refusal.BufferTooShort ∷ Refusal.DayUnfit ∷ Refusal.WeatherUnfit
+    ∷ Refusal.SharesUnfit ∷ Refusal.DailyTrafficTooLarge ∷ Refusal.EndsReversed ∷ []
 
 -- the refusal of number n, from 1 to 22
 -- 0 has the first, and any number above 22 the last: no refusal has such a number

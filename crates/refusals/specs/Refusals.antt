@@ -15,10 +15,6 @@ abbrev pub first_refusal : List Condition → ℕ
 first_refusal [] = 0
 first_refusal (r ∷ rs) = if r.met then r.number else first_refusal rs
 
--- a number that was found, 0 for none, as a list of one refusal
-abbrev pub found : ℕ → List Condition
-found n = refuses n (nat_lt 0 n) ∷ []
-
 -- the first of rs, the first of ss, the second of rs and so on
 abbrev pub by_turns : List Condition → List Condition → List Condition
 by_turns [] ss = ss

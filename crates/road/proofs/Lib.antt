@@ -6,3 +6,4 @@ pub mod AdjustmentLaws
 pub mod RefusalLaws
 pub mod FreeFlowSpeedLaws
 pub mod Laws
+pub mod Boundary

@@ -1,10 +1,8 @@
 -- Refusals 1 to 9 and 19 (specs/Refusals).
-use Rattle.std.proofs.Common.{arith, ◌≡◌, refl, ◌∙◌, false, List, ◌++◌, ◌↔◌, ℕ, ◌≤◌, T, lt-ltb}
+use Rattle.std.proofs.Common.{arith, ◌≡◌, ◌∙◌, false, ◌++◌, ◌↔◌, ℕ, ◌≤◌, T}
 use Rattle.std.proofs.lemmas.Bool.Decides.{nat_tests}
-use Rattle.refusals.specs.declared.Refusal.{Refusal}
-use Rattle.refusals.specs.Refusals.{Condition, first_refusal, found, outside}
-use Rattle.refusals.specs.Numbers.{number}
-use Rattle.refusals.proofs.RefusalLaws.{numbered, first_refusal-none, first_refusal-join, first_refusal-found, none-met, none-of, within}
+use Rattle.refusals.specs.Refusals.{outside}
+use Rattle.refusals.proofs.RefusalLaws.{numbered, first_refusal-none, first_refusal-join, none-met, none-of, within}
 use Rattle.refusals.proofs.RefusalLaws.{inside}
 use Rattle.refusals.proofs.NumberLaws.{number-above, in_turn}
 use Rattle.curve.specs.declared.kind.Kind.{Kind}
@@ -13,9 +11,9 @@ use Rattle.curve.specs.Kinds.{fewest_lanes, most_lanes}
 use Rattle.curve.specs.Weather.{FactorsFit}
 use Rattle.road.specs.declared.Road.{Road}
 use Rattle.road.specs.declared.Case.{Case}
-use Rattle.road.specs.Cases.{with_lanes}
+use Rattle.road.specs.Cases.{with_lanes, with_load}
 use Rattle.road.specs.Refusals.{greatest_demand, weather_unfit, road_refusals, lane_refusals, section_refusals, load_refusals}
-use Rattle.road.specs.Refusals.{weather_refusals, field_refusals_with, field_refusals, RoadFits, SectionFits, FieldsFit}
+use Rattle.road.specs.Refusals.{weather_refusals, field_refusals, RoadFits, SectionFits, LoadFits, WeatherFits, FieldsFit}
 
 -- ---- the parts of the list
 -- road-numbered, section-numbered, load-numbered, fields-numbered: every number is above 0
@@ -35,48 +33,25 @@ pub fields-numbered : (case : Case) → T (numbered (field_refusals case))
 unfolding field_refusals road_refusals load_refusals
 fields-numbered case = tt
 
--- section_in_turn, fields_in_turn, fields_found: for tactics: of code that asks one part after another, and
--- of that number
+-- section_in_turn, fields_in_turn: for tactics: of code that asks one part after another
 pub ruleset section_in_turn = (in_turn, road-numbered, nat_tests)
 
--- ---- a number in the place of 7 to 9
--- the number of 7 to 9 stands for them
-pub field_refusals-found : (case : Case)
-    → first_refusal (field_refusals_with (found (first_refusal (load_refusals case))) case) ≡ first_refusal (field_refusals case)
+-- a case that none of 1 to 9 nor 19 refuses: neither 1 to 6 nor 7 to 9 nor 19 do; and the converse
+pub fields-parts : (case : Case) → FieldsFit case → SectionFits case × LoadFits case × WeatherFits case
 unfolding field_refusals
-field_refusals-found case = first_refusal-found (section_refusals case) (load_refusals case) (weather_refusals case) (load-numbered case)
-
--- what was found, where it refuses, refuses before what is behind it
-pub found-err : (r : Refusal) (rest : List Condition) → number r ≡ first_refusal (found (number r) ++ rest)
-found-err r rest = rw (lt-ltb 0 (number r) (number-above r)) refl
-
-pub ruleset fields_in_turn = (in_turn, section-numbered, found-err)
-
-pub ruleset fields_found = (field_refusals-found)
-
-found-none : (n : ℕ) (rest : List Condition) → first_refusal (found n ++ rest) ≡ 0 → (n ≡ 0) × (first_refusal rest ≡ 0)
-found-none n rest z = (grind (arith, nat_tests), grind (arith, nat_tests))
-
--- a case that 1 to 6, what was found in the place of 7 to 9, and 19 do not refuse: none of the three does
-pub with-parts : (n : ℕ) (case : Case) → first_refusal (field_refusals_with (found n) case) ≡ 0
-    → SectionFits case × (n ≡ 0) × (first_refusal (weather_refusals case) ≡ 0)
-with-parts n case z =
-    let p = first_refusal-join (section_refusals case) (found n ++ weather_refusals case) (section-numbered case) z in
-    let q = found-none n (weather_refusals case) p.1 in
+fields-parts case z =
+    let p = first_refusal-join (section_refusals case) (load_refusals case ++ weather_refusals case) (section-numbered case) z in
+    let q = first_refusal-join (load_refusals case) (weather_refusals case) (load-numbered case) p.1 in
     (p.0, q.0, q.1)
 
--- a case that none of them refuses: neither 1 to 6 nor 7 to 9 nor 19 do; and the converse
-fields-parts : (case : Case) → FieldsFit case
-    → SectionFits case × (first_refusal (load_refusals case) ≡ 0) × (first_refusal (weather_refusals case) ≡ 0)
-fields-parts case z = with-parts (first_refusal (load_refusals case)) case (field_refusals-found case ∙ z)
-
-fields-of : (case : Case) → SectionFits case → first_refusal (load_refusals case) ≡ 0 → first_refusal (weather_refusals case) ≡ 0
-    → FieldsFit case
+pub fields-of : (case : Case) → SectionFits case → LoadFits case → WeatherFits case → FieldsFit case
 unfolding field_refusals
 fields-of case s l w =
     first_refusal-none (section_refusals case) (load_refusals case ++ weather_refusals case) (section-numbered case) s
     ∙ first_refusal-none (load_refusals case) (weather_refusals case) (load-numbered case) l
     ∙ w
+
+pub ruleset fields_in_turn = (in_turn, section-numbered, load-numbered, fields-of)
 
 section-parts : (case : Case) → SectionFits case
     → RoadFits case.road × (outside (fewest_lanes case.road.kind) (most_lanes case.road.kind) case.lanes ≡ false)
@@ -84,16 +59,15 @@ section-parts case s =
     let p = first_refusal-join (road_refusals case.road) (lane_refusals case) (road-numbered case.road) s in
     (p.0, (none-met (lane_refusals case) tt p.1).0)
 
--- section-road, with-road, fields-road: a case that none of 1 to 6 refuses, or none of them: 1 to 5 do not
--- refuse its road
+-- section-road, fields-road: a case that none of 1 to 6 refuses, or none of them: 1 to 5 do not refuse its road
 pub section-road : (case : Case) → SectionFits case → RoadFits case.road
 section-road case s = (section-parts case s).0
 
-pub with-road : (n : ℕ) (case : Case) → first_refusal (field_refusals_with (found n) case) ≡ 0 → RoadFits case.road
-with-road n case z = section-road case (with-parts n case z).0
-
 pub fields-road : (case : Case) → FieldsFit case → RoadFits case.road
 fields-road case z = section-road case (fields-parts case z).0
+
+-- for tactics: the last
+pub ruleset fit_road = (fields-road)
 
 -- ---- the ends that they leave
 -- road-speed-low, freeway-ramps-high, multilane-access-high: the ends that 1 and 5 leave to a road
@@ -114,7 +88,7 @@ pub ruleset road_ends = (road-speed-low, freeway-ramps-high, multilane-access-hi
 
 -- a load that 7 to 9 let pass, by its ends
 pub loads-exactly : (case : Case)
-    → (first_refusal (load_refusals case) ≡ 0)
+    → LoadFits case
     ↔ ((case.demand ≤ greatest_demand) × (250 ≤ case.peak_hour_factor) × (case.peak_hour_factor ≤ 1000)
     × (case.heavy_share ≤ 1000))
 unfolding load_refusals
@@ -146,7 +120,17 @@ load-ends case z =
       share-high = share;
     }
 
--- weather-exactly, weather-fits, with-weather, fields-weather: the factors that 19 lets pass
+-- fit-demand, lanes-low, lanes-high: its demand is up to the greatest, and its lanes are of the kind
+pub fit-demand : (case : Case) → FieldsFit case → case.demand ≤ greatest_demand
+fit-demand case z = (load-ends case z).demand-high
+
+pub lanes-low : (case : Case) → FieldsFit case → fewest_lanes case.road.kind ≤ case.lanes
+lanes-low case z = (load-ends case z).lanes-low
+
+pub lanes-high : (case : Case) → FieldsFit case → case.lanes ≤ most_lanes case.road.kind
+lanes-high case z = (load-ends case z).lanes-high
+
+-- weather-exactly, weather-fits, fields-weather: the factors that 19 lets pass
 pub weather-exactly : (kind : Kind) (weather : Weather) → (weather_unfit kind weather ≡ false) ↔ FactorsFit kind weather
 unfolding weather_unfit
 weather-exactly kind weather = (
@@ -160,11 +144,8 @@ weather-exactly kind weather = (
   λ fit. grind (arith, nat_tests),
 )
 
-pub weather-fits : (case : Case) → first_refusal (weather_refusals case) ≡ 0 → FactorsFit case.road.kind case.weather
+pub weather-fits : (case : Case) → WeatherFits case → FactorsFit case.road.kind case.weather
 weather-fits case w = (weather-exactly case.road.kind case.weather).0 (none-met (weather_refusals case) tt w).0
-
-pub with-weather : (n : ℕ) (case : Case) → first_refusal (field_refusals_with (found n) case) ≡ 0 → FactorsFit case.road.kind case.weather
-with-weather n case z = weather-fits case (with-parts n case z).2
 
 pub fields-weather : (case : Case) → FieldsFit case → FactorsFit case.road.kind case.weather
 fields-weather case z = weather-fits case (fields-parts case z).2
@@ -181,3 +162,10 @@ fields-with_lanes case n z h k =
     (section-road case section)
     ∙ none-of (lane_refusals (with_lanes case n)) (inside (fewest_lanes case.road.kind) (most_lanes case.road.kind) n h k, tt))
     loads weather
+
+-- ---- a case with another load
+-- nor does any of them refuse it with another load that 7 to 9 let pass
+pub fields-with_load : (case : Case) (demand factor share : ℕ) → FieldsFit case → LoadFits (with_load case demand factor share)
+    → FieldsFit (with_load case demand factor share)
+fields-with_load case demand factor share z l =
+    let (section, loads, weather) = fields-parts case z in fields-of (with_load case demand factor share) section l weather

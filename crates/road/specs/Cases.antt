@@ -44,6 +44,11 @@ abbrev pub with_demand : Case → ℕ → Case
 with_demand case demand =
     loaded case.road case.lanes demand case.peak_hour_factor case.heavy_share case.terrain case.weather
 
+-- the case with that demand, peak-hour factor and heavy share, all other fields kept
+abbrev pub with_load : Case → (demand factor share : ℕ) → Case
+with_load case demand factor share =
+    loaded case.road case.lanes demand factor share case.terrain case.weather
+
 -- the case with n lanes, all other fields kept
 abbrev pub with_lanes : Case → ℕ → Case
 with_lanes case n =

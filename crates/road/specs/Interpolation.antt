@@ -14,7 +14,8 @@ entry_after row step x = get_or row (div_up x step) 0
 -- step times the height at x of the straight line between the two
 -- Through y0 at x0 and y1 at x0 + step, the straight line has at x the y with step × y = y0 × (x0 + step − x) + y1 × (x − x0).
 unfoldable pub weighted_sum : List ℕ → ℕ → ℕ → ℕ
-weighted_sum row step x = let past = x % step in entry_before row step x * (step - past) + entry_after row step x * past
+weighted_sum row step x =
+    let past = x % step in entry_before row step x * (step - past) + entry_after row step x * past
 
 -- that height
 -- "linear between the entries, in tenths, with no cutting down"

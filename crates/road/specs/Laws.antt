@@ -22,24 +22,28 @@ StraightBetweenEntries =
 abbrev pub ClearancesAreWhole : Type 0
 ClearancesAreWhole =
     ((r n : ℕ) → r ≤ 60 → 10 * right_clearance_adjustment r n ≡ weighted_sum (right_clearance_row (per_missing_foot n)) 10 (60 - r))
-    × ((n s : ℕ) → s ≤ 120 → 20 * total_clearance_adjustment n s ≡ weighted_sum (total_clearance_row n) 20 (120 - s))
+    × ((n s : ℕ) → s ≤ 120
+    → 20 * total_clearance_adjustment n s ≡ weighted_sum (total_clearance_row n) 20 (120 - s))
 
 -- A tenth that the right clearance is short of 6 feet takes off a tenth of what a foot takes: 60, 40, 20 or 10.
 abbrev pub RightClearanceByTenths : Type 0
-RightClearanceByTenths = (r n : ℕ) → 10 * right_clearance_adjustment r n ≡ (60 - min 60 r) * per_missing_foot n
+RightClearanceByTenths =
+    (r n : ℕ) → 10 * right_clearance_adjustment r n ≡ (60 - min 60 r) * per_missing_foot n
 
 -- With up to 48 ramps exactly one number fits the rule, the ramp term. With one or more it is above 0, so that 2t − 1 is not cut at 0.
 abbrev pub RampTermIsNearest : Type 0
 RampTermIsNearest =
     (k : ℕ) → k ≤ 48
-    → T (is_ramp_term k (ramp_term k)) × ((t : ℕ) → T (is_ramp_term k t) → t ≡ ramp_term k) × (1 ≤ k → 1 ≤ ramp_term k)
+    → T (is_ramp_term k (ramp_term k)) × ((t : ℕ) → T (is_ramp_term k t) → t ≡ ramp_term k)
+    × (1 ≤ k → 1 ≤ ramp_term k)
 
 -- An estimate and what is taken off are together the base speed, on a road that 1 to 5 do not refuse: no difference is cut at 0.
 abbrev pub EstimateNeverBelowZero : Type 0
 EstimateNeverBelowZero =
     (road : Road) (n : ℕ) → RoadFits road
     → (road.kind ≡ Kind.Freeway
-    → estimated_speed road n + lane_width_adjustment road.lane_width + right_clearance_adjustment road.right_clearance n
+    → estimated_speed road n + lane_width_adjustment road.lane_width
+    + right_clearance_adjustment road.right_clearance n
     + ramp_term road.access ≡ road.speed)
     × (road.kind ≡ Kind.Multilane
     → estimated_speed road n + lane_width_adjustment road.lane_width
@@ -50,8 +54,10 @@ EstimateNeverBelowZero =
 
 -- Free-flow speed never falls with more lanes.
 abbrev pub FreeFlowSpeedNeverFallsWithLanes : Type 0
-FreeFlowSpeedNeverFallsWithLanes = (road : Road) (m n : ℕ) → m ≤ n → free_flow_speed_of road m ≤ free_flow_speed_of road n
+FreeFlowSpeedNeverFallsWithLanes =
+    (road : Road) (m n : ℕ) → m ≤ n → free_flow_speed_of road m ≤ free_flow_speed_of road n
 
 -- 19 lets pass exactly the factors within the kind's ends: 500 to 1,000 on kind F, 1,000 on kind M.
 abbrev pub WeatherFitsExactly : Type 0
-WeatherFitsExactly = (kind : Kind) (weather : Weather) → (weather_unfit kind weather ≡ false) ↔ FactorsFit kind weather
+WeatherFitsExactly =
+    (kind : Kind) (weather : Weather) → (weather_unfit kind weather ≡ false) ↔ FactorsFit kind weather

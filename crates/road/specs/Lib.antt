@@ -13,3 +13,5 @@ pub mod FreeFlowSpeed
 pub mod Refusals
 -- the laws of free-flow speed and of refusal 19, stated
 pub mod Laws
+-- the boundary sections that a road alone decides
+pub mod Boundary

@@ -7,7 +7,8 @@ use Rattle.numbers.specs.Search.{greatest}
 unfoldable pub is_ramp_term : ℕ → ℕ → Bool
 is_ramp_term zero t = t == 0
 is_ramp_term (suc k) t =
-    nat_le ((2 * t - 1) ^ 25 * 6 ^ 21) (6440 ^ 25 * suc k ^ 21) && nat_lt (6440 ^ 25 * suc k ^ 21) ((2 * t + 1) ^ 25 * 6 ^ 21)
+    nat_le ((2 * t - 1) ^ 25 * 6 ^ 21) (6440 ^ 25 * suc k ^ 21)
+    && nat_lt (6440 ^ 25 * suc k ^ 21) ((2 * t + 1) ^ 25 * 6 ^ 21)
 
 -- that t
 -- there is exactly one to k = 48 (specs/Laws), and none of these is above 19,000

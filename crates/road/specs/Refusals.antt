@@ -31,7 +31,8 @@ greatest_demand = 999999
 -- "a factor out of range or below 1,000 on kind M"
 unfoldable pub weather_unfit : Kind → Weather → Bool
 weather_unfit kind weather =
-    outside (lowest_factor kind) 1000 weather.speed_factor || outside (lowest_factor kind) 1000 weather.capacity_factor
+    outside (lowest_factor kind) 1000 weather.speed_factor
+    || outside (lowest_factor kind) 1000 weather.capacity_factor
 
 -- 1 to 5, of the road's fields
 -- "1 speed not 30,000 to 90,000; 2 width not 100 to 200; 3 a clearance above 400; 4 median other than D on kind F;
@@ -48,7 +49,8 @@ road_refusals road =
 -- 6, of the lanes
 -- "6 lanes not of the kind"
 abbrev pub lane_refusals : Case → List Condition
-lane_refusals case = refuses 6 (outside (fewest_lanes case.road.kind) (most_lanes case.road.kind) case.lanes) ∷ []
+lane_refusals case =
+    refuses 6 (outside (fewest_lanes case.road.kind) (most_lanes case.road.kind) case.lanes) ∷ []
 
 -- 1 to 6
 abbrev pub section_refusals : Case → List Condition
@@ -67,14 +69,10 @@ load_refusals case =
 abbrev pub weather_refusals : Case → List Condition
 weather_refusals case = refuses 19 (weather_unfit case.road.kind case.weather) ∷ []
 
--- 1 to 6, what is asked in the place of 7 to 9, and 19
--- "19 .. after 9"
-abbrev pub field_refusals_with : List Condition → Case → List Condition
-field_refusals_with loads case = section_refusals case ++ (loads ++ weather_refusals case)
-
 -- 1 to 9 and 19
+-- "19 .. after 9"
 unfoldable pub field_refusals : Case → List Condition
-field_refusals case = field_refusals_with (load_refusals case) case
+field_refusals case = section_refusals case ++ (load_refusals case ++ weather_refusals case)
 
 -- none of 1 to 5 refuses the road
 abbrev pub RoadFits : Road → Type 0
@@ -83,6 +81,14 @@ RoadFits road = first_refusal (road_refusals road) ≡ 0
 -- none of 1 to 6 refuses the case
 abbrev pub SectionFits : Case → Type 0
 SectionFits case = first_refusal (section_refusals case) ≡ 0
+
+-- none of 7 to 9 refuses the case
+abbrev pub LoadFits : Case → Type 0
+LoadFits case = first_refusal (load_refusals case) ≡ 0
+
+-- 19 does not refuse the case
+abbrev pub WeatherFits : Case → Type 0
+WeatherFits case = first_refusal (weather_refusals case) ≡ 0
 
 -- none of 1 to 9 nor 19 refuses the case
 abbrev pub FieldsFit : Case → Type 0

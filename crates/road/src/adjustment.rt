@@ -1,4 +1,4 @@
-//! What lane width, clearances, median and access points take off a base speed, in thousandths of mi/h.
+//! What lane width, clearances, median and access points take off a base speed.
 
 ghost use Rattle.std.specs.Prelude.{◌≡◌, ◌*◌, ◌≤◌};
 ghost use Rattle.road.specs.Interpolation.{interpolated};
@@ -7,14 +7,15 @@ ghost use Rattle.road.specs.Adjustments.{total_clearance, total_clearance_row, t
 ghost use Rattle.road.specs.Adjustments.{median_adjustment, access_adjustment};
 
 use crate::{Median, Road};
+use numbers::units::{Length, Speed};
 
 /// What total clearance takes off, for 12, 10, 8, 6, 4, 2 and 0 feet.
-static TWO_LANES: [u64; 7] = [0, 400, 900, 1_300, 1_800, 3_600, 5_400];
+static TWO_LANES: [Speed; 7] = [0, 400, 900, 1_300, 1_800, 3_600, 5_400];
 
-static THREE_LANES: [u64; 7] = [0, 400, 900, 1_300, 1_700, 2_800, 3_900];
+static THREE_LANES: [Speed; 7] = [0, 400, 900, 1_300, 1_700, 2_800, 3_900];
 
 #[tactic(auto, unfolding(crate::specs::Adjustments::per_missing_foot))]
-fn per_missing_tenth(lanes: u64) -> u64
+fn per_missing_tenth(lanes: u64) -> Speed
     ensures { 10 * result ≡ per_missing_foot lanes }
 {
     match lanes {
@@ -26,7 +27,7 @@ fn per_missing_tenth(lanes: u64) -> u64
 }
 
 #[tactic(auto, unfolding(crate::specs::Adjustments::total_clearance_row))]
-fn total_clearance_row(lanes: u64) -> &'static [u64; 7]
+fn total_clearance_row(lanes: u64) -> &'static [Speed; 7]
     ensures { result.now ≡ total_clearance_row lanes }
 {
     if lanes <= 2 { &TWO_LANES } else { &THREE_LANES }
@@ -34,7 +35,7 @@ fn total_clearance_row(lanes: u64) -> &'static [u64; 7]
 
 /// For a total clearance that is so many tenths short of 12 feet: an entry of the row, and its part of the rise to the next.
 #[tactic(auto, using(crate::proofs::AdjustmentLaws::line_laws))]
-fn missing_clearance_adjustment(lanes: u64, missing: u64) -> u64
+fn missing_clearance_adjustment(lanes: u64, missing: Length) -> Speed
     requires { missing ≤ 120 }
     ensures { result ≡ interpolated (total_clearance_row lanes) 20 missing }
 {
@@ -47,7 +48,7 @@ fn missing_clearance_adjustment(lanes: u64, missing: u64) -> u64
 impl Road {
     /// Both kinds.
     #[tactic(auto, unfolding(crate::specs::Adjustments::lane_width_adjustment))]
-    pub(crate) fn lane_width_adjustment(&self) -> u64
+    pub(crate) fn lane_width_adjustment(&self) -> Speed
         ensures { result ≡ lane_width_adjustment self.now.lane_width }
     {
         match self.lane_width {
@@ -59,13 +60,13 @@ impl Road {
 
     /// Kind F.
     #[tactic(auto, using(crate::proofs::AdjustmentLaws::adjustment_laws))]
-    pub(crate) fn right_clearance_adjustment(&self, lanes: u64) -> u64
+    pub(crate) fn right_clearance_adjustment(&self, lanes: u64) -> Speed
         ensures { result ≡ right_clearance_adjustment self.now.right_clearance lanes }
     {
         (60 - self.right_clearance.min(60)) * per_missing_tenth(lanes)
     }
 
-    fn counted_left_clearance(&self) -> u64
+    fn counted_left_clearance(&self) -> Length
         ensures { result ≡ counted_left_clearance self.now.median self.now.left_clearance }
     {
         match self.median {
@@ -75,7 +76,7 @@ impl Road {
     }
 
     #[tactic(auto, unfolding(crate::specs::Adjustments::total_clearance))]
-    fn total_clearance(&self) -> u64
+    fn total_clearance(&self) -> Length
         ensures { result ≡ total_clearance self.now.median self.now.right_clearance self.now.left_clearance }
     {
         self.right_clearance.min(60) + self.counted_left_clearance()
@@ -83,14 +84,14 @@ impl Road {
 
     /// Kind M.
     #[tactic(auto, using(crate::proofs::AdjustmentLaws::adjustment_laws), unfolding(crate::specs::Adjustments::total_clearance_adjustment))]
-    pub(crate) fn total_clearance_adjustment(&self, lanes: u64) -> u64
+    pub(crate) fn total_clearance_adjustment(&self, lanes: u64) -> Speed
         ensures { result ≡ total_clearance_adjustment lanes
             (total_clearance self.now.median self.now.right_clearance self.now.left_clearance) }
     {
         missing_clearance_adjustment(lanes, 120 - self.total_clearance())
     }
 
-    pub(crate) fn median_adjustment(&self) -> u64
+    pub(crate) fn median_adjustment(&self) -> Speed
         ensures { result ≡ median_adjustment self.now.median }
     {
         match self.median {
@@ -100,7 +101,7 @@ impl Road {
     }
 
     #[tactic(auto, unfolding(crate::specs::Adjustments::access_adjustment))]
-    pub(crate) fn access_adjustment(&self) -> u64
+    pub(crate) fn access_adjustment(&self) -> Speed
         requires { self.now.access ≤ 200 }
         ensures { result ≡ access_adjustment self.now.access }
     {

@@ -1,4 +1,4 @@
-//! Free-flow speed, in thousandths of mi/h, before the weather's factor.
+//! Free-flow speed, given or estimated, before the weather's factor.
 
 ghost use Rattle.std.specs.Prelude.{◌≡◌};
 ghost use Rattle.curve.specs.declared.kind.Kind.TheVariants as Kind;
@@ -6,59 +6,58 @@ ghost use Rattle.road.specs.FreeFlowSpeed.{estimated_by, uncapped_speed, free_fl
 ghost use Rattle.road.specs.Refusals.{RoadFits};
 
 use crate::ramp::ramp_term;
+use crate::refusal::FitCase;
 use crate::{Road, Way};
 use curve::kind::Kind;
+use numbers::units::Speed;
 
-/// A road that none of 1 to 5 refuses.
-#[derive(Clone, Copy)]
-pub struct FitRoad {
-    pub road: Road,
-    pub ghost fits: { RoadFits road },
-}
-
-impl FitRoad {
+impl Road {
     #[tactic(auto, using(crate::proofs::FreeFlowSpeedLaws::estimate_terms), unfolding(crate::specs::FreeFlowSpeed::estimated_by))]
-    fn freeway_estimate(&self, lanes: u64) -> u64
-        requires { self.now.road.kind ≡ Kind.Freeway }
-        ensures { result ≡ estimated_by Kind.Freeway self.now.road lanes }
+    fn freeway_estimate(&self, lanes: u64) -> Speed
+        requires fits { RoadFits self.now }
+        requires freeway { self.now.kind ≡ Kind.Freeway }
+        ensures { result ≡ estimated_by Kind.Freeway self.now lanes }
     {
-        let road = &self.road;
-        road.speed
-            - road.lane_width_adjustment()
-            - road.right_clearance_adjustment(lanes)
-            - ramp_term(road.access)
+        self.speed
+            - self.lane_width_adjustment()
+            - self.right_clearance_adjustment(lanes)
+            - ramp_term(self.access)
     }
 
     #[tactic(auto, using(crate::proofs::FreeFlowSpeedLaws::estimate_terms), unfolding(crate::specs::FreeFlowSpeed::estimated_by))]
-    fn multilane_estimate(&self, lanes: u64) -> u64
-        requires { self.now.road.kind ≡ Kind.Multilane }
-        ensures { result ≡ estimated_by Kind.Multilane self.now.road lanes }
+    fn multilane_estimate(&self, lanes: u64) -> Speed
+        requires fits { RoadFits self.now }
+        requires multilane { self.now.kind ≡ Kind.Multilane }
+        ensures { result ≡ estimated_by Kind.Multilane self.now lanes }
     {
-        let road = &self.road;
-        road.speed
-            - road.lane_width_adjustment()
-            - road.total_clearance_adjustment(lanes)
-            - road.median_adjustment()
-            - road.access_adjustment()
+        self.speed
+            - self.lane_width_adjustment()
+            - self.total_clearance_adjustment(lanes)
+            - self.median_adjustment()
+            - self.access_adjustment()
     }
 
     #[tactic(auto, unfolding(crate::specs::FreeFlowSpeed::uncapped_by))]
-    fn uncapped_speed(&self, lanes: u64) -> u64
-        ensures { result ≡ uncapped_speed self.now.road lanes }
+    fn uncapped_speed(&self, lanes: u64) -> Speed
+        requires { RoadFits self.now }
+        ensures { result ≡ uncapped_speed self.now lanes }
     {
-        match (self.road.way, self.road.kind) {
-            (Way::Given, _) => self.road.speed,
+        match (self.way, self.kind) {
+            (Way::Given, _) => self.speed,
             (Way::Estimated, Kind::Freeway) => self.freeway_estimate(lanes),
             (Way::Estimated, Kind::Multilane) => self.multilane_estimate(lanes),
         }
     }
+}
 
-    /// F, given or estimated, at most the kind's upper end.
-    #[tactic(auto, unfolding(crate::specs::FreeFlowSpeed::free_flow_speed_of))]
-    pub fn free_flow_speed(&self, lanes: u64) -> u64
-        ensures { result ≡ free_flow_speed_of self.now.road lanes }
+impl FitCase {
+    /// F of the case's road with a lane count: given or estimated, and at most the kind's upper end.
+    #[tactic(auto, using(crate::proofs::RefusalLaws::fit_road), unfolding(crate::specs::FreeFlowSpeed::free_flow_speed_of))]
+    pub fn free_flow_speed(&self, lanes: u64) -> Speed
+        ensures { result ≡ free_flow_speed_of self.now.case.road lanes }
     {
-        self.uncapped_speed(lanes)
-            .min(self.road.kind.limits().highest_speed)
+        let road = &self.case.road;
+        road.uncapped_speed(lanes)
+            .min(road.kind.limits().highest_speed)
     }
 }

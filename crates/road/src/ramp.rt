@@ -4,10 +4,11 @@ ghost use Rattle.std.specs.Prelude.{◌≡◌, ◌≤◌};
 ghost use Rattle.road.specs.RampTerm.{ramp_term};
 
 use crate::ramp_table::RAMP_TERMS;
+use numbers::units::Speed;
 
-/// For k ramps in six miles, k to 48.
+/// What up to 48 ramps in six miles take off.
 #[tactic(auto, using(crate::proofs::RampLaws::table_entries), unfolding(crate::proofs::RampTable::ramp_table))]
-pub(crate) fn ramp_term(ramps: u64) -> u64
+pub(crate) fn ramp_term(ramps: u64) -> Speed
     requires { ramps ≤ 48 }
     ensures { result ≡ ramp_term ramps }
 {

@@ -1,18 +1,19 @@
-//! Refusals 1 to 9 and 19 of a case, in the documents' order.
+//! Which roads and cases are fit: refusals 1 to 9 and 19, in their order.
 
-ghost use Rattle.std.specs.Prelude.{◌≡◌};
-ghost use Rattle.refusals.specs.Refusals.{first_refusal, found};
+ghost use Rattle.std.specs.Prelude.{◌≡◌, IfOk};
+ghost use Rattle.refusals.specs.Refusals.{first_refusal};
 ghost use Rattle.refusals.specs.Numbers.{refusal_number};
 ghost use Rattle.road.specs.Refusals.{median_unfit, most_access, weather_unfit, road_refusals, section_refusals, load_refusals};
-ghost use Rattle.road.specs.Refusals.{weather_refusals, field_refusals_with, field_refusals};
+ghost use Rattle.road.specs.Refusals.{weather_refusals, field_refusals, FieldsFit};
 
 use crate::{Case, Median, Road};
-use refusals::Refusal;
 use curve::Weather;
 use curve::kind::Kind;
+use numbers::units::Demand;
+use refusals::Refusal;
 
 /// The greatest demand that refusal 7 lets pass.
-pub const GREATEST_DEMAND: u64 = 999_999;
+pub const GREATEST_DEMAND: Demand = 999_999;
 
 fn median_unfit(kind: Kind, median: Median) -> bool
     ensures { result ≡ median_unfit kind median }
@@ -38,7 +39,7 @@ fn weather_unfit(kind: Kind, weather: Weather) -> bool
 }
 
 impl Road {
-    /// 1 to 5.
+    /// Whether the road is fit: the first of 1 to 5 that refuses it, if any does.
     #[tactic(auto, unfolding(crate::specs::Refusals::road_refusals))]
     fn check(&self) -> Result<(), Refusal>
         ensures { refusal_number result ≡ first_refusal (road_refusals self.now) }
@@ -63,7 +64,7 @@ impl Road {
 }
 
 impl Case {
-    /// None of 1 to 6 refuses a case, or the first that does.
+    /// Whether the section is fit: the first of 1 to 6 that refuses the case, if any does.
     #[tactic(auto, using(crate::proofs::RefusalLaws::section_in_turn))]
     pub fn check_section(&self) -> Result<(), Refusal>
         ensures { refusal_number result ≡ first_refusal (section_refusals self.now) }
@@ -76,7 +77,7 @@ impl Case {
         Ok(())
     }
 
-    /// The same of 7 to 9.
+    /// Whether the load is fit: the first of 7 to 9 that refuses the case, if any does.
     #[tactic(auto, unfolding(crate::specs::Refusals::load_refusals))]
     pub fn check_load(&self) -> Result<(), Refusal>
         ensures { refusal_number result ≡ first_refusal (load_refusals self.now) }
@@ -93,7 +94,7 @@ impl Case {
         Ok(())
     }
 
-    /// The same of 19.
+    /// Whether the weather is fit, or 19.
     pub fn check_weather(&self) -> Result<(), Refusal>
         ensures { refusal_number result ≡ first_refusal (weather_refusals self.now) }
     {
@@ -102,22 +103,25 @@ impl Case {
         }
         Ok(())
     }
+}
 
-    /// The same of 1 to 6, of what was found in the place of 7 to 9, and of 19.
-    #[tactic(auto, using(crate::proofs::RefusalLaws::fields_in_turn))]
-    pub fn check_fields_with(&self, loads: Result<(), Refusal>) -> Result<(), Refusal>
-        ensures { refusal_number result ≡ first_refusal (field_refusals_with (found (refusal_number loads)) self.now) }
-    {
-        self.check_section()?;
-        loads?;
-        self.check_weather()
-    }
+/// A case that none of 1 to 9 nor 19 refuses.
+#[derive(Clone, Copy)]
+pub struct FitCase {
+    pub case: Case,
+    pub ghost fits: { FieldsFit case },
+}
 
-    /// The same of 1 to 9 and 19.
-    #[tactic(auto, using(crate::proofs::RefusalLaws::fields_found))]
-    pub fn check_fields(&self) -> Result<(), Refusal>
-        ensures { refusal_number result ≡ first_refusal (field_refusals self.now) }
+impl FitCase {
+    /// The case, or the first of 1 to 9 and 19 that refuses it.
+    #[tactic(auto, using(crate::proofs::RefusalLaws::fields_in_turn), unfolding(crate::specs::Refusals::field_refusals))]
+    pub fn check(case: Case) -> Result<FitCase, Refusal>
+        ensures refusal { refusal_number result ≡ first_refusal (field_refusals case) }
+        ensures kept { IfOk result (λ fit. fit.case ≡ case) }
     {
-        self.check_fields_with(self.check_load())
+        case.check_section()?;
+        case.check_load()?;
+        case.check_weather()?;
+        Ok(FitCase { case })
     }
 }

@@ -1,5 +1,5 @@
 -- Demand 3, proved.
-use Rattle.std.proofs.Common.{◌≡◌, refl, sym, ap, ◌∙◌, ◌↔◌, ⊎_elim, inl, [], ◌∷◌, ℕ, zero, suc, ◌≤◌, ◌<◌, arith, T, length, get_or, Ok, Err}
+use Rattle.std.proofs.Common.{◌≡◌, refl, sym, ap, ◌∙◌, ◌↔◌, ⊎_elim, inl, [], ◌∷◌, ℕ, suc, ◌≤◌, ◌<◌, arith, T, length, get_or, Ok, Err}
 use Rattle.std.proofs.Math.Decide.{dec_le}
 use Rattle.refusals.specs.declared.Refusal.{Refusal}
 use Rattle.refusals.specs.Numbers.{refusal_number}
@@ -8,7 +8,7 @@ use Rattle.curve.specs.Curves.{curve_at}
 use Rattle.curve.specs.Weather.{clear}
 use Rattle.curve.specs.Service.{letter_at, letter_number, performance}
 use Rattle.curve.proofs.WeatherLaws.{curve_under-clear}
-use Rattle.curve.proofs.ServiceLaws.{letter_at-flow, letter_at-mono}
+use Rattle.curve.proofs.ServiceLaws.{by-letter, letter_at-flow, letter_at-mono}
 use Rattle.road.specs.declared.Terrain.{Terrain}
 use Rattle.road.specs.declared.Case.{Case}
 use Rattle.road.specs.Cases.{with_demand, with_lanes, SameRoad}
@@ -92,16 +92,9 @@ no-better-in-clear-weather c d ac ad same zc zd = no-better-under-more-load c d 
 -- the service volumes in the answer to an accepted case, by the letter's number
 pub volume_in-accepted : (case : Case) (n : ℕ) → Accepted case → 1 ≤ n → n ≤ 5 → volume_in (answer_to case) n ≡ service_volume case n
 unfolding graded
-volume_in-accepted case n a h k = ap (λ answer. volume_in answer n) (answer_to-accepted case a) ∙ by n h k
-  where
-    by : (n : ℕ) → 1 ≤ n → n ≤ 5 → volume_in (Ok (graded case)) n ≡ service_volume case n
-    by zero h k = absurd (omega arith)
-    by (suc zero) h k = refl
-    by (suc (suc zero)) h k = refl
-    by (suc (suc (suc zero))) h k = refl
-    by (suc (suc (suc (suc zero)))) h k = refl
-    by (suc (suc (suc (suc (suc zero))))) h k = refl
-    by (suc (suc (suc (suc (suc (suc n)))))) h k = absurd (omega arith)
+volume_in-accepted case n a h k =
+    ap (λ answer. volume_in answer n) (answer_to-accepted case a)
+    ∙ by-letter (λ n. volume_in (Ok (graded case)) n ≡ service_volume case n) refl refl refl refl refl n h k
 
 -- part 2
 pub meets-up-to-the-service-volume : MeetsUpToTheServiceVolume
@@ -113,8 +106,8 @@ meets-up-to-the-service-volume c a n h k demand d =
 
 -- ---- part 3
 -- a count that meets a letter is accepted
-counted : (case : Case) (n lanes : ℕ) → T (meets (with_lanes case lanes) n) → AcceptedCount case lanes
-counted case n lanes t =
+accepted-count : (case : Case) (n lanes : ℕ) → T (meets (with_lanes case lanes) n) → AcceptedCount case lanes
+accepted-count case n lanes t =
     let kind = meets-of-kind (with_lanes case lanes) n t in
     (kind.0, kind.1, meets-only-accepted (with_lanes case lanes) n t)
 
@@ -129,7 +122,7 @@ module _ (case : Case) (n : ℕ) (h : 1 ≤ n) (k : n ≤ 5) (z : FieldsFit case
   found-least : lanes_found case n ≤ most_lanes case.road.kind → Least (lanes_found case n)
   found-least l =
       let t = lanes_found-meets case n l in (
-        counted case n (lanes_found case n) t,
+        accepted-count case n (lanes_found case n) t,
         (Meets-iff (with_lanes case (lanes_found case n)) n).1 t,
         λ fewer a f m. omega (arith, lanes_found-le case n fewer ((Meets-iff (with_lanes case fewer) n).0 m)),
       )
@@ -138,7 +131,7 @@ module _ (case : Case) (n : ℕ) (h : 1 ≤ n) (k : n ≤ 5) (z : FieldsFit case
   least-found : (lanes : ℕ) → Least lanes → lanes_found case n ≡ lanes
   least-found lanes least =
       lanes_found-eq case n lanes least.0.1 ((Meets-iff (with_lanes case lanes) n).0 least.1)
-      (λ fewer f t. least.2 fewer (counted case n fewer t) f ((Meets-iff (with_lanes case fewer) n).1 t))
+      (λ fewer f t. least.2 fewer (accepted-count case n fewer t) f ((Meets-iff (with_lanes case fewer) n).1 t))
 
   -- what is answered: a count, or 14
   found : lanes_found case n ≤ most_lanes case.road.kind → lanes_answer case n ≡ Ok (lanes_found case n)
@@ -172,7 +165,7 @@ module _ (case : Case) (n : ℕ) (h : 1 ≤ n) (k : n ≤ 5) (z : FieldsFit case
       from : ((count : ℕ) → AcceptedCount case count → Meets (with_lanes case count) n → ⊥) → refusal_number (lanes_answer case n) ≡ 14
       from nothing =
           let past : lanes_found case n ≡ suc (most_lanes case.road.kind) =
-          lanes_found-none case n (λ count l t. nothing count (counted case n count t) ((Meets-iff (with_lanes case count) n).1 t)) in
+          lanes_found-none case n (λ count l t. nothing count (accepted-count case n count t) ((Meets-iff (with_lanes case count) n).1 t)) in
           ap refusal_number (none (λ l. omega arith))
 
 -- part 3

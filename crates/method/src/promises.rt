@@ -1,0 +1,26 @@
+//! What is promised of the method: each function does nothing, and its contract is the promise.
+
+ghost use Rattle.refusals.specs.Facts.{Shown};
+ghost use Rattle.method.specs.Boundary.{boundary_facts};
+ghost use Rattle.method.specs.Laws.{AcceptedCurveIsWellFormed, MultilaneIsInClearWeather, FlowRateNeverFallsWithLoad, NoDemandGetsA};
+ghost use Rattle.method.specs.Laws.{RefusedByTheList, RefusalsInOrder};
+
+/// A case is refused by the first of 1 to 9, 19 and 10 that it breaks, in this order.
+pub fn refusals()
+    ensures by_the_list { RefusedByTheList }
+    ensures in_order { RefusalsInOrder }
+{}
+
+/// The curve of an accepted case is well formed, and on kind M the weather is clear. The flow rate never falls with more load, and without
+/// demand the letter is A.
+pub fn accepted_cases()
+    ensures curve { AcceptedCurveIsWellFormed }
+    ensures multilane { MultilaneIsInClearWeather }
+    ensures flow_rate { FlowRateNeverFallsWithLoad }
+    ensures no_demand { NoDemandGetsA }
+{}
+
+/// Each boundary section gets what is listed for it.
+pub fn boundary_sections()
+    ensures { Shown boundary_facts }
+{}
