@@ -1,6 +1,9 @@
-//! Daily: the answer to a case with the hourly demand of a daily traffic in the place of its own, and its daily service volumes.
+//! The answer to a case with the hourly demand of a daily traffic in the place of its own, and the daily
+//! service volumes that go with it.
 
 #![tactic(auto)]
+
+pub mod promises;
 
 ghost use Rattle.std.specs.Prelude.{◌≡◌, ◌≤◌, length};
 ghost use Rattle.refusals.specs.Refusals.{first_refusal};
@@ -13,37 +16,45 @@ ghost use Rattle.daily.specs.Within.{traffic_within, VolumesFit, volumes_within}
 
 use answer::evaluate;
 use answer::evaluate::{Grade, Volumes};
+use numbers::units::{Demand, Share};
 use refusals::Refusal;
 use road::Case;
 use text::buffer;
 
 /// The greatest daily traffic that 21 lets pass.
-pub const GREATEST_DAILY_TRAFFIC: u64 = 4_000_000_000;
+pub const GREATEST_DAILY_TRAFFIC: DailyTraffic = 4_000_000_000;
 
 /// What one is in millionths, the unit of K × D.
 const MILLION: u64 = 1_000_000;
 
-/// How many numbers an answer has.
+/// How many numbers an answer is: eleven figures and five daily service volumes.
 pub const FIGURE_COUNT: usize = 16;
 
-/// K and D in thousandths: the peak hour's share of the daily traffic, and the direction's share of the peak hour.
+/// The shares K and D.
 #[derive(Clone, Copy, PartialEq, Eq)]
 pub struct Shares {
-    pub peak: u64,
-    pub direction: u64,
+    /// K: the peak hour's share of the daily traffic
+    pub peak: Share,
+    /// D: the direction's share of the peak hour
+    pub direction: Share,
 }
 
-/// A grade with daily service volumes; put_figures: its sixteen numbers, at the start of lent numbers.
+/// A daily traffic or a daily service volume, in vehicles a day.
+pub type DailyTraffic = u64;
+
+/// What a case gets with a daily traffic.
 #[derive(Clone, Copy, PartialEq, Eq)]
 pub struct DailyGrade {
+    /// with the hourly demand
     pub grade: Grade,
+    /// daily service volumes
     pub volumes: Volumes,
 }
 
 impl Shares {
-    /// 20 and 21.
+    /// Asks 20, of shares that are not from 1 to 1,000, and then 21, of a daily traffic above 4,000,000,000.
     #[tactic(auto, unfolding(crate::specs::Daily::shares_unfit, crate::specs::Daily::traffic_refusals))]
-    fn check_traffic(self, daily_traffic: u64) -> Result<(), Refusal>
+    fn check_traffic(self, daily_traffic: DailyTraffic) -> Result<(), Refusal>
         ensures { refusal_number result ≡ first_refusal (traffic_refusals self daily_traffic) }
     {
         let fit = 1..=1_000;
@@ -56,9 +67,9 @@ impl Shares {
         Ok(())
     }
 
-    /// Rounded up once, behind both shares.
+    /// The hourly demand of a daily traffic: rounded up once, behind both shares.
     #[tactic(auto, using(crate::proofs::WithinLaws::rounded_up), unfolding(crate::specs::Daily::hourly_demand))]
-    fn hourly_demand(self, daily_traffic: u64) -> u64
+    fn hourly_demand(self, daily_traffic: DailyTraffic) -> Demand
         requires { TrafficFits self daily_traffic }
         ensures { result ≡ hourly_demand self daily_traffic }
     {
@@ -67,14 +78,15 @@ impl Shares {
 
     /// The greatest daily traffic whose hourly demand is at most a volume.
     #[tactic(auto, using(crate::proofs::WithinLaws::by_division))]
-    fn traffic_within(self, volume: u64) -> u64
+    fn traffic_within(self, volume: Demand) -> DailyTraffic
         requires { SharesInRange self × (volume ≤ greatest_demand) }
         ensures { result ≡ traffic_within self volume }
     {
         (volume * MILLION / (self.peak * self.direction)).min(GREATEST_DAILY_TRAFFIC)
     }
 
-    /// No search: what the engine promises of its service volumes carries over to the daily traffic.
+    /// The same of each service volume. No search: what the engine promises of its volumes carries over to
+    /// the daily traffic.
     fn volumes_within(self, volumes: Volumes) -> Volumes
         requires { SharesInRange self × VolumesFit volumes }
         ensures { result ≡ volumes_within self volumes }
@@ -90,6 +102,8 @@ impl Shares {
 }
 
 impl DailyGrade {
+    /// Puts its sixteen numbers: the eleven figures of its grade, the letter by its number, and the daily
+    /// service volumes A to E. Answers how many they are.
     pub fn put_figures(&self, out: &mut [u64]) -> usize
         requires { figure_count ≤ length out.old }
         ensures { Wrote (daily_figures (Ok self.now)) out.old out.new result }
@@ -100,9 +114,14 @@ impl DailyGrade {
     }
 }
 
-/// Nothing is multiplied before 20 and 21 are asked.
+/// What the case gets with a daily traffic, or the first refusal: 20 of the shares, 21 of the daily traffic,
+/// and those of the case with the hourly demand. The case's own demand is not read.
 #[tactic(auto, using(crate::proofs::DailyLaws::by_engine))]
-pub fn evaluate_daily(case: Case, shares: Shares, daily_traffic: u64) -> Result<DailyGrade, Refusal>
+pub fn evaluate_daily(
+    case: Case,
+    shares: Shares,
+    daily_traffic: DailyTraffic,
+) -> Result<DailyGrade, Refusal>
     ensures { result ≡ daily_answer case shares daily_traffic }
 {
     shares.check_traffic(daily_traffic)?;

@@ -1,40 +1,32 @@
 -- `day::put_day` meets its contract: each turn writes the answer with one demand behind those before it.
-use Rattle.std.proofs.Common.{◌≡◌, ap, ◌∙◌, subst, Result, Ok, Err, get_or, arith}
+use Rattle.std.proofs.Common.{◌≡◌, ap, ◌∙◌, get_or, arith}
 use mathlib.Core.List.{flat_map}
-use Rattle.refusals.specs.declared.Refusal.{Refusal}
 use Rattle.text.proofs.BufferLaws.{nothing}
-use Rattle.road.specs.declared.Case.{Case}
 use Rattle.road.specs.Cases.{with_demand}
 use Rattle.answer.specs.Answers.{answer_to}
-use Rattle.day.specs.declared.shared.Shared.{Shared}
 use Rattle.day.specs.Days.{day_figures}
-use Rattle.day.specs.Shared.{SharedBy}
 use Rattle.day.proofs.DayLaws.{answer_figures-length, lent-room, next-answer}
-use Rattle.day.proofs.SharedLaws.{refused-with}
+use Rattle.day.proofs.DayCaseLaws.{refused-with}
 use Rattle.day.proofs.put_day.Goals.{in-Ok, in-Err}
 use Rattle.day.proofs.put_day.Goals as goal
-
--- what is shared, by what it is told to be
-told : (case : Case) (found known : Result Shared Refusal) → SharedBy case found → found ≡ known → SharedBy case known
-told case found known s e = subst (SharedBy case) e s
 
 pub loop-demand-preserved : goal.loop-demand-preserved
 loop-demand-preserved c =
     let case = c.args.case in
     let l = c.loop-demand in
     let demand = get_or c.args.demands.now l.demand-index 0 in
-    let same : c.match-shared.answer ≡ answer_to (with_demand case demand) =
-    elim c.match-shared.branch [
+    let same : c.match-day_case.answer ≡ answer_to (with_demand case demand) =
+    elim c.match-day_case.branch [
       | in-Ok w ↦
-          let own = told case _ (Ok _) c.of-shared.ensures w.in-Ok.is in
-          w.answer-is ∙ w.answer_with-answer.ensures ∙ ap (λ k. answer_to (with_demand k demand)) own
+          let kept = rw w.in-Ok.is at c.of-day_case.ensures.kept in
+          w.answer-is ∙ w.answer_with-answer.ensures ∙ ap (λ k. answer_to (with_demand k demand)) kept
       | in-Err w ↦
-          let own = told case _ (Err _) c.of-shared.ensures w.in-Err.is in
-          w.answer-is ∙ refused-with (with_demand case demand) _ _ own w.refusal_with.ensures
+          let refused = rw w.in-Err.is at c.of-day_case.ensures.refusal in
+          w.answer-is ∙ refused-with (with_demand case demand) _ _ refused w.refusal_with.ensures
     ] in
     let wrote = c.put_answer-written.ensures in (
       next-answer case c.args.demands.now l.demand-index c.loop-demand-test.true l.invariant.0 (rw same at wrote),
-      omega (arith, wrote.count, answer_figures-length c.match-shared.answer),
+      omega (arith, wrote.count, answer_figures-length c.match-day_case.answer),
     )
 
 pub loop-demand-init : goal.loop-demand-init
