@@ -25,7 +25,7 @@ unfolding ended_parts
 ended_parts-cons l [] h = absurd (omega arith)
 ended_parts-cons l (p ∷ ps) h = refl
 
-without_empty_last-cons : (l : List ℕ) (ps : List (List ℕ)) → 0 < length ps → without_empty_last (l ∷ ps) ≡ l ∷ without_empty_last ps
+pub without_empty_last-cons : (l : List ℕ) (ps : List (List ℕ)) → 0 < length ps → without_empty_last (l ∷ ps) ≡ l ∷ without_empty_last ps
 unfolding without_empty_last
 without_empty_last-cons l [] h = absurd (omega arith)
 without_empty_last-cons l (p ∷ ps) h = refl
@@ -37,21 +37,21 @@ size-append [] b = omega arith
 size-append (l ∷ a) b = omega (arith, size-append a b)
 
 -- the first newline of a is that of a and whatever follows
-count_before-append : (a f : List ℕ) → count_before newline a < length a → count_before newline (a ++ f) ≡ count_before newline a
+pub count_before-append : (a f : List ℕ) → count_before newline a < length a → count_before newline (a ++ f) ≡ count_before newline a
 unfolding count_before
 count_before-append [] f h = absurd (omega arith)
 count_before-append (b ∷ a) f h = grind (arith, nat_tests, count_before-append a f)
 
 -- ---- bytes with no newline
 -- what is taken of bytes without a newline has none
-no-newline : (k : ℕ) (r : List ℕ) → count_before newline r ≡ length r → count_before newline (take k r) ≡ length (take k r)
+pub no-newline : (k : ℕ) (r : List ℕ) → count_before newline r ≡ length r → count_before newline (take k r) ≡ length (take k r)
 unfolding count_before
 no-newline zero r h = refl
 no-newline (suc k) [] h = refl
 no-newline (suc k) (b ∷ r) h = grind (arith, nat_tests, no-newline k r)
 
 -- bytes without a newline go to the front of the first part of what follows
-parts-front : (r f p : List ℕ) (ps : List (List ℕ)) → count_before newline r ≡ length r → parts newline f ≡ p ∷ ps
+pub parts-front : (r f p : List ℕ) (ps : List (List ℕ)) → count_before newline r ≡ length r → parts newline f ≡ p ∷ ps
     → parts newline (r ++ f) ≡ (r ++ p) ∷ ps
 unfolding parts count_before on_first
 parts-front [] f p ps h e = e
@@ -89,7 +89,7 @@ module _ (t : LineTexts) where
   texts-append a b = rows-append t.text a b
 
   -- the first line's text, and the rest's
-  first-line : (bs : List ℕ) → count_before newline bs < length bs → output_of t bs ≡ t.text (first_line bs) ++ output_of t (after_first bs)
+  pub first-line : (bs : List ℕ) → count_before newline bs < length bs → output_of t bs ≡ t.text (first_line bs) ++ output_of t (after_first bs)
   unfolding flat_map texts lines_of output_of
   first-line bs h =
       ap (λ (ps : List (List ℕ)). texts t (without_empty_last ps)) (parts-more newline bs h)
@@ -132,7 +132,7 @@ module _ (t : LineTexts) where
   -- ---- a line that is too long
   module _ (alike : TooLongAlike t) where
     -- a first line that is too long may be replaced by another that is
-    same-texts : (a b : List ℕ) (ps : List (List ℕ)) → t.longest_line < length a → t.longest_line < length b
+    pub same-texts : (a b : List ℕ) (ps : List (List ℕ)) → t.longest_line < length a → t.longest_line < length b
         → texts t (without_empty_last (a ∷ ps)) ≡ texts t (without_empty_last (b ∷ ps))
     unfolding flat_map texts last_line without_empty_last
     same-texts a b [] h k =

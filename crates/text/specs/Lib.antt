@@ -11,5 +11,7 @@ pub mod Buffer
 pub mod Stream
 -- what one turn over the held bytes does
 pub mod Turns
+-- what a program has appended to its output
+pub mod Answering
 -- an input in pieces, and the theorem
 pub mod Runs
