@@ -8,9 +8,9 @@ ghost use Rattle.replies.specs.Texts.{letter_byte, answer_text, refusal_text, lo
 
 use answer::evaluate;
 use answer::evaluate::Grade;
-use refusals::Refusal;
 use curve::service::Letter;
 use lines::read;
+use refusals::Refusal;
 
 /// Room for any answer.
 pub const LONGEST_ANSWER: usize = 64;

@@ -5,7 +5,7 @@ use Rattle.text.specs.Bytes.{newline}
 use Rattle.text.specs.Parts.{count_before}
 use Rattle.text.specs.Buffer.{Wrote}
 use Rattle.text.proofs.BufferLaws.{rest_of, put_rest, nothing, then}
-use Rattle.text.specs.Stream.{LineTexts, texts, last_line, lines_of}
+use Rattle.text.specs.Stream.{LineTexts, texts, last_line, output_of}
 use Rattle.text.specs.Turns.{answered, size}
 use Rattle.text.proofs.StreamLaws.{texts-append, size-append, lines_of-last, next-line}
 
@@ -70,10 +70,10 @@ module _ (t : LineTexts) (block old mid : List ℕ) (p w : ℕ) (a : Answering t
 -- ---- the last line
 module _ (t : LineTexts) (held : List ℕ) (h : count_before newline held ≡ length held) where
   -- last-none, last-one: what is left is empty, or one line
-  pub last-none : (old : List ℕ) → length held ≡ 0 → Wrote (texts t (lines_of held)) old old 0
-  unfolding flat_map texts last_line
+  pub last-none : (old : List ℕ) → length held ≡ 0 → Wrote (output_of t held) old old 0
+  unfolding flat_map texts last_line output_of
   last-none old z = rw (lines_of-last held h, z) nothing
 
-  pub last-one : (length held ≡ 0 → ⊥) → texts t (lines_of held) ≡ t.text held
-  unfolding last_line
+  pub last-one : (length held ≡ 0 → ⊥) → output_of t held ≡ t.text held
+  unfolding last_line output_of
   last-one n = rw (lines_of-last held h, ne_eqb (length held) 0 n) (one-text t held)

@@ -18,11 +18,15 @@ unfolding written
 nothing = record { content = refl; count = refl }
 
 module _ {s old mid : List ℕ} {m : ℕ} (w : Wrote s old mid m) where
+  -- front: the bytes that were written
+  pub front : take m mid ≡ s
+  unfolding written
+  front = ap (take m) w.content ∙ take_at s _ m (sym w.count)
+
   pub then : {t rest : List ℕ} {n : ℕ} → Wrote t (rest_of m mid) rest n
       → Wrote (s ++ t) old (put_rest m mid rest) (m + n)
   unfolding written
   then {t} {rest} {n} v =
-      let front : take m mid ≡ s = ap (take m) w.content ∙ take_at s _ m (sym w.count) in
       let behind : drop m mid ≡ drop (length s) old = ap (drop m) w.content ∙ drop_at s _ m (sym w.count) in
       let past : drop (length mid - m) (drop m mid) ≡ [] = drop_all (length mid - m) (drop m mid) (omega (arith, length-drop m mid)) in
       record {

@@ -1,13 +1,12 @@
 -- Runs over an input in pieces (specs/Runs).
-use Rattle.std.proofs.Common.{◌≡◌, ℕ, zero, suc, ◌≤◌, ◌<◌, List, [], ◌∷◌, ◌++◌, length, drop, sym, ap, ◌∙◌, ⊎_elim, append_assoc, append-nil, length-drop, arith}
+use Rattle.std.proofs.Common.{◌≡◌, ℕ, zero, suc, ◌≤◌, List, [], ◌∷◌, ◌++◌, length, sym, ap, ◌∙◌, ⊎_elim, append_assoc, append-nil, arith}
 use Rattle.text.specs.Bytes.{newline}
-use Rattle.text.specs.Parts.{count_before}
 use Rattle.text.proofs.PartsLaws.{count_before-le, count_before-cases}
 use Rattle.text.specs.Stream.{LineTexts, texts, output_of}
-use Rattle.text.specs.Turns.{answered, size, carried}
+use Rattle.text.specs.Turns.{answered, carried}
 use Rattle.text.specs.Runs.{Run, feed, turn, end, joined_pieces, TooLongAlike, AnyPieces, SomeRun}
-use Rattle.text.proofs.StreamLaws.{lines_of-last, next-line, turn-law}
-use Rattle.text.proofs.CarryLaws.{cut-le}
+use Rattle.text.proofs.StreamLaws.{lines_of-last, turn-law}
+use Rattle.text.proofs.CarryLaws.{carried-less}
 
 run-law : (t : LineTexts) → TooLongAlike t → {room : ℕ} {held out : List ℕ} {pieces : List (List ℕ)}
     → Run t room held pieces out → out ≡ output_of t (held ++ joined_pieces pieces)
@@ -22,22 +21,11 @@ pub any-pieces : AnyPieces
 any-pieces t alike room pieces out r = run-law t alike r
 
 module _ (t : LineTexts) (room : ℕ) (fits : t.longest_text ≤ room) where
-  -- a turn with a whole line before it leaves less
-  carried-less : (held : List ℕ) → count_before newline held < length held → length (carried t room held) < length held
-  unfolding size carried
-  carried-less held h =
-      omega (
-        arith,
-        cut-le (suc t.longest_line) (drop (size (answered t room held)) held),
-        length-drop (size (answered t room held)) held,
-        ap size (next-line t room held fits h),
-      )
-
   -- turns until no whole line is left, and the end
   ending : (k : ℕ) (held : List ℕ) → length held ≤ k → (out : List ℕ) × Run t room held [] out
   ending zero held h = (_, end held (omega (arith, count_before-le newline held)))
   ending (suc k) held h = ⊎_elim (λ e. (_, end held e))
-      (λ l. more (ending k (carried t room held) (omega (arith, carried-less held l)))) (count_before-cases newline held)
+      (λ l. more (ending k (carried t room held) (omega (arith, carried-less t room held fits l)))) (count_before-cases newline held)
     where
       more : (out : List ℕ) × Run t room (carried t room held) [] out → (out : List ℕ) × Run t room held [] out
       more (out, r) = (_, turn held [] out r)
