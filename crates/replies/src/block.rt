@@ -6,7 +6,7 @@ ghost use Rattle.text.specs.Bytes.{newline};
 ghost use Rattle.text.specs.Parts.{count_before};
 ghost use Rattle.replies.specs.Texts.{longest_answer};
 ghost use Rattle.text.specs.Stream.{texts, output_of};
-ghost use Rattle.text.specs.Turns.{answered, size};
+ghost use Rattle.text.specs.Held.{answered, size};
 ghost use Rattle.replies.specs.Output.{line_texts};
 
 use crate::write::{LONGEST_ANSWER, answer_line};

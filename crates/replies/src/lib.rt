@@ -3,5 +3,6 @@
 #![tactic(auto)]
 
 pub mod block;
+pub mod promises;
 pub mod stream;
 pub mod write;

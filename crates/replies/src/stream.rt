@@ -6,8 +6,8 @@ ghost use Rattle.text.specs.Buffer.{Wrote};
 ghost use Rattle.text.specs.Bytes.{newline};
 ghost use Rattle.text.specs.Parts.{count_before};
 ghost use Rattle.text.specs.Stream.{texts, output_of};
-ghost use Rattle.text.specs.Turns.{answered, carried};
-ghost use Rattle.text.specs.Answering.{AppendsAStart, AnswersInput, AnswersAStart, AnswersWholeLines, StandsFor};
+ghost use Rattle.text.specs.Held.{answered, carried, StandsFor};
+ghost use Rattle.text.specs.Answering.{AppendsAStart, AnswersInput, AnswersAStart, AnswersWholeLines};
 ghost use Rattle.lines.specs.Reading.{longest_line};
 ghost use Rattle.replies.specs.Texts.{longest_answer};
 ghost use Rattle.replies.specs.Output.{line_texts};
@@ -21,7 +21,7 @@ use text::stream::{Held, Stop, write_whole};
 const ANSWERS: usize = 131072;
 
 /// Answers whole lines that are held, while there is room; the rest is carried over. Says how many bytes of answers there are.
-#[tactic(auto, unfolding(text::specs::Turns::carried))]
+#[tactic(auto, unfolding(text::specs::Held::carried))]
 fn answer_turn(held: &mut Held, out: &mut [u8]) -> usize
     ensures held { held.new ≡ carried line_texts (length out.old) held.old }
     ensures text { Wrote (texts line_texts (answered line_texts (length out.old) held.old)) out.old out.new result }

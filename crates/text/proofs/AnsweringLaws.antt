@@ -10,9 +10,9 @@ use Rattle.text.specs.Bytes.{newline}
 use Rattle.text.specs.Parts.{parts, count_before}
 use Rattle.text.proofs.PartsLaws.{count_before-le, count_before-cases, parts-one, parts-more, parts-pos}
 use Rattle.text.specs.Stream.{LineTexts, texts, last_line, without_empty_last, lines_of, output_of}
-use Rattle.text.specs.Turns.{answered, size, cut_off, carried}
+use Rattle.text.specs.Held.{answered, size, cut_off, carried, last_part, half_line, SameLine, StandsFor}
 use Rattle.text.specs.Runs.{TooLongAlike}
-use Rattle.text.specs.Answering.{AppendsAStart, IsWholeLines, AnswersInput, AnswersAStart, AnswersWholeLines, last_part, half_line, SameLine, StandsFor}
+use Rattle.text.specs.Answering.{AppendsAStart, IsWholeLines, AnswersInput, AnswersAStart, AnswersWholeLines}
 use Rattle.text.proofs.StreamLaws.{first_line, after_first, without_empty_last-cons, count_before-append, no-newline, parts-front, lines_of-last, none-left, full, next-line, first-line, same-texts, turn-law}
 
 -- an induction on bytes, line by line

@@ -1,4 +1,4 @@
--- Lines of a block answered one after the other, and the last line (specs/Turns, specs/Stream).
+-- Lines of a block answered one after the other, and the last line (specs/Held, specs/Stream).
 use Rattle.std.proofs.Common.{◌≡◌, ℕ, suc, ◌+◌, ◌-◌, ◌≤◌, ◌<◌, List, [], ◌∷◌, ◌++◌, length, take, drop, refl, sym, ap, ◌∙◌, append_assoc, append-nil, length-drop, length-take-le, drop-drop, ne_eqb, arith}
 use mathlib.Core.List.{flat_map}
 use Rattle.text.specs.Bytes.{newline}
@@ -6,7 +6,7 @@ use Rattle.text.specs.Parts.{count_before}
 use Rattle.text.specs.Buffer.{Wrote}
 use Rattle.text.proofs.BufferLaws.{rest_of, put_rest, nothing, then}
 use Rattle.text.specs.Stream.{LineTexts, texts, last_line, output_of}
-use Rattle.text.specs.Turns.{answered, size}
+use Rattle.text.specs.Held.{answered, size}
 use Rattle.text.proofs.StreamLaws.{texts-append, size-append, lines_of-last, next-line}
 
 -- ---- lines answered one after the other

@@ -1,4 +1,4 @@
--- Bytes carried over to the start of a buffer (specs/Turns).
+-- Bytes carried over to the start of a buffer (specs/Held).
 use Rattle.std.proofs.Common.{◌≡◌, ℕ, suc, ◌≤◌, ◌<◌, min, cond, eqb, ltb, List, [], ◌∷◌, length, take, drop, refl, ap, ⊎_elim, length-take, length-drop, take_all, le-ltb, arith}
 use Rattle.std.specs.List.{list_any}
 use Rattle.std.proofs.lemmas.Bool.Decides.{nat_tests}
@@ -8,7 +8,7 @@ use Rattle.text.specs.Bytes.{newline}
 use Rattle.text.specs.Parts.{count_before}
 use Rattle.text.specs.Stream.{LineTexts, texts}
 use Rattle.text.proofs.PartsLaws.{count_before-cases}
-use Rattle.text.specs.Turns.{answered, size, cut_off, carried}
+use Rattle.text.specs.Held.{answered, size, cut_off, carried}
 use Rattle.text.proofs.StreamLaws.{none-left, next-line}
 
 -- ---- how many bytes are kept

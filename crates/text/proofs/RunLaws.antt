@@ -3,7 +3,7 @@ use Rattle.std.proofs.Common.{◌≡◌, ℕ, zero, suc, ◌≤◌, List, [], �
 use Rattle.text.specs.Bytes.{newline}
 use Rattle.text.proofs.PartsLaws.{count_before-le, count_before-cases}
 use Rattle.text.specs.Stream.{LineTexts, texts, output_of}
-use Rattle.text.specs.Turns.{answered, carried}
+use Rattle.text.specs.Held.{answered, carried}
 use Rattle.text.specs.Runs.{Run, feed, turn, end, joined_pieces, TooLongAlike, AnyPieces, SomeRun}
 use Rattle.text.proofs.StreamLaws.{lines_of-last, turn-law}
 use Rattle.text.proofs.CarryLaws.{carried-less}

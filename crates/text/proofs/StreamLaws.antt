@@ -1,4 +1,4 @@
--- An input answered line by line, a turn at a time (specs/Stream, specs/Turns).
+-- An input answered line by line, a turn at a time (specs/Stream, specs/Held).
 use Rattle.std.proofs.Common.{◌≡◌, ℕ, zero, suc, ◌+◌, ◌-◌, ◌≤◌, ◌<◌, List, [], ◌∷◌, ◌++◌, length, take, drop, refl, sym, ap, ◌∙◌, ⊎_elim, append_assoc, length-append, length-drop, length-take-le, drop-drop, take_all, lt-ltb, le-ltb, ne_eqb, arith}
 use Rattle.std.proofs.lemmas.Bool.Decides.{nat_tests}
 use Rattle.std.proofs.lemmas.List.{take-append-le, drop-append-le}
@@ -9,7 +9,7 @@ use Rattle.text.specs.Bytes.{newline}
 use Rattle.text.specs.Parts.{parts, count_before, on_first}
 use Rattle.text.proofs.PartsLaws.{count_before-le, count_before-cases, parts-one, parts-more, parts-pos}
 use Rattle.text.specs.Stream.{LineTexts, texts, last_line, without_empty_last, lines_of, output_of}
-use Rattle.text.specs.Turns.{ended_parts, fitting, answered, size, cut_off, carried}
+use Rattle.text.specs.Held.{ended_parts, fitting, answered, size, cut_off, carried}
 use Rattle.text.specs.Runs.{TooLongAlike}
 
 -- of the bytes: those before the first newline, and those after it

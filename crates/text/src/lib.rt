@@ -4,4 +4,5 @@
 
 pub mod buffer;
 pub mod decimal;
+pub mod promises;
 pub mod stream;

@@ -2,7 +2,7 @@
 
 ghost use Rattle.std.specs.Prelude.{◌≡◌, ◌≢◌, false, ◌↔◌, ℕ, ◌≤◌, ◌<◌, List, [], ◌++◌, length, take, drop, OnOk, OnErr, IfOk, IfErr};
 ghost use Rattle.std.specs.Io.KnownBytes.{Consumes, IsAtEnd, Keeps, Appends};
-ghost use Rattle.text.specs.Turns.{cut_off};
+ghost use Rattle.text.specs.Held.{cut_off};
 ghost use Rattle.text.specs.Answering.{AppendsAStart};
 
 use std::io::{ErrorKind, Read, Write};

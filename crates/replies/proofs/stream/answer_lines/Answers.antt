@@ -4,8 +4,7 @@ use Rattle.std.proofs.lemmas.List.{nil_from_length}
 use Rattle.std.proofs.lemmas.Result.{err_from_is_err_and}
 use Rattle.std.proofs.KnownBytes.{Appends-trans}
 use Rattle.text.specs.Stream.{texts}
-use Rattle.text.specs.Turns.{answered, carried}
-use Rattle.text.specs.Answering.{StandsFor}
+use Rattle.text.specs.Held.{answered, carried, StandsFor}
 use Rattle.text.proofs.BufferLaws.{front}
 use Rattle.text.proofs.StreamLaws.{turn-law}
 use Rattle.text.proofs.AnsweringLaws.{stands-trans, stands-turned, append_start, start_of_more}

@@ -1,7 +1,7 @@
 -- The loop of `replies::stream::answer_lines`: what is held stands for what was, and what is printed for the rest was appended.
 use Rattle.std.proofs.Common.{ℕ, List, length}
 use Rattle.std.specs.Io.KnownBytes.{Appends}
-use Rattle.text.specs.Answering.{StandsFor}
+use Rattle.text.specs.Held.{StandsFor}
 use Rattle.replies.specs.Output.{line_texts}
 use Rattle.replies.proofs.stream.answer_lines.Given as goal
 

@@ -1,7 +1,7 @@
 -- `replies::stream::answer_turn` meets its contract: where nothing is answered, no whole line is left, and 81 bytes at most are carried over.
 use Rattle.std.proofs.Common.{◌≡◌, length, arith}
 use Rattle.text.specs.Stream.{texts}
-use Rattle.text.specs.Turns.{answered, carried}
+use Rattle.text.specs.Held.{answered, carried}
 use Rattle.text.proofs.StreamLaws.{nothing-left, carried-newline}
 use Rattle.text.proofs.CarryLaws.{carried-short, answered-less}
 use Rattle.replies.specs.Output.{line_texts}

@@ -1,10 +1,10 @@
--- A turn, which answers whole lines of the bytes that are held and carries the rest over: the words in which the contracts of src/ speak.
--- What it comes to is in specs/Runs.
-use Rattle.std.specs.Prelude.{ℕ, suc, ◌+◌, ◌-◌, if◌then◌else◌, List, [], ◌∷◌, nat_lt, length, take, drop}
+-- The bytes of an input that are held: which of their lines are answered, what is carried over, and what they stand for.
+use Rattle.std.specs.Prelude.{ℕ, suc, ◌≡◌, ◌<◌, ◌⊎◌, ◌+◌, ◌-◌, if◌then◌else◌, List, [], ◌∷◌, ◌++◌, nat_lt, length, take, drop}
 use Rattle.text.specs.Bytes.{newline}
 use Rattle.text.specs.Parts.{parts, count_before}
-use Rattle.text.specs.Stream.{LineTexts}
+use Rattle.text.specs.Stream.{LineTexts, output_of}
 
+-- ---- one turn
 -- the parts that a newline ends: all but the last
 unfoldable pub ended_parts : List (List ℕ) → List (List ℕ)
 ended_parts [] = []
@@ -34,3 +34,23 @@ cut_off kept bytes = if nat_lt (count_before newline bytes) (length bytes) then 
 -- enough is kept to tell that the line is too long
 unfoldable pub carried : LineTexts → ℕ → List ℕ → List ℕ
 carried t room bytes = cut_off (suc t.longest_line) (drop (size (answered t room bytes)) bytes)
+
+-- ---- what is held stands for all that was read
+-- the last of some parts
+unfoldable pub last_part : List (List ℕ) → List ℕ
+last_part [] = []
+last_part (p ∷ []) = p
+last_part (p ∷ q ∷ ps) = last_part (q ∷ ps)
+
+-- the half line at the end of some bytes: what no newline ends
+unfoldable pub half_line : List ℕ → List ℕ
+half_line bytes = last_part (parts newline bytes)
+
+-- one line, or two that are too long
+abbrev pub SameLine : LineTexts → List ℕ → List ℕ → Type 0
+SameLine t l m = (l ≡ m) ⊎ ((t.longest_line < length l) × (t.longest_line < length m))
+
+-- once out is printed, the bytes held stand for the bytes read: whatever follows, the same is printed
+pub record StandsFor (t : LineTexts) (read held out : List ℕ) : Type 0 where
+  pub prints : (more : List ℕ) → output_of t (read ++ more) ≡ out ++ output_of t (held ++ more)
+  pub half : SameLine t (half_line read) (half_line held)
