@@ -1,5 +1,5 @@
 //! los: reads lines from standard input and prints one answer a line; a refused line prints X, tab and its number.
-//! It stops with a message when its output can't be written or its input can't be read, and without one where nobody reads its output.
+//! What it prints is proved of `answer_input`. Where its input can't be read or its output can't be written it says so.
 
 #![tactic(auto)]
 
@@ -7,7 +7,7 @@ use replies::stream::answer_input;
 use std::io::Write;
 use text::stream::Stop;
 
-/// Tells on standard error what stopped it, as far as that can be written; nothing where nobody reads its output.
+/// Tells on standard error what stopped it, as far as that can be written. Where nobody reads its output it says nothing.
 fn tell(rt: HostRuntime, stop: Stop) {
     let message: &[u8] = match stop {
         Stop::InputUnread => b"los: standard input can't be read\n",

@@ -2,22 +2,21 @@
 
 ghost use Rattle.std.specs.Prelude.{◌≡◌, ◌≤◌, length};
 ghost use Rattle.text.specs.Buffer.{Wrote};
-ghost use Rattle.text.specs.Bytes.{newline};
-ghost use Rattle.text.specs.Parts.{count_before};
 ghost use Rattle.replies.specs.Texts.{longest_answer};
 ghost use Rattle.text.specs.Stream.{texts, output_of};
-ghost use Rattle.text.specs.Held.{answered, size};
+ghost use Rattle.text.specs.Held.{answered, size, IsHalfLine};
 ghost use Rattle.replies.specs.Output.{line_texts};
 
 use crate::write::{LONGEST_ANSWER, answer_line};
 
-/// The whole lines at the start of a block, while there is room for an answer.
+/// How far a block was answered: the bytes of its answered lines with their newlines, and the bytes of the answers.
 #[derive(Clone, Copy)]
 pub struct Progress {
     pub read: usize,
     pub written: usize,
 }
 
+/// Answers the whole lines at the start of a block, while there is room for an answer.
 pub fn answer_block(block: &[u8], out: &mut [u8]) -> Progress
     ensures read { result.read ≡ size (answered line_texts (length out.old) block.now) }
     ensures text { Wrote (texts line_texts (answered line_texts (length out.old) block.now))
@@ -37,10 +36,10 @@ pub fn answer_block(block: &[u8], out: &mut [u8]) -> Progress
     Progress { read, written }
 }
 
-/// What is held at the end of the input: a last line without newline, or nothing.
+/// Answers what is held at the end of the input, a last line without newline or nothing; answers how many bytes it wrote.
 #[tactic(auto, using(crate::proofs::TextsLaws::by_last))]
 pub fn answer_last(held: &[u8], out: &mut [u8]) -> usize
-    requires { (longest_answer ≤ length out.old) × (count_before newline held.now ≡ length held.now) }
+    requires { (longest_answer ≤ length out.old) × IsHalfLine held.now }
     ensures wrote { Wrote (output_of line_texts held.now) out.old out.new result }
     ensures upper_bound { result ≤ length out.old }
 {

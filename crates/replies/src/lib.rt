@@ -1,4 +1,4 @@
-//! Replies: an answer written as text, the answer to a line, and the lines of a block and of an input answered.
+//! Replies: an answer written as text, and the lines of a block and of an input answered.
 
 #![tactic(auto)]
 

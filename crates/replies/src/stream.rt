@@ -3,10 +3,8 @@
 ghost use Rattle.std.specs.Prelude.{◌≡◌, ◌≢◌, ℕ, ◌+◌, ◌≤◌, ◌<◌, List, ◌++◌, length, OnOk, OnErr, IfErr, IsErrOf};
 ghost use Rattle.std.specs.Io.KnownBytes.{Appends, IsAtEnd};
 ghost use Rattle.text.specs.Buffer.{Wrote};
-ghost use Rattle.text.specs.Bytes.{newline};
-ghost use Rattle.text.specs.Parts.{count_before};
 ghost use Rattle.text.specs.Stream.{texts, output_of};
-ghost use Rattle.text.specs.Held.{answered, carried, StandsFor};
+ghost use Rattle.text.specs.Held.{answered, carried, IsHalfLine, StandsFor};
 ghost use Rattle.text.specs.Answering.{AppendsAStart, AnswersInput, AnswersAStart, AnswersWholeLines};
 ghost use Rattle.lines.specs.Reading.{longest_line};
 ghost use Rattle.replies.specs.Texts.{longest_answer};
@@ -20,22 +18,23 @@ use text::stream::{Held, Stop, write_whole};
 /// How many bytes of answers are written at once.
 const ANSWERS: usize = 131072;
 
-/// Answers whole lines that are held, while there is room; the rest is carried over. Says how many bytes of answers there are.
+/// Answers whole lines that are held, while there is room, and carries over the rest; answers how many bytes it wrote.
 #[tactic(auto, unfolding(text::specs::Held::carried))]
 fn answer_turn(held: &mut Held, out: &mut [u8]) -> usize
     ensures held { held.new ≡ carried line_texts (length out.old) held.old }
-    ensures text { Wrote (texts line_texts (answered line_texts (length out.old) held.old)) out.old out.new result }
+    ensures text { Wrote (texts line_texts (answered line_texts (length out.old) held.old))
+        out.old out.new result }
     ensures upper_bound { result ≤ length out.old }
     ensures less { longest_answer ≤ length out.old → 0 < result → length held.new < length held.old }
     ensures none_left { longest_answer ≤ length out.old → result ≡ 0
-        → (count_before newline held.new ≡ length held.new) × (length held.new ≤ longest_line + 1) }
+        → IsHalfLine held.new × (length held.new ≤ longest_line + 1) }
 {
     let Progress { read, written } = answer_block(held.bytes(), out);
     held.carry_over(read, LONGEST_LINE + 1);
     written
 }
 
-/// Answers all whole lines that are held. Where the output can't be written, a start of the answers was appended.
+/// Answers all whole lines that are held. Where the output can't be written, a start of their answers was appended.
 fn answer_lines<W: Write>(
     held: &mut Held,
     output: &mut W,
@@ -43,10 +42,9 @@ fn answer_lines<W: Write>(
 ) -> Result<(), Stop>
     ensures answered { OnOk result ((texts : List ℕ) × StandsFor line_texts held.old held.new texts
         × Appends (W.contents output.old) (W.contents output.new) texts) }
-    ensures none_left { OnOk result ((count_before newline held.new ≡ length held.new)
-        × (length held.new ≤ longest_line + 1)) }
-    ensures unwritten { OnErr result ((more : List ℕ) →
-        AppendsAStart (W.contents output.old) (W.contents output.new) (output_of line_texts (held.old ++ more))) }
+    ensures none_left { OnOk result (IsHalfLine held.new × (length held.new ≤ longest_line + 1)) }
+    ensures unwritten { OnErr result ((more : List ℕ) → AppendsAStart
+        (W.contents output.old) (W.contents output.new) (output_of line_texts (held.old ++ more))) }
     ensures stop { IfErr result (λ stop. stop ≢ Stop.InputUnread) }
 {
     loop {
@@ -58,9 +56,9 @@ fn answer_lines<W: Write>(
     }
 }
 
-/// Answers the lines of an input, one answer a line, to its end. Half a line is never answered: where the input can't be read, the answers of
-/// the whole lines that were read are there. Where the output can't be written, a start of the answers is there, nothing twice. No more of the
-/// input is held than 65,536 bytes.
+/// Answers the lines of an input, one answer a line, to its end. Where the input can't be read, the whole lines that were read are
+/// answered, and half a line is not. Where the output can't be written, a start of the answers was appended, and nothing twice.
+/// 65,536 bytes of the input are held at most.
 pub fn answer_input<R: Read, W: Write>(input: &mut R, output: &mut W) -> Result<(), Stop>
     ensures answered { OnOk result (AnswersInput line_texts (R.remaining input.old)
         (W.contents output.old) (W.contents output.new)) }

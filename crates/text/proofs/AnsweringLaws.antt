@@ -1,5 +1,5 @@
 -- What is held stands for what was read, and what a program that answers an input line by line has appended (specs/Answering).
-use Rattle.std.proofs.Common.{◌≡◌, ℕ, zero, suc, ◌+◌, ◌-◌, ◌≤◌, ◌<◌, Option, None, Some, List, [], ◌∷◌, ◌++◌, length, take, drop, refl, sym, ap, subst, ◌∙◌, inl, inr, ⊎_elim, append_assoc, append-nil, length-append, length-drop, length-take-le, drop-drop, take_all, lt-ltb, le-ltb, arith}
+use Rattle.std.proofs.Common.{◌≡◌, ℕ, suc, ◌≤◌, ◌<◌, Option, None, Some, List, [], ◌∷◌, ◌++◌, length, take, refl, sym, ap, subst, ◌∙◌, inl, inr, ⊎_elim, append_assoc, append-nil, length-append, length-take-le, take_all, lt-ltb, le-ltb, arith}
 use Rattle.std.proofs.lemmas.Bool.Decides.{nat_tests}
 use Rattle.std.proofs.lemmas.List.{drop-append-le, append_cancel_right}
 use Rattle.std.specs.Io.KnownBytes.{Appends, Consumes, Keeps, IsAtEnd}
@@ -8,24 +8,12 @@ use mathlib.Core.List.{flat_map}
 use native.Mathlib.Decide.{dec_le}
 use Rattle.text.specs.Bytes.{newline}
 use Rattle.text.specs.Parts.{parts, count_before}
-use Rattle.text.proofs.PartsLaws.{count_before-le, count_before-cases, parts-one, parts-more, parts-pos}
+use Rattle.text.proofs.PartsLaws.{count_before-cases, parts-one, parts-more, parts-pos}
 use Rattle.text.specs.Stream.{LineTexts, texts, last_line, without_empty_last, lines_of, output_of}
 use Rattle.text.specs.Held.{answered, size, cut_off, carried, last_part, half_line, SameLine, StandsFor}
 use Rattle.text.specs.Runs.{TooLongAlike}
 use Rattle.text.specs.Answering.{AppendsAStart, IsWholeLines, AnswersInput, AnswersAStart, AnswersWholeLines}
-use Rattle.text.proofs.StreamLaws.{first_line, after_first, without_empty_last-cons, count_before-append, no-newline, parts-front, lines_of-last, none-left, full, next-line, first-line, same-texts, turn-law}
-
--- an induction on bytes, line by line
-by-lines : (P : List ℕ → Type 0) → ((bs : List ℕ) → count_before newline bs ≡ length bs → P bs)
-    → ((bs : List ℕ) → count_before newline bs < length bs → P (after_first bs) → P bs) → (bs : List ℕ) → P bs
-by-lines P last next bs = go (length bs) bs (omega arith)
-  where
-    go : (k : ℕ) (bs : List ℕ) → length bs ≤ k → P bs
-    go zero bs h = last bs (omega (arith, count_before-le newline bs))
-    go (suc k) bs h =
-        ⊎_elim (λ e. last bs e)
-        (λ l. next bs l (go k (after_first bs) (omega (arith, length-drop (suc (count_before newline bs)) bs))))
-        (count_before-cases newline bs)
+use Rattle.text.proofs.StreamLaws.{first_line, after_first, by-lines, by-turns, left, left-next, without_empty_last-cons, count_before-append, no-newline, parts-front, lines_of-last, first-line, same-texts, turn-law}
 
 -- ---- the half line
 last_part-cons : (p : List ℕ) (ps : List (List ℕ)) → 0 < length ps → last_part (p ∷ ps) ≡ last_part ps
@@ -162,21 +150,10 @@ module _ (t : LineTexts) where
           (λ long. inr (omega (arith, long.0, length-append (half_line bytes) piece), omega (arith, long.1, length-append (half_line held) piece)))
 
   -- a turn keeps the half line
-  half_line-left : (bs : List ℕ) → (room : ℕ) → half_line (drop (size (answered t room bs)) bs) ≡ half_line bs
+  half_line-left : (bs : List ℕ) (room : ℕ) → half_line (left t room bs) ≡ half_line bs
   unfolding size
-  half_line-left = by-lines (λ bs. (room : ℕ) → half_line (drop (size (answered t room bs)) bs) ≡ half_line bs)
-      (λ bs e room. rw (none-left t room bs e)) (λ bs l rec room. by bs l rec room (dec_le t.longest_text room))
-    where
-      by : (bs : List ℕ) → count_before newline bs < length bs
-          → ((room : ℕ) → half_line (drop (size (answered t room (after_first bs))) (after_first bs)) ≡ half_line (after_first bs)) → (room : ℕ)
-          → Dec (t.longest_text ≤ room) → half_line (drop (size (answered t room bs)) bs) ≡ half_line bs
-      by bs l rec room (no n) = rw (full t room bs (omega arith))
-      by bs l rec room (yes y) =
-          let r : ℕ = room - length (t.text (first_line bs)) in
-          let n : length (first_line bs) + 1 + size (answered t (room - length (t.text (first_line bs))) (after_first bs))
-          ≡ suc (count_before newline bs) + size (answered t (room - length (t.text (first_line bs))) (after_first bs)) =
-          omega (arith, length-take-le (count_before newline bs) bs (count_before-le newline bs)) in
-          rw (next-line t room bs y l, n, sym (drop-drop (size (answered t r (after_first bs))) (suc (count_before newline bs)) bs), half_line-next bs l) (rec r)
+  half_line-left = by-turns t (λ room bs. half_line (left t room bs) ≡ half_line bs) (λ room bs e. rw e)
+      (λ room bs h l rec. rw (left-next t room bs h l, half_line-next bs l) rec)
 
   -- so does the cut, or leaves one that is too long
   half_line-cut : (bs : List ℕ) → SameLine t (half_line bs) (half_line (cut_off (suc t.longest_line) bs))
@@ -198,7 +175,7 @@ module _ (t : LineTexts) where
   unfolding carried
   stands-turned alike room held = record {
     prints = λ more. turn-law t alike room held more;
-    half = rw (half_line-left held room) at (half_line-cut (drop (size (answered t room held)) held));
+    half = rw (half_line-left held room) at (half_line-cut (left t room held));
   }
 
 -- ---- what was appended

@@ -1,9 +1,9 @@
--- What a program that answers an input line by line has appended to its output. What a reader has left and what a
--- writer holds, where it is known, is in std's words.
-use Rattle.std.specs.Prelude.{ℕ, ◌≡◌, ◌⊎◌, Option, IfSome, List, [], ◌∷◌, ◌++◌, length}
+-- What a program that answers an input line by line has appended to its output. What a reader has left and what
+-- a writer holds, where it is known, is in std's words.
+use Rattle.std.specs.Prelude.{ℕ, ◌≡◌, ◌⊎◌, Option, IfSome, List, [], ◌∷◌, ◌++◌}
 use Rattle.std.specs.Io.KnownBytes.{Appends, Consumes}
 use Rattle.text.specs.Bytes.{newline}
-use Rattle.text.specs.Parts.{count_before}
+use Rattle.text.specs.Held.{IsHalfLine}
 use Rattle.text.specs.Stream.{LineTexts, output_of}
 
 -- a start of some bytes was appended, and nothing else
@@ -31,5 +31,5 @@ pub record AnswersWholeLines (t : LineTexts) (input left old new : Option (List 
   pub half : List ℕ
   pub read : Consumes input left (whole ++ half)
   pub ended : IsWholeLines whole
-  pub unended : count_before newline half ≡ length half
+  pub unended : IsHalfLine half
   pub appended : Appends old new (output_of t whole)

@@ -1,4 +1,4 @@
--- The bytes of an input that are held: which of their lines are answered, what is carried over, and what they stand for.
+-- The bytes of an input that are held: which lines are answered, what is carried over, what is held for what was read.
 use Rattle.std.specs.Prelude.{ℕ, suc, ◌≡◌, ◌<◌, ◌⊎◌, ◌+◌, ◌-◌, if◌then◌else◌, List, [], ◌∷◌, ◌++◌, nat_lt, length, take, drop}
 use Rattle.text.specs.Bytes.{newline}
 use Rattle.text.specs.Parts.{parts, count_before}
@@ -15,7 +15,8 @@ ended_parts (p ∷ q ∷ ps) = p ∷ ended_parts (q ∷ ps)
 -- each line is answered while there is room for the longest text
 unfoldable pub fitting : LineTexts → ℕ → List (List ℕ) → List (List ℕ)
 fitting t room [] = []
-fitting t room (l ∷ ls) = if nat_lt room t.longest_text then [] else l ∷ fitting t (room - length (t.text l)) ls
+fitting t room (l ∷ ls) =
+    if nat_lt room t.longest_text then [] else l ∷ fitting t (room - length (t.text l)) ls
 
 -- the lines of some bytes that a turn answers
 unfoldable pub answered : LineTexts → ℕ → List ℕ → List (List ℕ)
@@ -42,9 +43,13 @@ last_part [] = []
 last_part (p ∷ []) = p
 last_part (p ∷ q ∷ ps) = last_part (q ∷ ps)
 
--- the half line at the end of some bytes: what no newline ends
+-- the half line at the end of some bytes: what follows their last newline
 unfoldable pub half_line : List ℕ → List ℕ
 half_line bytes = last_part (parts newline bytes)
+
+-- bytes with no newline
+abbrev pub IsHalfLine : List ℕ → Type 0
+IsHalfLine bytes = count_before newline bytes ≡ length bytes
 
 -- one line, or two that are too long
 abbrev pub SameLine : LineTexts → List ℕ → List ℕ → Type 0

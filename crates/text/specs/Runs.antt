@@ -1,4 +1,4 @@
--- Runs over an input that comes in pieces, and what they print: over any text of a line, and any longest line.
+-- Runs over an input that comes in pieces, and what they print, for any text of a line and any longest line.
 use Rattle.std.specs.Prelude.{ℕ, ◌≤◌, ◌<◌, ◌≡◌, List, [], ◌∷◌, ◌++◌, length}
 use Rattle.text.specs.Bytes.{newline}
 use Rattle.text.specs.Parts.{count_before}
@@ -12,9 +12,10 @@ use Rattle.text.specs.Held.{answered, carried}
 pub data Run (t : LineTexts) (room : ℕ) : List ℕ → List (List ℕ) → List ℕ → Type 0 where
   feed : (held piece : List ℕ) (pieces : List (List ℕ)) (out : List ℕ)
       → Run t room (held ++ piece) pieces out → Run t room held (piece ∷ pieces) out
-  turn : (held : List ℕ) (pieces : List (List ℕ)) (out : List ℕ)
-      → Run t room (carried t room held) pieces out → Run t room held pieces (texts t (answered t room held) ++ out)
-  end : (held : List ℕ) → count_before newline held ≡ length held → Run t room held [] (texts t (last_line held))
+  turn : (held : List ℕ) (pieces : List (List ℕ)) (out : List ℕ) → Run t room (carried t room held) pieces out
+      → Run t room held pieces (texts t (answered t room held) ++ out)
+  end : (held : List ℕ) → count_before newline held ≡ length held
+      → Run t room held [] (texts t (last_line held))
 
 -- the pieces ps, one after the other
 unfoldable pub joined_pieces : List (List ℕ) → List ℕ

@@ -1,4 +1,4 @@
-//! From an input to an output: the bytes of the input that are held, bytes written whole, and what stops a program.
+//! From an input to an output: the bytes held of the input, what is appended to the output, and what stops a program.
 
 ghost use Rattle.std.specs.Prelude.{◌≡◌, ◌≢◌, false, ◌↔◌, ℕ, ◌≤◌, ◌<◌, List, [], ◌++◌, length, take, drop, OnOk, OnErr, IfOk, IfErr};
 ghost use Rattle.std.specs.Io.KnownBytes.{Consumes, IsAtEnd, Keeps, Appends};
@@ -8,8 +8,8 @@ ghost use Rattle.text.specs.Answering.{AppendsAStart};
 use std::io::{ErrorKind, Read, Write};
 use std::marker::Model;
 
-/// What stops a program before the end of its input.
-#[derive(Clone, Copy)]
+/// What stops a program before it has read and written all.
+#[derive(Clone, Copy, Debug)]
 pub enum Stop {
     /// The input can't be read.
     InputUnread,
@@ -38,6 +38,7 @@ impl Model for Held {
 }
 
 impl Held {
+    /// No bytes.
     pub fn new() -> Held
         ensures { result ≡ [] }
     {
@@ -47,21 +48,23 @@ impl Held {
         }
     }
 
+    /// The bytes held.
     pub fn bytes(&self) -> &[u8]
         ensures { result.now ≡ self.now }
     {
         &self.buffer[..self.count]
     }
 
-    /// Reads a piece behind the bytes held, and tells whether there may be more. Nothing read is the end of the input, and nothing else is.
-    /// A read that fails changes nothing.
+    /// Reads a piece behind the bytes held, and tells whether there may be more: nothing read is the end of the input, and nothing
+    /// else is. There has to be room. A read that fails changes nothing; one that a signal interrupts is tried again.
     pub fn read_more<R: Read>(&mut self, input: &mut R) -> Result<bool, Stop>
         requires { length self.old < HELD }
         ensures piece { OnOk result ((piece : List ℕ) × (self.new ≡ self.old ++ piece)
             × Consumes (R.remaining input.old) (R.remaining input.new) piece) }
         ensures ended { IfOk result (λ more. (more ≡ false) ↔ (self.new ≡ self.old)) }
         ensures end { IfOk result (λ more. more ≡ false → IsAtEnd (R.remaining input.new)) }
-        ensures unread { OnErr result ((self.new ≡ self.old) × Keeps (R.remaining input.old) (R.remaining input.new)) }
+        ensures unread { OnErr result ((self.new ≡ self.old)
+            × Keeps (R.remaining input.old) (R.remaining input.new)) }
         ensures stop { IfErr result (λ stop. stop ≡ Stop.InputUnread) }
     {
         let n = read_piece(input, &mut self.buffer[self.count..])?;
@@ -69,7 +72,8 @@ impl Held {
         Ok(0 < n)
     }
 
-    /// The bytes from `from` on are held, and those before are not; of a line that is too long only `kept`.
+    /// Lets go of the bytes before `from`. Where more than `kept` are left, and no newline among them, only `kept` stay: enough
+    /// to tell that a line is too long.
     pub fn carry_over(&mut self, from: usize, kept: usize)
         requires { from ≤ length self.old }
         ensures { self.new ≡ cut_off kept (drop from self.old) }
@@ -78,10 +82,11 @@ impl Held {
     }
 }
 
-/// One read. One that a signal interrupts is tried again.
+/// Reads once into the start of a buffer; answers how many bytes were read.
 fn read_piece<R: Read>(input: &mut R, room: &mut [u8]) -> Result<usize, Stop>
     ensures count { IfOk result (λ n. n ≤ length room.new) }
-    ensures piece { IfOk result (λ n. Consumes (R.remaining input.old) (R.remaining input.new) (take n room.new)) }
+    ensures piece { IfOk result (λ n.
+        Consumes (R.remaining input.old) (R.remaining input.new) (take n room.new)) }
     ensures end { IfOk result (λ n. n ≡ 0 → 0 < length room.old → IsAtEnd (R.remaining input.new)) }
     ensures unread { OnErr result (Keeps (R.remaining input.old) (R.remaining input.new)) }
     ensures stop { IfErr result (λ stop. stop ≡ Stop.InputUnread) }
@@ -100,7 +105,7 @@ fn read_piece<R: Read>(input: &mut R, room: &mut [u8]) -> Result<usize, Stop>
     Err(Stop::InputUnread)
 }
 
-/// How many bytes are carried over of some that follow the answered lines: of a line that is too long only `kept`.
+/// How many of some bytes are carried over: `kept` at most where no newline is among them.
 #[tactic(auto, using(crate::proofs::CarryLaws::length_cut_off))]
 fn carried_length(bytes: &[u8], kept: usize) -> usize
     ensures { result ≡ length (cut_off kept bytes.now) }
@@ -112,7 +117,7 @@ fn carried_length(bytes: &[u8], kept: usize) -> usize
     }
 }
 
-/// The bytes from `from` on are moved to the start; of a line that is too long only `kept`. Answers how many they are.
+/// Moves the bytes from `from` on to the start, or the first `kept` of them; answers how many they are.
 #[tactic(auto, using(crate::proofs::CarryLaws::length_cut_off))]
 fn move_to_start(held: &mut [u8], from: usize, kept: usize) -> usize
     requires { from ≤ length held.old }
@@ -124,8 +129,8 @@ fn move_to_start(held: &mut [u8], from: usize, kept: usize) -> usize
     n
 }
 
-/// Appends all of the bytes to an output; where that fails a start of them, and nothing twice. A write that a signal interrupts is tried
-/// again.
+/// Appends bytes to an output. Where that fails, a start of them was appended, and nothing twice. A write that a signal interrupts
+/// is tried again.
 pub fn write_whole<W: Write>(output: &mut W, bytes: &[u8]) -> Result<(), Stop>
     ensures whole { OnOk result (Appends (W.contents output.old) (W.contents output.new) bytes.now) }
     ensures start { OnErr result (AppendsAStart (W.contents output.old) (W.contents output.new) bytes.now) }
