@@ -11,21 +11,23 @@ use crate::write::{LONGEST_ANSWER, answer_line};
 
 /// How far a block was answered: the bytes of its answered lines with their newlines, and the bytes of the answers.
 #[derive(Clone, Copy)]
-pub struct Progress {
-    pub read: usize,
-    pub written: usize,
+pub(crate) struct Progress {
+    pub(crate) read: usize,
+    pub(crate) written: usize,
 }
 
 /// Answers the whole lines at the start of a block, while there is room for an answer.
-pub fn answer_block(block: &[u8], out: &mut [u8]) -> Progress
+pub(crate) fn answer_block(block: &[u8], out: &mut [u8]) -> Progress
+    requires { longest_answer ≤ length out.old }
     ensures read { result.read ≡ size (answered line_texts (length out.old) block.now) }
     ensures text { Wrote (texts line_texts (answered line_texts (length out.old) block.now))
         out.old out.new result.written }
     ensures read_in_bounds { (result.read ≤ length block.now) × (result.written ≤ length out.old) }
 {
+    let last = out.len() - LONGEST_ANSWER;
     let mut read = 0;
     let mut written = 0;
-    while written + LONGEST_ANSWER <= out.len() {
+    while written <= last {
         let rest = &block[read..];
         let Some(length) = rest.iter().position(|b| *b == b'\n') else {
             break;
@@ -38,7 +40,7 @@ pub fn answer_block(block: &[u8], out: &mut [u8]) -> Progress
 
 /// Answers what is held at the end of the input, a last line without newline or nothing; answers how many bytes it wrote.
 #[tactic(auto, using(crate::proofs::TextsLaws::by_last))]
-pub fn answer_last(held: &[u8], out: &mut [u8]) -> usize
+pub(crate) fn answer_last(held: &[u8], out: &mut [u8]) -> usize
     requires { (longest_answer ≤ length out.old) × IsHalfLine held.now }
     ensures wrote { Wrote (output_of line_texts held.now) out.old out.new result }
     ensures upper_bound { result ≤ length out.old }

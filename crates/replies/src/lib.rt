@@ -2,7 +2,7 @@
 
 #![tactic(auto)]
 
-pub mod block;
+mod block;
 pub mod promises;
 pub mod stream;
 pub mod write;

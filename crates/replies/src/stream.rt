@@ -21,13 +21,13 @@ const ANSWERS: usize = 131072;
 /// Answers whole lines that are held, while there is room, and carries over the rest; answers how many bytes it wrote.
 #[tactic(auto, unfolding(text::specs::Held::carried))]
 fn answer_turn(held: &mut Held, out: &mut [u8]) -> usize
+    requires { longest_answer ≤ length out.old }
     ensures held { held.new ≡ carried line_texts (length out.old) held.old }
     ensures text { Wrote (texts line_texts (answered line_texts (length out.old) held.old))
         out.old out.new result }
     ensures upper_bound { result ≤ length out.old }
-    ensures less { longest_answer ≤ length out.old → 0 < result → length held.new < length held.old }
-    ensures none_left { longest_answer ≤ length out.old → result ≡ 0
-        → IsHalfLine held.new × (length held.new ≤ longest_line + 1) }
+    ensures less { 0 < result → length held.new < length held.old }
+    ensures none_left { result ≡ 0 → IsHalfLine held.new × (length held.new ≤ longest_line + 1) }
 {
     let Progress { read, written } = answer_block(held.bytes(), out);
     held.carry_over(read, LONGEST_LINE + 1);
@@ -56,17 +56,17 @@ fn answer_lines<W: Write>(
     }
 }
 
-/// Answers the lines of an input, one answer a line, to its end. Where the input can't be read, the whole lines that were read are
-/// answered, and half a line is not. Where the output can't be written, a start of the answers was appended, and nothing twice.
-/// 65,536 bytes of the input are held at most.
+/// Answers the lines of an input, one answer a line, to its end. Where it stops early, a start of the answers was appended, and
+/// nothing twice: where the input can't be read, the answers of the whole lines that were read, and half a line is not answered.
+/// 65,536 bytes of the input are held at most. The output is not flushed.
 pub fn answer_input<R: Read, W: Write>(input: &mut R, output: &mut W) -> Result<(), Stop>
     ensures answered { OnOk result (AnswersInput line_texts (R.remaining input.old)
         (W.contents output.old) (W.contents output.new)) }
     ensures end { OnOk result (IsAtEnd (R.remaining input.new)) }
+    ensures stopped { OnErr result (AnswersAStart line_texts (R.remaining input.old)
+        (W.contents output.old) (W.contents output.new)) }
     ensures unread { IsErrOf result Stop.InputUnread → AnswersWholeLines line_texts
         (R.remaining input.old) (R.remaining input.new) (W.contents output.old) (W.contents output.new) }
-    ensures unwritten { IfErr result (λ stop. stop ≢ Stop.InputUnread → AnswersAStart line_texts
-        (R.remaining input.old) (W.contents output.old) (W.contents output.new)) }
 {
     let mut held = Held::new();
     let mut out = [0u8; ANSWERS];

@@ -188,6 +188,10 @@ append_start old mid new a b p s = record {
   appended = Appends-trans old mid new a s.start p s.appended;
 }
 
+-- nothing is a start
+pub nothing-appended : (known : Option (List ℕ)) (bytes : List ℕ) → AppendsAStart known known bytes
+nothing-appended known bytes = record { start = []; rest = bytes; splits = refl; appended = Appends-nil known }
+
 -- a start of some bytes is a start of these and more
 pub start_of_more : (old new : Option (List ℕ)) (a b : List ℕ) → AppendsAStart old new a → AppendsAStart old new (a ++ b)
 start_of_more old new a b s = record {

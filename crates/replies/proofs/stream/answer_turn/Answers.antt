@@ -15,7 +15,7 @@ returns-clause-less c =
     let held = c.args.held.now in
     let block = c.answer_block-read in
     let count : block.result.written ≡ length (texts line_texts (answered line_texts room held)) = rw c.bytes.ensures at block.ensures.text.count in
-    λ h z. rw (c.carry_over.ensures, block.ensures.read, c.bytes.ensures) (answered-less line_texts room held h (omega arith))
+    λ z. rw (c.carry_over.ensures, block.ensures.read, c.bytes.ensures) (answered-less line_texts room held c.requires (omega arith))
 
 pub returns-clause-none_left : goal.returns-clause-none_left
 unfolding carried
@@ -24,6 +24,6 @@ returns-clause-none_left c =
     let held = c.args.held.now in
     let block = c.answer_block-read in
     let count : block.result.written ≡ length (texts line_texts (answered line_texts room held)) = rw c.bytes.ensures at block.ensures.text.count in
-    λ h z.
-    let none = nothing-left line_texts room held line_text-pos h (omega arith) in
+    λ z.
+    let none = nothing-left line_texts room held line_text-pos c.requires (omega arith) in
     rw (c.carry_over.ensures, block.ensures.read, c.bytes.ensures) (carried-newline line_texts room held none, carried-short line_texts room held none)
