@@ -59,6 +59,7 @@ fn answer_lines<W: Write>(
 /// Answers the lines of an input, one answer a line, to its end. Where it stops early, a start of the answers was appended, and
 /// nothing twice: where the input can't be read, the answers of the whole lines that were read, and half a line is not answered.
 /// 65,536 bytes of the input are held at most. The output is not flushed.
+#[tactic(auto, using(text::proofs::AnsweringLaws::stopped))]
 pub fn answer_input<R: Read, W: Write>(input: &mut R, output: &mut W) -> Result<(), Stop>
     ensures answered { OnOk result (AnswersInput line_texts (R.remaining input.old)
         (W.contents output.old) (W.contents output.new)) }

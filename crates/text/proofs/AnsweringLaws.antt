@@ -188,10 +188,6 @@ append_start old mid new a b p s = record {
   appended = Appends-trans old mid new a s.start p s.appended;
 }
 
--- nothing is a start
-pub nothing-appended : (known : Option (List ℕ)) (bytes : List ℕ) → AppendsAStart known known bytes
-nothing-appended known bytes = record { start = []; rest = bytes; splits = refl; appended = Appends-nil known }
-
 -- a start of some bytes is a start of these and more
 pub start_of_more : (old new : Option (List ℕ)) (a b : List ℕ) → AppendsAStart old new a → AppendsAStart old new (a ++ b)
 start_of_more old new a b s = record {
@@ -266,6 +262,10 @@ module _ (t : LineTexts) (input left old new : Option (List ℕ)) (held : List �
       by (Some xs) (Some ys) r =
           rw (r, u.stands.prints ys) (append_start old new new' u.out (output_of t (held ++ ys)) u.appended (a ys))
 
+  -- so far a start was appended
+  pub so-far : AnswersAStart t input old new
+  so-far = unwritten new (λ more. record { start = []; rest = output_of t (held ++ more); splits = refl; appended = Appends-nil new })
+
   -- no more can be read, and no whole line is held
   pub unread : TooLongAlike t → count_before newline held ≡ length held → (left' : Option (List ℕ)) → Keeps left left'
       → AnswersWholeLines t input left' old new
@@ -285,3 +285,6 @@ module _ (t : LineTexts) (input left old new : Option (List ℕ)) (held : List �
         unended = half_line-unended u.bytes;
         appended = subst (Appends old new) out u.appended;
       }
+
+-- what answer_input asks for where it stops
+pub ruleset stopped = (so-far)

@@ -5,7 +5,7 @@ use Rattle.std.proofs.lemmas.Result.{err_from_is_err_and, on_ok_weaker, on_err_w
 use Rattle.std.proofs.KnownBytes.{Keeps-refl}
 use Rattle.text.specs.Parts.{count_before}
 use Rattle.text.proofs.BufferLaws.{front}
-use Rattle.text.proofs.AnsweringLaws.{begun, fed, turned, ended, ended-early, unwritten, unread, nothing-appended}
+use Rattle.text.proofs.AnsweringLaws.{begun, fed, turned, ended, ended-early, unwritten, unread}
 use Rattle.replies.specs.Output.{line_texts}
 use Rattle.replies.proofs.OutputLaws.{too-long-alike}
 use Rattle.replies.proofs.stream.answer_input.Goals as goal
@@ -15,11 +15,6 @@ unfolding count_before
 loop-init g c = rw c.new-held.ensures (begun line_texts _ _, refl, omega arith)
 
 -- the input can't be read
-pub returns-in_err-read_more-clause-stopped : goal.returns-in_err-read_more-clause-stopped
-returns-in_err-read_more-clause-stopped g c =
-    let p = err_from_is_err_and c.from_residual.result c.from_residual.ensures.1 in
-    rw p.1 (unwritten line_texts _ _ _ _ c.loop.held c.loop.invariant.0 _ (λ more. nothing-appended _ _))
-
 pub returns-in_err-read_more-clause-unread : goal.returns-in_err-read_more-clause-unread
 returns-in_err-read_more-clause-unread g c =
     let u = c.loop.invariant in
@@ -62,10 +57,6 @@ loop-preserved g c =
     (turned line_texts _ _ _ _ (c.loop.held ++ read.0) u _ _ out (rw read.1 at stands) appended, left.0, left.1)
 
 -- so many turns have passed
-pub returns-clause-stopped : goal.returns-clause-stopped
-returns-clause-stopped g c =
-    unwritten line_texts _ _ _ _ c.loop.held c.loop.invariant.0 _ (λ more. nothing-appended _ _)
-
 pub returns-clause-unread : goal.returns-clause-unread
 returns-clause-unread g c =
     let u = c.loop.invariant in

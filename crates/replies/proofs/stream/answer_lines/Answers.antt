@@ -2,7 +2,9 @@
 use Rattle.std.proofs.Common.{◌≡◌, ℕ, List, ◌++◌, length, sym, ap, subst, ◌∙◌, append-nil}
 use Rattle.std.proofs.lemmas.List.{nil_from_length}
 use Rattle.std.proofs.lemmas.Result.{err_from_is_err_and}
+use Rattle.std.specs.Io.KnownBytes.{Appends}
 use Rattle.std.proofs.KnownBytes.{Appends-trans}
+use Rattle.text.specs.Answering.{AppendsAStart}
 use Rattle.text.specs.Stream.{texts}
 use Rattle.text.specs.Held.{answered, carried, StandsFor}
 use Rattle.text.proofs.BufferLaws.{front}
@@ -35,7 +37,7 @@ loop-written-preserved g c =
     let turn = c.answer_turn-written in (
       out ++ texts line_texts (answered line_texts room held),
       turned room _ held turn.new.held out turn.ensures.held stands,
-      Appends-trans _ _ _ _ _ appended (rw (front turn.ensures.text) at c.in_ok-write_whole.ensures.whole),
+      Appends-trans _ _ _ _ _ appended (subst (Appends _ _) (front turn.ensures.text) c.in_ok-write_whole.ensures.whole),
     )
 
 pub returns-in_err-write_whole-clause-unwritten : goal.returns-in_err-write_whole-clause-unwritten
@@ -44,6 +46,6 @@ returns-in_err-write_whole-clause-unwritten g c =
     let room = length c.loop-written.out in
     let held = c.loop-written.held in
     let p = err_from_is_err_and c.from_residual.result c.from_residual.ensures.1 in
-    let start = rw (front c.answer_turn-written.ensures.text) at c.in_err-write_whole.ensures.start in
+    let start = subst (AppendsAStart _ _) (front c.answer_turn-written.ensures.text) c.in_err-write_whole.ensures.start in
     rw p.1 (λ more. rw (stands.prints more, turn-law line_texts too-long-alike room held more)
     (append_start _ _ _ out _ appended (start_of_more _ _ (texts line_texts (answered line_texts room held)) _ start)))
