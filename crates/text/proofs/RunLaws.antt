@@ -8,6 +8,7 @@ use Rattle.text.specs.Runs.{Run, feed, turn, end, joined_pieces, TooLongAlike, A
 use Rattle.text.proofs.StreamLaws.{lines_of-last, turn-law}
 use Rattle.text.proofs.CarryLaws.{carried-less}
 
+-- what a run prints from there on
 run-law : (t : LineTexts) → TooLongAlike t → {room : ℕ} {held out : List ℕ} {pieces : List (List ℕ)}
     → Run t room held pieces out → out ≡ output_of t (held ++ joined_pieces pieces)
 unfolding output_of joined_pieces
@@ -16,7 +17,7 @@ run-law t alike {room = room} (turn held pieces out r) =
     ap (λ (x : List ℕ). texts t (answered t room held) ++ x) (run-law t alike r) ∙ sym (turn-law t alike room held (joined_pieces pieces))
 run-law t alike (end held h) = sym (ap (texts t) (lines_of-last held h)) ∙ ap (output_of t) (sym (append-nil held))
 
--- any-pieces, some-run: the theorem, and that there is a run for any pieces
+-- whatever pieces an input comes in, a run prints the texts of its lines
 pub any-pieces : AnyPieces
 any-pieces t alike room pieces out r = run-law t alike r
 
@@ -30,9 +31,11 @@ module _ (t : LineTexts) (room : ℕ) (fits : t.longest_text ≤ room) where
       more : (out : List ℕ) × Run t room (carried t room held) [] out → (out : List ℕ) × Run t room held [] out
       more (out, r) = (_, turn held [] out r)
 
+  -- pieces come in one after the other, and then the end
   fed : (held : List ℕ) (pieces : List (List ℕ)) → (out : List ℕ) × Run t room held pieces out
   fed held [] = ending (length held) held (omega arith)
   fed held (p ∷ ps) = let r = fed (held ++ p) ps in (r.0, feed held p ps r.0 r.1)
 
+-- there is a run for any pieces
 pub some-run : SomeRun
 some-run t room fits pieces = fed t room fits [] pieces

@@ -9,7 +9,8 @@ use Rattle.text.specs.Stream.{texts}
 use Rattle.text.specs.Held.{answered, carried, StandsFor}
 use Rattle.text.proofs.BufferLaws.{front}
 use Rattle.text.proofs.StreamLaws.{turn-law}
-use Rattle.text.proofs.AnsweringLaws.{stands-trans, stands-turned, append_start, start_of_more}
+use Rattle.text.proofs.HeldLaws.{stands-trans, stands-turned}
+use Rattle.text.proofs.AnsweringLaws.{append_start, start_of_more}
 use Rattle.replies.specs.Output.{line_texts}
 use Rattle.replies.proofs.OutputLaws.{too-long-alike}
 use Rattle.replies.proofs.stream.answer_lines.Goals as goal
