@@ -21,11 +21,12 @@ use Rattle.lines.proofs.ReadingLaws.{read_line-by, read_line-refused, read_line-
 use Rattle.replies.specs.Texts.{letter_byte, refusal_text, text_of, answer_text, longest_answer, answer_of, line_text}
 
 -- ---- by what was read
--- line_text-refused, line_text-case: what is printed for a refused line, and for a case
+-- what is printed for a line that is refused
 pub line_text-refused : (bs : List ℕ) (r : Refusal) → read_line bs ≡ Err r → line_text bs ≡ refusal_text 15
 unfolding text_of line_text
 line_text-refused bs r e = ap (λ a. answer_text (answer_of a)) (read_line-refused bs r e)
 
+-- what is printed for a line that is a case
 pub line_text-case : (bs : List ℕ) (case : Case) → read_line bs ≡ Ok case → line_text bs ≡ answer_text (answer_to case)
 unfolding line_text
 line_text-case bs case e = ap (λ r. answer_text (answer_of r)) e
@@ -35,7 +36,7 @@ pub line_text-long : (bs : List ℕ) → longest_line < length bs → line_text 
 line_text-long bs h = line_text-refused bs _ (read_line-long bs h)
 
 -- ---- how long it is
--- refusal_text-le, answer_text-le, answer_text-pos: an answer has at most 64 bytes, and is not empty
+-- a refusal has at most 64 bytes
 pub refusal_text-le : (n : ℕ) → length (refusal_text n) ≤ longest_answer
 unfolding refusal_text
 refusal_text-le n = omega (arith, row_text-one (code "X") n)
@@ -46,6 +47,7 @@ unfolding flat_map decimal_up_to decimal figures_text text_of
 figures-le number [] h = absurd h
 figures-le number (letter ∷ figures) h = omega (arith, row_text-length (letter_byte letter) figures, figures_text-mono figures _ h.1)
 
+-- so has an answer
 pub answer_text-le : (case : Case) → length (answer_text (answer_to case)) ≤ longest_answer
 unfolding text_of
 answer_text-le case =
@@ -53,24 +55,28 @@ answer_text-le case =
     (λ a. figures-le 0 (grade_figures (Ok (graded case))) (rw (answer_to-accepted case a) at (figures-within-ends case a)))
     (λ p. refusal_text-le (number (refusal_of (refusal case))))
 
--- line_text-le, line_text-pos: so has what is printed for a line, and it is not empty
+-- so has what is printed for a line
 pub line_text-le : (bs : List ℕ) → length (line_text bs) ≤ longest_answer
 unfolding text_of line_text
 line_text-le bs = read_line-by (λ r. length (answer_text (answer_of r)) ≤ longest_answer) answer_text-le (refusal_text-le 15) bs
 
+-- no text is empty
 text-pos : (number : ℕ) (vs : List ℕ) → 0 < length (text_of number vs)
 unfolding refusal_text text_of
 text-pos number [] = omega (arith, row_text-length (code "X") (number ∷ []))
 text-pos number (letter ∷ figures) = omega (arith, row_text-length (letter_byte letter) figures)
 
+-- nor an answer
 pub answer_text-pos : (a : Result Grade Refusal) → 0 < length (answer_text a)
 answer_text-pos a = text-pos _ _
 
+-- nor what is printed for a line
 pub line_text-pos : (bs : List ℕ) → 0 < length (line_text bs)
 unfolding line_text
 line_text-pos bs = text-pos _ _
 
--- by_line, by_last: what answer_line and answer_last ask for
+-- what answer_line asks for
 pub ruleset by_line = (line_text-refused, line_text-case, refusal_text-le, answer_text-le)
 
+-- what answer_last asks for
 pub ruleset by_last = (last-one, line_text-le)

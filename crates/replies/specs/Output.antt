@@ -1,4 +1,4 @@
--- What `los` prints for an input (document 01, "Lines").
+-- What `los` prints for an input.
 use Rattle.std.specs.Prelude.{ℕ, ◌≡◌, List, []}
 use Rattle.lines.specs.Reading as reading
 use Rattle.replies.specs.Texts.{longest_answer, line_text}
@@ -12,4 +12,5 @@ line_texts = record { text = line_text; longest_text = longest_answer; longest_l
 -- whatever pieces the input comes in, what is printed is the answers of its lines
 abbrev pub OutputOfAnyPieces : Type 0
 OutputOfAnyPieces =
-    (room : ℕ) (pieces : List (List ℕ)) (out : List ℕ) → Run line_texts room [] pieces out → out ≡ output_of line_texts (joined_pieces pieces)
+    (room : ℕ) (pieces : List (List ℕ)) (out : List ℕ)
+    → Run line_texts room [] pieces out → out ≡ output_of line_texts (joined_pieces pieces)

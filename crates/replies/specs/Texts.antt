@@ -1,4 +1,4 @@
--- Answers as text (document 01, "Lines").
+-- Answers as text.
 use Rattle.std.specs.Prelude.{ℕ, ◌+◌, ◌-◌, Result, Ok, Err, List, [], ◌∷◌}
 use Prim.Native.Char.{code}
 use Rattle.text.specs.Decimal.{row_text}
@@ -19,7 +19,8 @@ unfoldable pub refusal_text : ℕ → List ℕ
 refusal_text n = row_text (code "X") (n ∷ [])
 
 -- the line of an answer's refusal number and values
--- "Answer: letter, F, c, v, speed, density, service volumes A to E, 11 fields"; an answer with no values is a refusal
+-- "Answer: letter, F, c, v, speed, density, service volumes A to E, 11 fields"
+-- an answer with no values is a refusal
 unfoldable pub text_of : ℕ → List ℕ → List ℕ
 text_of number [] = refusal_text number
 text_of number (letter ∷ figures) = row_text (letter_byte letter) figures

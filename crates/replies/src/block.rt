@@ -1,34 +1,33 @@
-//! Whole lines of a block answered, the rest carried over.
+//! The lines of a block of bytes answered.
 
-ghost use Rattle.std.specs.Prelude.{◌≡◌, ◌++◌, ◌+◌, ◌≤◌, ◌<◌, length, drop};
+ghost use Rattle.std.specs.Prelude.{◌≡◌, ◌≤◌, length};
 ghost use Rattle.text.specs.Buffer.{Wrote};
-ghost use Rattle.text.specs.Bytes.{newline};
-ghost use Rattle.text.specs.Parts.{count_before};
-ghost use Rattle.lines.specs.Reading.{longest_line};
 ghost use Rattle.replies.specs.Texts.{longest_answer};
-ghost use Rattle.text.specs.Stream.{texts, lines_of};
-ghost use Rattle.text.specs.Turns.{answered, size, carried};
+ghost use Rattle.text.specs.Stream.{texts, output_of};
+ghost use Rattle.text.specs.Held.{answered, size, IsHalfLine};
 ghost use Rattle.replies.specs.Output.{line_texts};
 
 use crate::write::{LONGEST_ANSWER, answer_line};
-use lines::read::LONGEST_LINE;
 
-/// The whole lines at the start of a block, while there is room for an answer.
+/// How far a block was answered: the bytes of its answered lines with their newlines, and the bytes of the answers.
 #[derive(Clone, Copy)]
-pub struct Progress {
-    pub read: usize,
-    pub written: usize,
+pub(crate) struct Progress {
+    pub(crate) read: usize,
+    pub(crate) written: usize,
 }
 
-pub fn answer_block(block: &[u8], out: &mut [u8]) -> Progress
+/// Answers the whole lines at the start of a block, while there is room for an answer.
+pub(crate) fn answer_block(block: &[u8], out: &mut [u8]) -> Progress
+    requires { longest_answer ≤ length out.old }
     ensures read { result.read ≡ size (answered line_texts (length out.old) block.now) }
     ensures text { Wrote (texts line_texts (answered line_texts (length out.old) block.now))
         out.old out.new result.written }
     ensures read_in_bounds { (result.read ≤ length block.now) × (result.written ≤ length out.old) }
 {
+    let last = out.len() - LONGEST_ANSWER;
     let mut read = 0;
     let mut written = 0;
-    while written + LONGEST_ANSWER <= out.len() {
+    while written <= last {
         let rest = &block[read..];
         let Some(length) = rest.iter().position(|b| *b == b'\n') else {
             break;
@@ -39,32 +38,11 @@ pub fn answer_block(block: &[u8], out: &mut [u8]) -> Progress
     Progress { read, written }
 }
 
-/// The same for the bytes that are held; the rest is carried over to their start.
-#[derive(Clone, Copy)]
-pub struct Turn {
-    pub carried: usize,
-    pub written: usize,
-}
-
-#[tactic(auto, unfolding(text::specs::Turns::carried))]
-pub fn answer_turn(held: &mut [u8], out: &mut [u8]) -> Turn
-    ensures carried { result.carried ≡ length (carried line_texts (length out.old) held.old) }
-    ensures held { held.new ≡ carried line_texts (length out.old) held.old ++ drop result.carried held.old }
-    ensures text { Wrote (texts line_texts (answered line_texts (length out.old) held.old))
-        out.old out.new result.written }
-    ensures carried_le_held { (result.carried ≤ length held.old) × (result.written ≤ length out.old) }
-    ensures room { longest_answer ≤ length out.old → result.written ≡ 0 → result.carried ≤ longest_line + 1 }
-{
-    let Progress { read, written } = answer_block(held, out);
-    let carried = text::stream::carry_over(held, read, LONGEST_LINE + 1);
-    Turn { carried, written }
-}
-
-/// What is held at the end of the input: a last line without newline, or nothing.
+/// Answers what is held at the end of the input, a last line without newline or nothing; answers how many bytes it wrote.
 #[tactic(auto, using(crate::proofs::TextsLaws::by_last))]
-pub fn answer_last(held: &[u8], out: &mut [u8]) -> usize
-    requires { (longest_answer ≤ length out.old) × (count_before newline held.now ≡ length held.now) }
-    ensures wrote { Wrote (texts line_texts (lines_of held.now)) out.old out.new result }
+pub(crate) fn answer_last(held: &[u8], out: &mut [u8]) -> usize
+    requires { (longest_answer ≤ length out.old) × IsHalfLine held.now }
+    ensures wrote { Wrote (output_of line_texts held.now) out.old out.new result }
     ensures upper_bound { result ≤ length out.old }
 {
     if held.len() == 0 {

@@ -1,4 +1,4 @@
-//! An answer written as text into a lent buffer. Each function writes from the buffer's start on and answers how many bytes it wrote.
+//! An answer written as text into a lent buffer.
 
 ghost use Rattle.std.specs.Prelude.{◌≡◌, ◌≤◌, length};
 ghost use Rattle.text.specs.Buffer.{Wrote};
@@ -8,11 +8,11 @@ ghost use Rattle.replies.specs.Texts.{letter_byte, answer_text, refusal_text, lo
 
 use answer::evaluate;
 use answer::evaluate::Grade;
-use refusals::Refusal;
 use curve::service::Letter;
 use lines::read;
+use refusals::Refusal;
 
-/// Room for any answer.
+/// How many bytes any answer has at most.
 pub const LONGEST_ANSWER: usize = 64;
 
 fn letter_byte(letter: Letter) -> u8
@@ -28,7 +28,8 @@ fn letter_byte(letter: Letter) -> u8
     }
 }
 
-/// The eleven figures of an answer.
+/// Writes the letter and the ten numbers of an answer to the start of a buffer that has room for them; answers how many bytes it
+/// wrote.
 #[tactic(auto, unfolding(crate::specs::Texts::text_of))]
 pub fn write_grade(grade: &Grade, out: &mut [u8]) -> usize
     requires { length (answer_text (Ok grade.now)) ≤ length out.old }
@@ -45,7 +46,7 @@ fn write_refusal(refusal: Refusal, out: &mut [u8]) -> usize
     text::decimal::put_row(b'X', &[refusal.number()], out)
 }
 
-/// An answer, or X and its refusal's number.
+/// Writes an answer, or X and its refusal's number, to the start of a buffer that has room for it; answers how many bytes it wrote.
 #[tactic(auto, unfolding(crate::specs::Texts::text_of))]
 pub fn write_answer(answer: Result<Grade, Refusal>, out: &mut [u8]) -> usize
     requires { length (answer_text answer) ≤ length out.old }
@@ -57,7 +58,8 @@ pub fn write_answer(answer: Result<Grade, Refusal>, out: &mut [u8]) -> usize
     }
 }
 
-/// The answer to a line.
+/// Writes the answer to a line to the start of a buffer of 64 bytes or more; answers how many bytes it wrote. A line that can't be
+/// read gets X and 15.
 #[tactic(auto, using(crate::proofs::TextsLaws::by_line))]
 pub fn answer_line(line: &[u8], out: &mut [u8]) -> usize
     requires { longest_answer ≤ length out.old }

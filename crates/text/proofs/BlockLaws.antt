@@ -1,12 +1,12 @@
--- Lines of a block answered one after the other, and the last line (specs/Turns, specs/Stream).
+-- Lines of a block answered one after the other, and the last line (specs/Held, specs/Stream).
 use Rattle.std.proofs.Common.{◌≡◌, ℕ, suc, ◌+◌, ◌-◌, ◌≤◌, ◌<◌, List, [], ◌∷◌, ◌++◌, length, take, drop, refl, sym, ap, ◌∙◌, append_assoc, append-nil, length-drop, length-take-le, drop-drop, ne_eqb, arith}
 use mathlib.Core.List.{flat_map}
 use Rattle.text.specs.Bytes.{newline}
 use Rattle.text.specs.Parts.{count_before}
 use Rattle.text.specs.Buffer.{Wrote}
 use Rattle.text.proofs.BufferLaws.{rest_of, put_rest, nothing, then}
-use Rattle.text.specs.Stream.{LineTexts, texts, last_line, lines_of}
-use Rattle.text.specs.Turns.{answered, size}
+use Rattle.text.specs.Stream.{LineTexts, texts, last_line, output_of}
+use Rattle.text.specs.Held.{answered, size}
 use Rattle.text.proofs.StreamLaws.{texts-append, size-append, lines_of-last, next-line}
 
 -- ---- lines answered one after the other
@@ -19,7 +19,7 @@ pub record Answering (t : LineTexts) (block old new : List ℕ) (read written : 
   pub within : read ≤ length block
   pub room : written ≤ length old
 
--- begun, answered-one, stopped: at the start; one line more; at the end
+-- at the start nothing is answered
 pub begun : (t : LineTexts) (block old : List ℕ) → Answering t block old old 0 0
 unfolding flat_map texts size
 begun t block old = record {
@@ -36,7 +36,7 @@ unfolding flat_map texts
 one-text t l = append-nil (t.text l)
 
 module _ (t : LineTexts) (block old mid : List ℕ) (p w : ℕ) (a : Answering t block old mid p w) where
-  -- the next line has n bytes
+  -- one line more, which has n bytes
   pub answered-one : (new : List ℕ) (n v : ℕ) → n ≡ count_before newline (drop p block) → n < length (drop p block)
       → w + t.longest_text ≤ length old → length (t.text (take n (drop p block))) ≤ t.longest_text
       → Wrote (t.text (take n (drop p block))) (rest_of w mid) new v
@@ -59,7 +59,7 @@ module _ (t : LineTexts) (block old mid : List ℕ) (p w : ℕ) (a : Answering t
         room = omega (arith, wr.count);
       }
 
-  -- no whole line is left, or no room
+  -- at the end no whole line is left, or no room
   pub stopped : answered t (length old - w) (drop p block) ≡ []
       → (p ≡ size (answered t (length old) block)) ×
       (Wrote (texts t (answered t (length old) block)) old mid w × ((p ≤ length block) × (w ≤ length old)))
@@ -69,11 +69,12 @@ module _ (t : LineTexts) (block old mid : List ℕ) (p w : ℕ) (a : Answering t
 
 -- ---- the last line
 module _ (t : LineTexts) (held : List ℕ) (h : count_before newline held ≡ length held) where
-  -- last-none, last-one: what is left is empty, or one line
-  pub last-none : (old : List ℕ) → length held ≡ 0 → Wrote (texts t (lines_of held)) old old 0
-  unfolding flat_map texts last_line
+  -- nothing is left
+  pub last-none : (old : List ℕ) → length held ≡ 0 → Wrote (output_of t held) old old 0
+  unfolding flat_map texts last_line output_of
   last-none old z = rw (lines_of-last held h, z) nothing
 
-  pub last-one : (length held ≡ 0 → ⊥) → texts t (lines_of held) ≡ t.text held
-  unfolding last_line
+  -- one line is left
+  pub last-one : (length held ≡ 0 → ⊥) → output_of t held ≡ t.text held
+  unfolding last_line output_of
   last-one n = rw (lines_of-last held h, ne_eqb (length held) 0 n) (one-text t held)

@@ -4,25 +4,30 @@ use Rattle.std.proofs.lemmas.List.{take_at, take_rest, drop_at, set_at, drop_all
 use borrow.Rule.Slice.PartMut.{mid_of, put_mid}
 use Rattle.text.specs.Buffer.{written, Wrote}
 
--- rest_of m xs, put_rest m xs ys: what a buffer that holds xs lends from place m on; the buffer when that
--- holds ys
+-- what a buffer that holds xs lends from place m on
 abbrev pub rest_of : ℕ → List ℕ → List ℕ
 rest_of m xs = mid_of m (length xs - m) xs
 
+-- that buffer, when what it lent holds ys
 abbrev pub put_rest : ℕ → List ℕ → List ℕ → List ℕ
 put_rest m xs ys = put_mid m (length xs - m) xs ys
 
--- nothing, then, then-byte: no piece; after one a piece in the rest of the buffer, or a byte
+-- no piece is written
 pub nothing : {old : List ℕ} → Wrote [] old old 0
 unfolding written
 nothing = record { content = refl; count = refl }
 
 module _ {s old mid : List ℕ} {m : ℕ} (w : Wrote s old mid m) where
+  -- the bytes that were written
+  pub front : take m mid ≡ s
+  unfolding written
+  front = ap (take m) w.content ∙ take_at s _ m (sym w.count)
+
+  -- after it a piece is written in the rest of the buffer
   pub then : {t rest : List ℕ} {n : ℕ} → Wrote t (rest_of m mid) rest n
       → Wrote (s ++ t) old (put_rest m mid rest) (m + n)
   unfolding written
   then {t} {rest} {n} v =
-      let front : take m mid ≡ s = ap (take m) w.content ∙ take_at s _ m (sym w.count) in
       let behind : drop m mid ≡ drop (length s) old = ap (drop m) w.content ∙ drop_at s _ m (sym w.count) in
       let past : drop (length mid - m) (drop m mid) ≡ [] = drop_all (length mid - m) (drop m mid) (omega (arith, length-drop m mid)) in
       record {
@@ -30,6 +35,7 @@ module _ {s old mid : List ℕ} {m : ℕ} (w : Wrote s old mid m) where
         count = omega (arith, w.count, v.count, length-append s t);
       }
 
+  -- after it a byte is written
   pub then-byte : (b : ℕ) → length s < length old → Wrote (s ++ (b ∷ [])) old (set mid m b) (m + 1)
   unfolding written
   then-byte b h =

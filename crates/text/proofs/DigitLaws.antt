@@ -11,11 +11,12 @@ unfolding decimal_up_to
 spare zero n h = grind (arith, nat_tests, pow-suc 10 0)
 spare (suc k) n h = grind (arith, nat_tests, spare k (n / 10), pow-suc 10 (suc k))
 
--- decimal-small, decimal-more: a number of one digit; of more: the digits of its tenth, and the last
+-- a number of one digit
 pub decimal-small : (n : ℕ) → n < 10 → decimal n ≡ (48 + n) ∷ []
 unfolding decimal_up_to decimal
 decimal-small n h = rw (lt-ltb n 10 h)
 
+-- a number of more: the digits of its tenth, and the last
 pub decimal-more : (n : ℕ) → 10 ≤ n → n < 2 ^ 64 → decimal n ≡ decimal (n / 10) ++ ((48 + n % 10) ∷ [])
 unfolding decimal_up_to decimal
 decimal-more n h k = rw (le-ltb n 10 h) (ap (λ ds. ds ++ ((48 + n % 10) ∷ [])) (spare 18 (n / 10) (omega arith)))

@@ -13,5 +13,9 @@ pub mod StreamLaws
 pub mod BlockLaws
 -- bytes carried over
 pub mod CarryLaws
+-- what is held stands for what was read
+pub mod HeldLaws
+-- what a program has appended
+pub mod AnsweringLaws
 -- runs over an input in pieces, and the theorem
 pub mod RunLaws

@@ -23,10 +23,11 @@ found : (t : ℕ) (bs : List ℕ)
     → position (λ b. eqb b t) bs ≡ cond (ltb (count_before t bs) (length bs)) (Some (count_before t bs)) None
 found t bs = rw count_before-is refl
 
--- found-Some, found-None: where `position` finds a t, so many bytes stand before it; where it finds none, all
+-- where `position` finds a t, so many bytes stand before it
 pub found-Some : (t : ℕ) (bs : List ℕ) (i : ℕ) → position (λ b. eqb b t) bs ≡ Some i → (i ≡ count_before t bs) × (i < length bs)
 found-Some t bs i h = grind (arith, nat_tests, found t bs)
 
+-- where it finds none, all bytes do
 pub found-None : (t : ℕ) (bs : List ℕ) → position (λ b. eqb b t) bs ≡ None → count_before t bs ≡ length bs
 found-None t bs h = grind (arith, nat_tests, found t bs, count_before-le t bs)
 
@@ -43,7 +44,7 @@ unfolding count_before parts on_first
 parts-more t [] h = absurd (omega arith)
 parts-more t (b ∷ bs) h = grind (arith, nat_tests, parts-more t bs)
 
--- there is one part at least
+-- with a byte on the first there is one part at least
 on_first-length : (b : ℕ) (ps : List (List ℕ)) → 0 < length (on_first b ps)
 unfolding on_first
 on_first-length b [] = omega arith
@@ -55,16 +56,18 @@ unfolding parts
 parts-pos t [] = omega arith
 parts-pos t (b ∷ bs) = grind (arith, nat_tests, on_first-length)
 
--- one byte on
+-- from place i on: there is a t
 pub count_before-hit : (t : ℕ) (bs : List ℕ) (i : ℕ) → i < length bs → get_or bs i 0 ≡ t → i + count_before t (drop i bs) ≡ i
 unfolding count_before
 count_before-hit t bs i h e = rw (drop-cons bs i 0 h, eq-eqb (get_or bs i 0) t e) (add-zero i)
 
+-- there is none: one byte on
 pub count_before-miss : (t : ℕ) (bs : List ℕ) (i : ℕ) → i < length bs → (get_or bs i 0 ≡ t → ⊥)
     → i + count_before t (drop i bs) ≡ i + 1 + count_before t (drop (i + 1) bs)
 unfolding count_before
 count_before-miss t bs i h n = rw (drop-cons bs i 0 h, ne_eqb (get_or bs i 0) t n, add-one i) (omega arith)
 
+-- nothing is left
 pub count_before-end : (t : ℕ) (bs : List ℕ) (i : ℕ) → i ≡ length bs → i + count_before t (drop i bs) ≡ i
 count_before-end t bs i e = omega (arith, count_before-le t (drop i bs), length-drop i bs)
 
@@ -80,8 +83,7 @@ unfolding parts
 parts-append t [] ys = rw (eq-eqb t t refl)
 parts-append t (b ∷ xs) ys = grind (arith, nat_tests, parts-append t xs ys, on_first-append b (parts t xs) (parts t ys) (parts-pos t xs))
 
--- spread, parts-spread: the lengths of parts, each with one byte more, added up: one more than the list has
--- bytes
+-- the lengths of parts, each with one byte more, added up
 abbrev pub spread : List (List ℕ) → ℕ
 spread [] = 0
 spread (p ∷ ps) = suc (length p) + spread ps
@@ -91,6 +93,7 @@ unfolding on_first
 on_first-spread b [] h = absurd (omega arith)
 on_first-spread b (p ∷ ps) h = omega arith
 
+-- of all parts that is one more than the list has bytes
 pub parts-spread : (t : ℕ) (bs : List ℕ) → spread (parts t bs) ≡ suc (length bs)
 unfolding parts
 parts-spread t [] = refl

@@ -1,4 +1,4 @@
--- An input answered line by line, a turn at a time (specs/Stream, specs/Turns).
+-- An input answered line by line, a turn at a time (specs/Stream, specs/Held).
 use Rattle.std.proofs.Common.{◌≡◌, ℕ, zero, suc, ◌+◌, ◌-◌, ◌≤◌, ◌<◌, List, [], ◌∷◌, ◌++◌, length, take, drop, refl, sym, ap, ◌∙◌, ⊎_elim, append_assoc, length-append, length-drop, length-take-le, drop-drop, take_all, lt-ltb, le-ltb, ne_eqb, arith}
 use Rattle.std.proofs.lemmas.Bool.Decides.{nat_tests}
 use Rattle.std.proofs.lemmas.List.{take-append-le, drop-append-le}
@@ -9,7 +9,7 @@ use Rattle.text.specs.Bytes.{newline}
 use Rattle.text.specs.Parts.{parts, count_before, on_first}
 use Rattle.text.proofs.PartsLaws.{count_before-le, count_before-cases, parts-one, parts-more, parts-pos}
 use Rattle.text.specs.Stream.{LineTexts, texts, last_line, without_empty_last, lines_of, output_of}
-use Rattle.text.specs.Turns.{ended_parts, fitting, answered, size, cut_off, carried}
+use Rattle.text.specs.Held.{ended_parts, fitting, answered, size, cut_off, carried}
 use Rattle.text.specs.Runs.{TooLongAlike}
 
 -- of the bytes: those before the first newline, and those after it
@@ -19,13 +19,25 @@ first_line bs = take (count_before newline bs) bs
 abbrev pub after_first : List ℕ → List ℕ
 after_first bs = drop (suc (count_before newline bs)) bs
 
+-- an induction on bytes, a line at a time
+pub by-lines : (P : List ℕ → Type 0) → ((bs : List ℕ) → count_before newline bs ≡ length bs → P bs)
+    → ((bs : List ℕ) → count_before newline bs < length bs → P (after_first bs) → P bs) → (bs : List ℕ) → P bs
+by-lines P last next bs = go (length bs) bs (omega arith)
+  where
+    go : (k : ℕ) (bs : List ℕ) → length bs ≤ k → P bs
+    go zero bs h = last bs (omega (arith, count_before-le newline bs))
+    go (suc k) bs h =
+        ⊎_elim (last bs)
+        (λ l. next bs l (go k (after_first bs) (omega (arith, length-drop (suc (count_before newline bs)) bs))))
+        (count_before-cases newline bs)
+
 -- a line before others: it is ended, and kept even where it is empty
 ended_parts-cons : (l : List ℕ) (ps : List (List ℕ)) → 0 < length ps → ended_parts (l ∷ ps) ≡ l ∷ ended_parts ps
 unfolding ended_parts
 ended_parts-cons l [] h = absurd (omega arith)
 ended_parts-cons l (p ∷ ps) h = refl
 
-without_empty_last-cons : (l : List ℕ) (ps : List (List ℕ)) → 0 < length ps → without_empty_last (l ∷ ps) ≡ l ∷ without_empty_last ps
+pub without_empty_last-cons : (l : List ℕ) (ps : List (List ℕ)) → 0 < length ps → without_empty_last (l ∷ ps) ≡ l ∷ without_empty_last ps
 unfolding without_empty_last
 without_empty_last-cons l [] h = absurd (omega arith)
 without_empty_last-cons l (p ∷ ps) h = refl
@@ -37,21 +49,21 @@ size-append [] b = omega arith
 size-append (l ∷ a) b = omega (arith, size-append a b)
 
 -- the first newline of a is that of a and whatever follows
-count_before-append : (a f : List ℕ) → count_before newline a < length a → count_before newline (a ++ f) ≡ count_before newline a
+pub count_before-append : (a f : List ℕ) → count_before newline a < length a → count_before newline (a ++ f) ≡ count_before newline a
 unfolding count_before
 count_before-append [] f h = absurd (omega arith)
 count_before-append (b ∷ a) f h = grind (arith, nat_tests, count_before-append a f)
 
 -- ---- bytes with no newline
 -- what is taken of bytes without a newline has none
-no-newline : (k : ℕ) (r : List ℕ) → count_before newline r ≡ length r → count_before newline (take k r) ≡ length (take k r)
+pub no-newline : (k : ℕ) (r : List ℕ) → count_before newline r ≡ length r → count_before newline (take k r) ≡ length (take k r)
 unfolding count_before
 no-newline zero r h = refl
 no-newline (suc k) [] h = refl
 no-newline (suc k) (b ∷ r) h = grind (arith, nat_tests, no-newline k r)
 
 -- bytes without a newline go to the front of the first part of what follows
-parts-front : (r f p : List ℕ) (ps : List (List ℕ)) → count_before newline r ≡ length r → parts newline f ≡ p ∷ ps
+pub parts-front : (r f p : List ℕ) (ps : List (List ℕ)) → count_before newline r ≡ length r → parts newline f ≡ p ∷ ps
     → parts newline (r ++ f) ≡ (r ++ p) ∷ ps
 unfolding parts count_before on_first
 parts-front [] f p ps h e = e
@@ -83,13 +95,40 @@ module _ (t : LineTexts) where
   unfolding answered fitting
   next-line room bs h l = rw (parts-more newline bs l, ended_parts-cons (first_line bs) (parts newline (after_first bs)) (parts-pos newline (after_first bs)), le-ltb room t.longest_text h)
 
+  -- what a turn leaves
+  abbrev pub left : ℕ → List ℕ → List ℕ
+  left room bs = drop (size (answered t room bs)) bs
+
+  -- where the first line is answered, what the rest's turn leaves
+  pub left-next : (room : ℕ) (bs : List ℕ) → t.longest_text ≤ room → count_before newline bs < length bs
+      → left room bs ≡ left (room - length (t.text (first_line bs))) (after_first bs)
+  unfolding size
+  left-next room bs h l =
+      let rest : List (List ℕ) = answered t (room - length (t.text (first_line bs))) (after_first bs) in
+      let n : length (first_line bs) + 1 + size rest ≡ suc (count_before newline bs) + size rest =
+      omega (arith, length-take-le (count_before newline bs) bs (count_before-le newline bs)) in
+      rw (next-line room bs h l) (ap (λ k. drop k bs) n ∙ sym (drop-drop (size rest) (suc (count_before newline bs)) bs))
+
+  -- an induction on a turn: nothing is answered, or the first line is
+  pub by-turns : (P : ℕ → List ℕ → Type 0) → ((room : ℕ) (bs : List ℕ) → answered t room bs ≡ [] → P room bs)
+      → ((room : ℕ) (bs : List ℕ) → t.longest_text ≤ room → count_before newline bs < length bs
+      → P (room - length (t.text (first_line bs))) (after_first bs) → P room bs)
+      → (bs : List ℕ) (room : ℕ) → P room bs
+  by-turns P none next = by-lines (λ bs. (room : ℕ) → P room bs) (λ bs e room. none room bs (none-left room bs e))
+      (λ bs l rec room. go bs l room (rec (room - length (t.text (first_line bs)))) (dec_le t.longest_text room))
+    where
+      go : (bs : List ℕ) → count_before newline bs < length bs → (room : ℕ)
+          → P (room - length (t.text (first_line bs))) (after_first bs) → Dec (t.longest_text ≤ room) → P room bs
+      go bs l room rec (yes h) = next room bs h l rec
+      go bs l room rec (no n) = none room bs (full room bs (omega arith))
+
   -- texts of two stretches of lines
   pub texts-append : (a b : List (List ℕ)) → texts t (a ++ b) ≡ texts t a ++ texts t b
   unfolding texts
   texts-append a b = rows-append t.text a b
 
   -- the first line's text, and the rest's
-  first-line : (bs : List ℕ) → count_before newline bs < length bs → output_of t bs ≡ t.text (first_line bs) ++ output_of t (after_first bs)
+  pub first-line : (bs : List ℕ) → count_before newline bs < length bs → output_of t bs ≡ t.text (first_line bs) ++ output_of t (after_first bs)
   unfolding flat_map texts lines_of output_of
   first-line bs h =
       ap (λ (ps : List (List ℕ)). texts t (without_empty_last ps)) (parts-more newline bs h)
@@ -103,36 +142,22 @@ module _ (t : LineTexts) where
       rw (e, take-append-le (count_before newline a) a f (omega arith), drop-append-le (suc (count_before newline a)) a f h) at
       (first-line (a ++ f) (omega (arith, length-append a f)))
 
-  -- a turn prints the texts of the lines that it answers; by induction on the bytes, a line at a time
-  lines-law : (k room : ℕ) (a f : List ℕ) → length a ≤ k
-      → output_of t (a ++ f) ≡ texts t (answered t room a) ++ output_of t (drop (size (answered t room a)) a ++ f)
+  -- a turn prints the texts of the lines that it answers
+  lines-law : (f a : List ℕ) (room : ℕ) → output_of t (a ++ f) ≡ texts t (answered t room a) ++ output_of t (left room a ++ f)
   unfolding flat_map texts size
-  lines-law zero room a f h = rw (none-left room a (omega (arith, count_before-le newline a)))
-  lines-law (suc k) room a f h =
-      ⊎_elim (λ e. rw (none-left room a e))
-      (λ l. go l (dec_le t.longest_text room)
-      (λ r. lines-law k r (after_first a) f (omega (arith, length-drop (suc (count_before newline a)) a))))
-      (count_before-cases newline a)
-    where
-      go : count_before newline a < length a → Dec (t.longest_text ≤ room)
-          → ((r : ℕ) → output_of t (after_first a ++ f) ≡ texts t (answered t r (after_first a)) ++ output_of t
-          (drop (size (answered t r (after_first a))) (after_first a) ++ f))
-          → output_of t (a ++ f) ≡ texts t (answered t room a) ++ output_of t (drop (size (answered t room a)) a ++ f)
-      go l (no n) rec = rw (full room a (omega arith))
-      go l (yes y) rec =
-          let r : ℕ = room - length (t.text (first_line a)) in
-          let ls : List (List ℕ) = answered t (room - length (t.text (first_line a))) (after_first a) in
-          let n : length (first_line a) + 1 + size (answered t (room - length (t.text (first_line a))) (after_first a))
-          ≡ suc (count_before newline a) + size (answered t (room - length (t.text (first_line a))) (after_first a)) =
-          omega (arith, length-take-le (count_before newline a) a (count_before-le newline a)) in
-          rw (next-line room a y l, n, sym (drop-drop (size ls) (suc (count_before newline a)) a))
-          (first-of a f l ∙ ap (λ (x : List ℕ). t.text (first_line a) ++ x) (rec r)
-          ∙ sym (append_assoc (t.text (first_line a)) (texts t ls) (output_of t (drop (size ls) (after_first a) ++ f))))
+  lines-law f = by-turns (λ room a. output_of t (a ++ f) ≡ texts t (answered t room a) ++ output_of t (left room a ++ f))
+      (λ room a e. rw e)
+      (λ room a h l rec.
+      let line = first_line a in
+      let rest : List (List ℕ) = answered t (room - length (t.text (first_line a))) (after_first a) in
+      rw (left-next room a h l, next-line room a h l) (
+      first-of a f l ∙ ap (λ (x : List ℕ). t.text line ++ x) rec ∙ sym (append_assoc (t.text line) (texts t rest) _)
+      ))
 
   -- ---- a line that is too long
   module _ (alike : TooLongAlike t) where
     -- a first line that is too long may be replaced by another that is
-    same-texts : (a b : List ℕ) (ps : List (List ℕ)) → t.longest_line < length a → t.longest_line < length b
+    pub same-texts : (a b : List ℕ) (ps : List (List ℕ)) → t.longest_line < length a → t.longest_line < length b
         → texts t (without_empty_last (a ∷ ps)) ≡ texts t (without_empty_last (b ∷ ps))
     unfolding flat_map texts last_line without_empty_last
     same-texts a b [] h k =
@@ -174,8 +199,7 @@ module _ (t : LineTexts) where
         ≡ texts t (answered t room held) ++ output_of t (carried t room held ++ f)
     unfolding carried
     turn-law room held f =
-        lines-law (length held) room held f (omega arith)
-        ∙ ap (λ (x : List ℕ). texts t (answered t room held) ++ x) (cut-law (drop (size (answered t room held)) held) f)
+        lines-law f held room ∙ ap (λ (x : List ℕ). texts t (answered t room held) ++ x) (cut-law (left room held) f)
 
   -- a whole line would have printed its text, which has a byte at least
   pub nothing-left : (room : ℕ) (held : List ℕ) → ((l : List ℕ) → 0 < length (t.text l)) → t.longest_text ≤ room

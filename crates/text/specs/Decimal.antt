@@ -1,4 +1,4 @@
--- Numbers as text (document 01, "Figures are written in decimal"; "Lines").
+-- Numbers as text.
 use Rattle.std.specs.Prelude.{ℕ, zero, suc, ◌+◌, ◌/◌, ◌%◌, if◌then◌else◌, nat_lt}
 use Prim.Native.Char.{code}
 use mathlib.Core.List.{List, [], ◌∷◌, ◌++◌, flat_map}
@@ -7,7 +7,8 @@ use Rattle.text.specs.Bytes.{tab, newline}
 -- the decimal digits of a number that has at most k
 unfoldable pub decimal_up_to : ℕ → ℕ → List ℕ
 decimal_up_to zero n = []
-decimal_up_to (suc k) n = if nat_lt n 10 then (code "0" + n) ∷ [] else decimal_up_to k (n / 10) ++ ((code "0" + n % 10) ∷ [])
+decimal_up_to (suc k) n =
+    if nat_lt n 10 then (code "0" + n) ∷ [] else decimal_up_to k (n / 10) ++ ((code "0" + n % 10) ∷ [])
 
 -- the decimal digits of a number below 10 ^ 20
 unfoldable pub decimal : ℕ → List ℕ

@@ -9,7 +9,9 @@ pub mod Decimal
 pub mod Buffer
 -- an input answered line by line
 pub mod Stream
--- what one turn over the held bytes does
-pub mod Turns
+-- the bytes of an input that are held
+pub mod Held
+-- what a program has appended to its output
+pub mod Answering
 -- an input in pieces, and the theorem
 pub mod Runs

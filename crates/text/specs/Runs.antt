@@ -1,20 +1,21 @@
--- Runs over an input that comes in pieces, and what they print: stated over any text of a line and any length from which on lines count as
--- too long; proofs/RunLaws proves it.
+-- Runs over an input that comes in pieces, and what they print, for any text of a line and any longest line.
 use Rattle.std.specs.Prelude.{ℕ, ◌≤◌, ◌<◌, ◌≡◌, List, [], ◌∷◌, ◌++◌, length}
 use Rattle.text.specs.Bytes.{newline}
 use Rattle.text.specs.Parts.{count_before}
 use Rattle.text.specs.Stream.{LineTexts, texts, last_line, output_of}
-use Rattle.text.specs.Turns.{answered, carried}
+use Rattle.text.specs.Held.{answered, carried}
 
--- a run that holds some bytes, with the pieces ps still to come, prints out from there on
--- feed: a piece comes in; turn: whole lines are answered and the rest is carried over; end: the input has ended, and what is left is the
--- last line, if it is one
+-- a run that holds some bytes, with some pieces still to come, prints out from there on
+-- feed: a piece comes in
+-- turn: whole lines are answered, and the rest is carried over
+-- end: the input has ended, and what is left is the last line, if it is one
 pub data Run (t : LineTexts) (room : ℕ) : List ℕ → List (List ℕ) → List ℕ → Type 0 where
-  feed : (held piece : List ℕ) (pieces : List (List ℕ)) (out : List ℕ) → Run t room (held ++ piece) pieces out
-      → Run t room held (piece ∷ pieces) out
+  feed : (held piece : List ℕ) (pieces : List (List ℕ)) (out : List ℕ)
+      → Run t room (held ++ piece) pieces out → Run t room held (piece ∷ pieces) out
   turn : (held : List ℕ) (pieces : List (List ℕ)) (out : List ℕ) → Run t room (carried t room held) pieces out
       → Run t room held pieces (texts t (answered t room held) ++ out)
-  end : (held : List ℕ) → count_before newline held ≡ length held → Run t room held [] (texts t (last_line held))
+  end : (held : List ℕ) → count_before newline held ≡ length held
+      → Run t room held [] (texts t (last_line held))
 
 -- the pieces ps, one after the other
 unfoldable pub joined_pieces : List (List ℕ) → List ℕ
@@ -34,4 +35,5 @@ AnyPieces =
 -- for any pieces there is such a run, where the longest text has room
 abbrev pub SomeRun : Type 0
 SomeRun =
-    (t : LineTexts) (room : ℕ) → t.longest_text ≤ room → (pieces : List (List ℕ)) → (out : List ℕ) × Run t room [] pieces out
+    (t : LineTexts) (room : ℕ) → t.longest_text ≤ room → (pieces : List (List ℕ))
+    → (out : List ℕ) × Run t room [] pieces out

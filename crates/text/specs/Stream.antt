@@ -1,4 +1,4 @@
--- An input answered line by line (document 01, "Lines"), over any text of a line.
+-- An input answered line by line, for any text of a line.
 use Rattle.std.specs.Prelude.{ℕ, if◌then◌else◌, ◌==◌, length}
 use mathlib.Core.List.{List, [], ◌∷◌, flat_map}
 use Rattle.text.specs.Bytes.{newline}

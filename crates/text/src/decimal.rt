@@ -1,4 +1,4 @@
-//! Numbers written in decimal into a lent buffer. Each function writes from the buffer's start on and answers how many bytes it wrote.
+//! Numbers written in decimal into a lent buffer.
 
 ghost use Rattle.std.specs.Prelude.{◌≡◌, ◌≤◌, length};
 ghost use Rattle.text.specs.Decimal.{decimal, figures_text, row_text};
@@ -12,7 +12,8 @@ fn digit_count(n: u64) -> usize
     n.checked_ilog10().unwrap_or(0) as usize + 1
 }
 
-/// From the last digit to the first, which is what the divisions leave. `los` takes 2 % longer with a `for` over the places.
+/// Writes a number to the start of a buffer that has room for it; answers how many bytes it wrote.
+/// Its digits come from the last to the first, as the divisions leave them: `los` takes 2 % longer with a `for` over the places.
 #[tactic(auto, using(crate::proofs::RowLaws::filling))]
 pub fn put_number(n: u64, out: &mut [u8]) -> usize
     requires { length (decimal n) ≤ length out.old }
@@ -30,7 +31,7 @@ pub fn put_number(n: u64, out: &mut [u8]) -> usize
     count
 }
 
-/// Each number of a slice after a tab.
+/// Writes each number of a slice after a tab to the start of a buffer that has room for them; answers how many bytes it wrote.
 #[tactic(auto, using(crate::proofs::RowLaws::pieces))]
 pub fn put_figures(figures: &[u64], out: &mut [u8]) -> usize
     requires { length (figures_text figures.now) ≤ length out.old }
@@ -45,7 +46,8 @@ pub fn put_figures(figures: &[u64], out: &mut [u8]) -> usize
     count
 }
 
-/// A byte, each number after a tab, and a newline.
+/// Writes a byte, each number after a tab, and a newline to the start of a buffer that has room for them; answers how many bytes it
+/// wrote.
 #[tactic(auto, using(crate::proofs::RowLaws::pieces))]
 pub fn put_row(first: u8, figures: &[u64], out: &mut [u8]) -> usize
     requires { length (row_text first figures.now) ≤ length out.old }
