@@ -103,7 +103,7 @@ forecast-fit forecast case =
 -- lent memory that is refused, a line that is refused with 15, or a case
 of-line : (least most last : ℕ) (reply : Case → Reply) (lent : List Condition) → 15 ≤ last → first_refusal lent ≤ last
     → (first_refusal lent ≡ 0 → (case : Case) → WithinEnds least most last (reply case)) → (line : List ℕ)
-    → WithinEnds least most last (line_call reply (read_line line) lent)
+    → WithinEnds least most last (line_call reply line lent)
 of-line least most last reply lent k h ends line =
     unless_refused-by (first_refusal lent) (line_reply reply (read_line line)) refusal_reply (WithinEnds least most last)
     (λ z. read_line-by (λ r. WithinEnds least most last (line_reply reply r)) (ends z) (omega arith, k) line) (λ p. (p, h))
@@ -202,7 +202,7 @@ module _ (count last : ℕ) (h : 1 ≤ count) (number : Case → ℕ) (values : 
   reply case = figures_reply (number case) (values case)
 
   abbrev call : List ℕ → ℕ → Reply
-  call line room = line_call reply (read_line line) (buffer_refusals count room)
+  call line room = line_call reply line (buffer_refusals count room)
 
   hand-back-figures : HandsBackFigures count number values call
   unfolding written

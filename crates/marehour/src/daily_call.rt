@@ -2,25 +2,28 @@
 
 ghost use Rattle.std.specs.Prelude.{◌≡◌, length};
 ghost use Rattle.daily.specs.Daily.{shares_of};
-ghost use Rattle.marehour.specs.Calls.{daily_call, call_result, content, hands_back};
+ghost use Rattle.marehour.specs.Calls.{daily_call, call_result, content, handed_back, CanBeHandedBack};
 
-use crate::calls::{case_of, check_room, handed_back};
-use refusals::Refusal;
+use crate::calls::{check_room, handed_back};
 use daily::{FIGURE_COUNT, Shares};
+use lines::read;
+use refusals::Refusal;
 
+#[tactic(auto, using(crate::proofs::CallLaws::call_laws))]
 fn daily_in(
     line: &[u8],
     shares: Shares,
     daily_traffic: u64,
     figures: &mut [u64],
-) -> Result<i32, Refusal>
-    ensures result { hands_back result ≡ call_result (daily_call line.now shares daily_traffic (length figures.old)) }
+) -> Result<usize, Refusal>
+    ensures fits { CanBeHandedBack result }
+    ensures result { handed_back result ≡ call_result (daily_call line.now shares daily_traffic (length figures.old)) }
     ensures figures { figures.new ≡ content (daily_call line.now shares daily_traffic (length figures.old)) figures.old }
 {
-    let case = case_of(line, check_room(figures.len(), FIGURE_COUNT))?;
+    check_room(figures.len(), FIGURE_COUNT)?;
+    let case = read::read_line(line)?;
     let grade = daily::evaluate_daily(case, shares, daily_traffic)?;
-    let written = grade.put_figures(figures);
-    Ok(written as i32)
+    Ok(grade.put_figures(figures))
 }
 
 /// The answer to the line's case with the hourly demand of the daily traffic, and its daily service volumes.

@@ -2,20 +2,23 @@
 
 ghost use Rattle.std.specs.Prelude.{◌≡◌, length};
 ghost use Rattle.forecast.specs.Forecasts.{forecast_of};
-ghost use Rattle.marehour.specs.Calls.{forecast_call, call_result, content, hands_back};
+ghost use Rattle.marehour.specs.Calls.{forecast_call, call_result, content, handed_back, CanBeHandedBack};
 
-use crate::calls::{case_of, check_room, handed_back};
-use refusals::Refusal;
+use crate::calls::{check_room, handed_back};
 use forecast::{FIGURE_COUNT, Forecast, Range};
+use lines::read;
+use refusals::Refusal;
 
-fn forecast_in(line: &[u8], forecast: Forecast, figures: &mut [u64]) -> Result<i32, Refusal>
-    ensures result { hands_back result ≡ call_result (forecast_call line.now forecast (length figures.old)) }
+#[tactic(auto, using(crate::proofs::CallLaws::call_laws))]
+fn forecast_in(line: &[u8], forecast: Forecast, figures: &mut [u64]) -> Result<usize, Refusal>
+    ensures fits { CanBeHandedBack result }
+    ensures result { handed_back result ≡ call_result (forecast_call line.now forecast (length figures.old)) }
     ensures figures { figures.new ≡ content (forecast_call line.now forecast (length figures.old)) figures.old }
 {
-    let case = case_of(line, check_room(figures.len(), FIGURE_COUNT))?;
+    check_room(figures.len(), FIGURE_COUNT)?;
+    let case = read::read_line(line)?;
     let outcomes = forecast::evaluate_forecast(case, forecast)?;
-    let written = outcomes.put_figures(figures);
-    Ok(written as i32)
+    Ok(outcomes.put_figures(figures))
 }
 
 /// The best and the worst letter of the line's case within the ends, each with its combination.

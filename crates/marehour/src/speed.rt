@@ -3,14 +3,15 @@
 ghost use Rattle.std.specs.Prelude.{◌≡◌};
 ghost use Rattle.survey.specs.Survey.{survey_answer};
 ghost use Rattle.survey.specs.declared.SurveyedSpeed.TheVariants.{MilesPerHour, KilometresPerHour};
-ghost use Rattle.marehour.specs.Calls.{hands_back, survey_result};
+ghost use Rattle.marehour.specs.Calls.{handed_back, CanBeHandedBack, survey_result};
 
 use crate::calls::handed_back;
 use refusals::Refusal;
 use survey::{Survey, SurveyedSpeed};
 
-fn survey_speed(speed: SurveyedSpeed, cars: u32, flow: u32) -> Result<i32, Refusal>
-    ensures { hands_back result ≡ survey_result (survey_answer (record { speed = speed; cars = cars; flow = flow })) }
+fn survey_speed(speed: SurveyedSpeed, cars: u32, flow: u32) -> Result<usize, Refusal>
+    ensures fits { CanBeHandedBack result }
+    ensures result { handed_back result ≡ survey_result (survey_answer (record { speed = speed; cars = cars; flow = flow })) }
 {
     let survey = Survey {
         speed,
@@ -18,7 +19,7 @@ fn survey_speed(speed: SurveyedSpeed, cars: u32, flow: u32) -> Result<i32, Refus
         flow: u64::from(flow),
     };
     let thousandths = survey::surveyed_speed(survey)?;
-    Ok(thousandths as i32)
+    Ok(thousandths as usize)
 }
 
 /// From a float in miles per hour.
