@@ -67,7 +67,7 @@ fits-cons f fs v vs h r = (ap suc r.0, at)
     at (suc i) l = r.1 i (omega arith)
 
 -- what holds of no field, and of a field more where it is well formed, holds of the values of all
-by-fields : (P : List Field → List (List ℕ) → List ℕ → Type 0) → P [] [] []
+pub by-fields : (P : List Field → List (List ℕ) → List ℕ → Type 0) → P [] [] []
     → ((f : Field) (p : List ℕ) (v : ℕ) (fs : List Field) (ps : List (List ℕ)) (vs : List ℕ)
     → field_as f p ≡ Some v → P fs ps vs → P (f ∷ fs) (p ∷ ps) (v ∷ vs))
     → (fs : List Field) (ps : List (List ℕ)) (vs : List ℕ) → values_of fs ps ≡ Some vs → P fs ps vs
@@ -169,7 +169,7 @@ length-never-decides-alone bs = go (values_of layout (completed (parts tab bs)))
     go (Some vs) e = rw (le-ltb longest_line (length bs) (omega (arith, well-formed-length bs vs e)))
 
 -- a line that is read has values
-read-values : (bs : List ℕ) (case : Case) → read_line bs ≡ Ok case
+pub read-values : (bs : List ℕ) (case : Case) → read_line bs ≡ Ok case
     → (vs : List ℕ) × (values_of layout (completed (parts tab bs)) ≡ Some vs) × (case_of vs ≡ case)
 unfolding read_values
 read-values bs case e = go (values_of layout (completed (parts tab bs))) (sym (length-never-decides-alone bs) ∙ e)

@@ -7,3 +7,5 @@ pub mod FieldsLaws
 pub mod ReadingLaws
 -- the laws that specs/Laws states
 pub mod Laws
+-- a line with another demand in its tenth field
+pub mod DemandLaws

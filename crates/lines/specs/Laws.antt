@@ -1,8 +1,11 @@
 -- Laws of lines, stated; proofs/Laws proves them.
-use Rattle.std.specs.Prelude.{ℕ, ◌≤◌, ◌<◌, ◌≡◌, Some, Result, Ok, Err, List, [], ◌++◌, length, get_or, set}
+use Rattle.std.specs.Prelude.{ℕ, ◌≤◌, ◌<◌, ◌≡◌, Some, Result, Ok, Err, IsOk, List, [], ◌++◌, length, get_or, set}
+use Prim.Native.String.{String}
 use Rattle.text.specs.Bytes.{bytes_of, tab}
 use Rattle.text.specs.Parts.{parts}
+use Rattle.text.specs.Decimal.{decimal}
 use Rattle.road.specs.declared.Case.{Case}
+use Rattle.road.specs.Cases.{with_demand}
 use Rattle.road.specs.Refusals.{greatest_demand}
 use Rattle.refusals.specs.declared.Refusal.{Refusal}
 use Rattle.refusals.specs.Numbers.{number, refusal_number}
@@ -13,13 +16,22 @@ use Rattle.lines.specs.Reading.{read_values, read_by, read_line, case_values}
 abbrev pub LengthNeverDecidesAlone : Type 0
 LengthNeverDecidesAlone = (bs : List ℕ) → read_line bs ≡ read_values (values_of layout (completed (parts tab bs)))
 
--- longest_well_formed, WellFormedLinesAreShort: 74 bytes, and no line that is read has more
+-- the most bytes of a line that is read
 -- four letters, ten numbers of five digits and one of six, and fourteen tabs
 abbrev pub longest_well_formed : ℕ
 longest_well_formed = 74
 
+-- no line that is read has more
 abbrev pub WellFormedLinesAreShort : Type 0
 WellFormedLinesAreShort = (bs : List ℕ) (case : Case) → read_line bs ≡ Ok case → length bs ≤ longest_well_formed
+
+-- a line with every field as long as it may be
+abbrev pub longest : String
+longest = "M\tG\t99999\t99999\t99999\t99999\tT\t99999\t99999\t999999\t99999\t99999\tL\t99999\t99999"
+
+-- it has so many bytes and is read: no smaller number is the most
+abbrev pub LongestIsRead : Type 0
+LongestIsRead = (length (bytes_of longest) ≡ longest_well_formed) × IsOk (read_line (bytes_of longest))
 
 -- a line of 13 fields reads as the same line with 1000 and 1000
 -- "Lines of 13 fields mean 1,000 for both"
@@ -45,12 +57,19 @@ RefusalHasItsNumber = (r : Refusal) → (refusal_number {A = Case} (Err r) ≡ n
 abbrev pub DemandOnALine : Type 0
 DemandOnALine = (bs : List ℕ) (case : Case) → read_line bs ≡ Ok case → case.demand ≤ greatest_demand
 
--- older_layout, older_read_line bs: the fields before T-09, the demand with at most five digits as every
--- number; a line read by them
+-- a line that is read, with the digits of a demand in the place of its tenth field, reads as its case with that
+-- demand
+abbrev pub TenthFieldIsTheDemand : Type 0
+TenthFieldIsTheDemand =
+    (bs other : List ℕ) (case : Case) (demand : ℕ) → read_line bs ≡ Ok case → demand ≤ greatest_demand
+    → parts tab other ≡ set (parts tab bs) 9 (decimal demand) → read_line other ≡ Ok (with_demand case demand)
+
+-- the fields before T-09, the demand with at most five digits as every number
 -- "A number has one to five digits", the tenth field, V, too
 abbrev pub older_layout : List Field
 older_layout = set layout 9 (digits 5)
 
+-- a line read by them
 abbrev pub older_read_line : List ℕ → Result Case Refusal
 older_read_line bs = read_by older_layout bs
 

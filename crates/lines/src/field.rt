@@ -22,7 +22,7 @@ fn leading_zero(field: &[u8]) -> bool
 }
 
 /// A type whose values stand on a line as one letter each, out of an alphabet.
-pub trait Lettered: Sized {
+pub(crate) trait Lettered: Sized {
     ghost alphabet: { List ℕ };
 
     ghost byte: { Self → ℕ };
@@ -90,8 +90,8 @@ impl Lettered for Terrain {
 
 /// What is left of a line; none: no field is left. The readers are inlined, so that it stays in registers.
 #[derive(Drop)]
-pub struct Fields<'a> {
-    pub rest: Option<&'a [u8]>,
+pub(crate) struct Fields<'a> {
+    pub(crate) rest: Option<&'a [u8]>,
 }
 
 impl<'a> Fields<'a> {
@@ -121,7 +121,7 @@ impl<'a> Fields<'a> {
 
     /// A number of one to five digits.
     #[inline(always)]
-    pub fn number(&mut self) -> Option<u64>
+    pub(crate) fn number(&mut self) -> Option<u64>
         ensures { ReadsOne (digits 5) result (left self.old) (left self.new) }
     {
         self.number_up_to(MOST_DIGITS)
@@ -129,7 +129,7 @@ impl<'a> Fields<'a> {
 
     /// A number of one to six.
     #[inline(always)]
-    pub fn demand(&mut self) -> Option<u64>
+    pub(crate) fn demand(&mut self) -> Option<u64>
         ensures { ReadsOne (digits 6) result (left self.old) (left self.new) }
     {
         self.number_up_to(MOST_DEMAND_DIGITS)
@@ -137,7 +137,7 @@ impl<'a> Fields<'a> {
 
     /// A letter, as a value of the type that is asked for.
     #[inline(always)]
-    pub fn letter<T: Lettered>(&mut self) -> Option<T>
+    pub(crate) fn letter<T: Lettered>(&mut self) -> Option<T>
         ensures { ReadsOne (letters T.alphabet) (option_map T.byte result) (left self.old) (left self.new) }
     {
         match self.rest.take()? {

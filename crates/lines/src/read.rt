@@ -6,8 +6,8 @@ ghost use Rattle.lines.specs.Reading.{read_line, case_values};
 ghost use Rattle.lines.specs.Places.{left, or_clear, weather_values, road_values, Reads};
 
 use crate::field::Fields;
-use refusals::Refusal;
 use curve::Weather;
+use refusals::Refusal;
 use road::{Case, Road};
 
 /// "Longer than 80 bytes is malformed"
