@@ -23,7 +23,7 @@ use Rattle.forecast.specs.Instances.{wide}
 use Rattle.forecast.proofs.Instances.{wide-told}
 use Rattle.survey.specs.Boundary.{survey_facts}
 use Rattle.survey.proofs.Boundary.{survey-shown}
-use Rattle.lines.specs.Laws.{longest_well_formed}
+use Rattle.lines.specs.Laws.{longest_well_formed, longest}
 use Rattle.lines.specs.Fields.{layout, completed, spelled, number, letter, field_as, values_of}
 use Rattle.lines.specs.Reading.{case_of, read_values, read_line, case_values}
 use Rattle.replies.specs.Texts.{refusal_text, text_of, line_text}
@@ -32,7 +32,7 @@ use Rattle.replies.specs.Output.{line_texts}
 use Rattle.replies.proofs.TextsLaws.{line_text-refused, line_text-case}
 use Rattle.marehour.specs.Calls.{day_call, daily_call, forecast_call, content}
 use Rattle.marehour.proofs.Laws.{day-call-is-the-day, daily-hands-back, forecast-hands-back}
-use Rattle.marehour.specs.Boundary.{printed_line, printed_answer, snow_answer, longest, added_facts, boundary_facts}
+use Rattle.marehour.specs.Boundary.{printed_line, printed_answer, snow_answer, added_facts, boundary_facts}
 
 -- the printed line is the printed case
 pub line-read : read_line (bytes_of printed_line) ≡ Ok example

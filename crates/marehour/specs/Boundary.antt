@@ -14,7 +14,7 @@ use Rattle.refusals.specs.declared.Refusal.{Refusal}
 use Rattle.refusals.specs.Numbers.{refusal_number}
 use Rattle.road.specs.declared.Case.{Case}
 use Rattle.lines.specs.Reading.{read_line, case_values}
-use Rattle.lines.specs.Laws.{longest_well_formed, older_read_line}
+use Rattle.lines.specs.Laws.{longest_well_formed, longest, older_read_line}
 use Rattle.replies.specs.Texts.{line_text}
 use Rattle.text.specs.Stream.{output_of}
 use Rattle.replies.specs.Output.{line_texts}
@@ -76,10 +76,6 @@ printed_answer = "C\t60782\t230782\t1196\t60782\t197\t1117\t1829\t2642\t3360\t38
 -- what it prints for the same line with the factors 860 and 780
 abbrev pub snow_answer : String
 snow_answer = "C\t52272\t173372\t1196\t52222\t230\t960\t1572\t2221\t2636\t2898\n"
-
--- a well-formed line of 74 bytes
-abbrev pub longest : String
-longest = "M\tG\t99999\t99999\t99999\t99999\tT\t99999\t99999\t999999\t99999\t99999\tL\t99999\t99999"
 
 -- what this layer adds
 -- Starred: the printed line. Not starred: what is printed for it between an empty line and a last line without newline; an empty input; its

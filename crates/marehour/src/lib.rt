@@ -6,5 +6,6 @@ pub mod calls;
 pub mod daily_call;
 pub mod day_call;
 pub mod forecast_call;
+pub mod promises;
 pub mod speed;
 pub mod tries;
