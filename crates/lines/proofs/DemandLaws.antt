@@ -1,21 +1,19 @@
 -- A line with another demand in the place of its tenth field, and the longest line (specs/Laws).
-use Rattle.std.proofs.Common.{◌≡◌, ℕ, zero, suc, ◌+◌, ◌-◌, ◌*◌, ◌/◌, ◌%◌, ◌^◌, ◌≤◌, ◌<◌, true, Option, Some, None, Ok, List, [], ◌∷◌, ◌++◌}
-use Rattle.std.proofs.Common.{length, get_or, set, refl, sym, ap, ◌∙◌, subst, arith, pow-suc, lt-ltb, le-ltb, ⊎_elim, length-append}
+use Rattle.std.proofs.Common.{◌≡◌, ℕ, zero, suc, ◌+◌, ◌-◌, ◌*◌, ◌/◌, ◌%◌, ◌^◌, ◌≤◌, ◌<◌, Some, Ok, List, [], ◌∷◌, ◌++◌}
+use Rattle.std.proofs.Common.{length, get_or, set, refl, ap, ◌∙◌, arith, pow-suc, lt-ltb, le-ltb, ⊎_elim, length-append}
 use Rattle.std.proofs.lemmas.Bool.{cases_lt}
 use Rattle.std.proofs.lemmas.List.{set-append_left, get_or_append_left}
 use Rattle.std.proofs.lemmas.Grind.{common_steps}
-use Rattle.std.proofs.lemmas.Bool.Decides.{nat_tests}
-use Rattle.text.specs.Bytes.{bytes_of, tab}
+use Rattle.text.specs.Bytes.{tab}
 use Rattle.text.specs.Parts.{parts, on_first}
 use Rattle.text.specs.Decimal.{decimal_up_to, decimal}
-use Rattle.text.proofs.DigitLaws.{decimal-mono, decimal_pos}
-use Rattle.road.specs.declared.Case.{Case}
+use Rattle.text.proofs.DigitLaws.{decimal-mono}
 use Rattle.road.specs.Cases.{with_demand}
 use Rattle.road.specs.Refusals.{greatest_demand}
-use Rattle.lines.specs.Fields.{Field, digits, layout, clear_factors, completed, digit, spelled, leading_zero, number, letter, field_as, joined, values_of}
+use Rattle.lines.specs.Fields.{Field, digits, layout, completed, spelled, number, letter, field_as, values_of}
 use Rattle.lines.specs.Reading.{case_of, read_values, read_line}
 use Rattle.lines.specs.Laws.{LongestIsRead, TenthFieldIsTheDemand}
-use Rattle.lines.proofs.Laws.{by-fields, values_of-fits, values_of-sizes, length-never-decides-alone, read-values}
+use Rattle.lines.proofs.Laws.{by-fields, values_of-fits, length-never-decides-alone, read-values}
 
 -- ---- the digits of a number spell it
 spelled-push : (bs : List ℕ) (n m d : ℕ) → spelled n bs ≡ Some m → d < 10 → spelled n (bs ++ ((48 + d) ∷ [])) ≡ Some (10 * m + d)

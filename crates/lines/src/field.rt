@@ -4,7 +4,7 @@ ghost use Rattle.std.specs.Prelude.{◌≡◌, ◌≤◌, ℕ, List, option_map}
 ghost use Rattle.text.specs.Bytes.{bytes_of};
 ghost use Rattle.lines.specs.Fields.{digits, letters, leading_zero};
 ghost use Rattle.lines.specs.Reading.{kind_byte, way_byte, median_byte, terrain_byte};
-ghost use Rattle.lines.specs.Places.{left, letter_among, ReadsOne};
+ghost use Rattle.lines.specs.ReadSoFar.{left, letter_among, ReadsOne};
 
 use curve::kind::Kind;
 use road::{Median, Terrain, Way};

@@ -10,8 +10,7 @@ use Rattle.text.specs.Buffer.{written}
 use Rattle.text.specs.Decimal.{row_text}
 use Rattle.text.proofs.DigitLaws.{decimal-small}
 use Rattle.road.specs.declared.Case.{Case}
-use Rattle.road.specs.Cases.{with_demand, with_lanes}
-use Rattle.method.specs.Refusals.{Accepted}
+use Rattle.road.specs.Cases.{with_demand}
 use Rattle.answer.specs.declared.evaluate.Grade.{Grade}
 use Rattle.answer.specs.Answers.{answer_to, grade_figures}
 use Rattle.answer.specs.Lanes.{lanes_answer, lanes_figures}
@@ -24,7 +23,7 @@ use Rattle.lines.proofs.Laws.{demand-on-a-line}
 use Rattle.replies.specs.Texts.{letter_byte, text_of, answer_text, longest_answer}
 use Rattle.marehour.specs.Calls.{answer_call, lanes_call, count_text, count_reply, lanes_reply, call_result, content}
 use Rattle.marehour.specs.Shape.{answered, letter_written, NoBetterLetterUnderMoreLoad, LineMeets, MeetsUpToTheWrittenVolume}
-use Rattle.marehour.specs.Shape.{LeastCount, LanesDigitIsTheLeastCount}
+use Rattle.marehour.specs.Shape.{LanesDigitIsTheLeastCount}
 use Rattle.marehour.proofs.Laws.{answer-hands-back, lanes-read}
 
 -- ---- what is written for a line

@@ -10,7 +10,7 @@ use Rattle.lines.proofs.field.Fields.number_up_to.Goals.{else-loop-b-test, then-
 use Rattle.lines.proofs.field.Fields.number_up_to.Goals.{then-not-is_empty, else-not-is_empty}
 
 pub returns-in_err-line : goal.returns-in_err-line
-returns-in_err-line c = rw (c.from_residual.ensures, sym c.in_err-line.ensures.value) (none-left _ _)
+returns-in_err-line c = rw (c.from_residual.ensures, sym c.in_err-line.ensures.value) (none-left _)
 
 pub overflow_mul-value : goal.overflow_mul-value
 overflow_mul-value c = omega (arith, room-for-more _ _ c.loop-b.invariant.fits (omega arith))
@@ -34,7 +34,7 @@ loop-b-preserved c =
 pub returns-then-not-is_ascii_digit : goal.returns-then-not-is_ascii_digit
 returns-then-not-is_ascii_digit c =
     rw (sym c.in_ok-line.ensures.value)
-    (reads-none _ _ _
+    (reads-none _ _
     (read-stops _ _ _ c.loop-b.invariant.digits c.loop-b-test.true c.if-b-eq9.false _ _ c.is_ascii_digit.ensures.value
     (⊎_elim (λ e. inl e) (λ e. inr (omega arith)) c.then-not-is_ascii_digit.either)))
 
