@@ -7,3 +7,5 @@ pub mod ReadSoFar
 pub mod Reading
 -- laws of lines
 pub mod Laws
+-- what lines of the boundary sections are read as
+pub mod Boundary

@@ -1,5 +1,7 @@
 //! What is promised of lines. Each function does nothing: its contract is the promise.
 
+ghost use Rattle.refusals.specs.Facts.{Shown};
+ghost use Rattle.lines.specs.Boundary.{line_facts};
 ghost use Rattle.lines.specs.Laws.{LengthNeverDecidesAlone, WellFormedLinesAreShort, LongestIsRead, ClearWeatherMayBeLeftOut};
 ghost use Rattle.lines.specs.Laws.{OtherCountsAreMalformed, ValuesAreTheFields, RefusalHasItsNumber, DemandOnALine};
 ghost use Rattle.lines.specs.Laws.{TenthFieldIsTheDemand, FiveDigitsReadAsBefore, OlderReaderRefusesMore};
@@ -28,4 +30,9 @@ pub fn tenth_field_is_the_demand()
     ensures greatest { DemandOnALine }
     ensures five_digits { FiveDigitsReadAsBefore }
     ensures six_digits { OlderReaderRefusesMore }
+{}
+
+/// What each line of the boundary sections is read as, or that it is refused.
+pub fn boundary_lines()
+    ensures { Shown line_facts }
 {}

@@ -10,7 +10,7 @@ use Rattle.answer.specs.Tries.{demands_tried, counted_answer}
 use Rattle.refusals.specs.declared.Refusal.{Refusal}
 use Rattle.refusals.specs.Numbers.{number}
 use Rattle.lines.specs.Reading.{read_line}
-use Rattle.marehour.specs.Boundary.{printed_line}
+use Rattle.lines.specs.Boundary.{printed_line}
 
 -- the count n of an answer with a grade, or minus the refusal's number
 abbrev pub tries_result : Result Grade Refusal → ℕ → ℤ

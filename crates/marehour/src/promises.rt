@@ -16,8 +16,7 @@ pub fn shape_of_the_calls()
     ensures letter { NoBetterLetterUnderMoreLoad }
     ensures volume { MeetsUpToTheWrittenVolume }
     ensures lanes { LanesDigitIsTheLeastCount }
-{
-}
+{}
 
 /// What each call over a line hands back and writes: minus 17 where too little is lent, else minus 15 where the line is malformed, else
 /// minus the number of its case's refusal; else the count of what stands from the start on. Behind it, and at a refusal everywhere,
@@ -28,8 +27,7 @@ pub fn calls_hand_back()
     ensures letter { LetterOutsideIsRefused }
     ensures daily { DailyHandsBack }
     ensures forecast { ForecastHandsBack }
-{
-}
+{}
 
 /// A day's call hands back minus 18 where the lent memory does not fit, else minus 15 where the line is malformed, else the count of
 /// its demands. It is the day of the line's case, and a position holds what a line with that demand is answered.
@@ -37,8 +35,7 @@ pub fn day_hands_back()
     ensures result { DayHandsBack }
     ensures day { DayCallIsTheDay }
     ensures position { PositionIsTheLinesAnswer }
-{
-}
+{}
 
 /// Every call over a line hands back what is within its ends, never 0, and the ends are reached.
 pub fn replies_are_within_their_ends()
@@ -46,18 +43,15 @@ pub fn replies_are_within_their_ends()
     ensures short { BufferTooShort }
     ensures no_demand { NoDemandIsRefused }
     ensures last { LastRefusalIsReached }
-{
-}
+{}
 
 /// The count of the tried demands is from 1 to 80, or minus the refusal of the line or its case. The printed line has 67.
 pub fn tries_hand_back()
     ensures result { TriesHandBack }
     ensures printed { TriesOfLines }
-{
-}
+{}
 
 /// Each fact of the boundary sections is what is printed for it.
 pub fn boundary_sections()
     ensures { Shown boundary_facts }
-{
-}
+{}
