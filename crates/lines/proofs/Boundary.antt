@@ -3,6 +3,7 @@ use Rattle.std.proofs.Common.{◌≡◌, Result, Ok, Err, refl, sym, ap, ◌∙�
 use mathlib.Core.List.{flat_map}
 use Rattle.text.specs.Bytes.{bytes_of}
 use Rattle.text.specs.Parts.{on_first, parts}
+use Rattle.text.specs.Decimal.{decimal_up_to, decimal}
 use Rattle.refusals.specs.declared.Refusal.{Refusal}
 use Rattle.refusals.specs.Facts.{Shown}
 use Rattle.refusals.proofs.NumberLaws.{number-above}
@@ -13,7 +14,7 @@ use Rattle.lines.specs.Boundary.{told, line_facts}
 use Rattle.lines.proofs.ReadingLaws.{case_of-values}
 
 pub lines-shown : Shown line_facts
-unfolding flat_map on_first parts layout completed spelled number letter field_as values_of case_of read_values read_line line_facts
+unfolding flat_map on_first parts decimal_up_to decimal layout completed spelled number letter field_as values_of case_of read_values read_line line_facts
 lines-shown = (refl, (refl, (refl, (refl, (refl, (refl, (refl, (refl, tt))))))))
 
 -- a line that tells what a case does is read as that case

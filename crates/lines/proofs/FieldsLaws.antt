@@ -8,6 +8,7 @@ use Rattle.std.proofs.lemmas.Bool.Decides.{nat_tests}
 use Rattle.std.specs.Borrow.{Bor}
 use Rattle.text.specs.Bytes.{tab}
 use Rattle.text.specs.Parts.{parts, count_before}
+use Rattle.text.specs.Decimal.{decimal_up_to, decimal}
 use Rattle.text.proofs.PartsLaws.{count_before-le, parts-one, parts-more, parts-pos}
 use Rattle.lines.specs.Fields.{Field, layout, letters, letter, clear_factors, completed, spelled, number, field_as, values_of, joined}
 use Rattle.lines.specs.ReadSoFar.{first_field, before, Reads, ReadsOne, letter_among, or_clear, parts_left, weather_values}
@@ -108,7 +109,7 @@ two-joined v w (Some vs) = refl
 -- clear weather's factors, read
 pub clear-read : (behind : List Field) → values_of (drop 13 layout ++ behind) clear_factors
     ≡ before (Some (weather_values clear)) (values_of behind [])
-unfolding layout values_of field_as number spelled
+unfolding decimal_up_to decimal layout values_of field_as number spelled
 clear-read behind = two-joined 1000 1000 (values_of behind [])
 
 -- where a part is left, no weather is taken as clear

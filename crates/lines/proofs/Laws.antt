@@ -7,6 +7,7 @@ use native.Mathlib.Nat.{pow-le-pow_right}
 use Rattle.numbers.proofs.BoolLaws.{cond-all}
 use Rattle.text.specs.Bytes.{bytes_of, tab}
 use Rattle.text.specs.Parts.{parts, on_first}
+use Rattle.text.specs.Decimal.{decimal_up_to, decimal}
 use Rattle.text.proofs.PartsLaws.{parts-append, spread, parts-spread}
 use Rattle.refusals.specs.declared.Refusal.{Refusal}
 use Rattle.road.specs.declared.Case.{Case}
@@ -187,7 +188,7 @@ unfolding completed
 completed-thirteen ps h = grind (arith, common_steps)
 
 pub clear-weather-may-be-left-out : ClearWeatherMayBeLeftOut
-unfolding parts on_first
+unfolding parts on_first decimal_up_to decimal
 clear-weather-may-be-left-out bs h =
     length-never-decides-alone (bs ++ bytes_of "\t1000\t1000")
     ∙ ap (λ ps. read_values (values_of layout ps))

@@ -13,7 +13,8 @@ use Rattle.lines.specs.Laws.{longest_well_formed, longest, older_read_line}
 -- the printed line with another demand and another terrain
 -- tabs as blanks: F E 75400 110 20 0 D 24 2 V 920 50, and the terrain
 abbrev pub printed_line_with : String → String → String
-printed_line_with demand terrain = "F\tE\t75400\t110\t20\t0\tD\t24\t2\t" then (demand then ("\t920\t50\t" then terrain))
+printed_line_with demand terrain =
+    "F\tE\t75400\t110\t20\t0\tD\t24\t2\t" then (demand then ("\t920\t50\t" then terrain))
 
 -- the line of document 01
 abbrev pub printed_line : String
@@ -38,16 +39,18 @@ read_before line = told (older_read_line (bytes_of line))
 -- what the printed line with another demand and with two factors is read as
 abbrev pub printed_values : ℕ → (speed_factor capacity_factor : ℕ) → List ℕ
 printed_values demand speed_factor capacity_factor =
-    0 ∷ 70 ∷ 69 ∷ 75400 ∷ 110 ∷ 20 ∷ 0 ∷ 68 ∷ 24 ∷ 2 ∷ demand ∷ 920 ∷ 50 ∷ 82 ∷ speed_factor ∷ capacity_factor ∷ []
+    0 ∷ 70 ∷ 69 ∷ 75400 ∷ 110 ∷ 20 ∷ 0 ∷ 68 ∷ 24 ∷ 2 ∷ demand ∷ 920 ∷ 50 ∷ 82
+    ∷ speed_factor ∷ capacity_factor ∷ []
 
 -- lines that are refused with 15
--- an empty line, and a line of one field; with no demand, with a leading zero in a demand of two to seven digits, with seven digits; with
--- six digits in each other number; with an unknown terrain, with a leading zero in a factor; with 14 fields, of which the last is empty or
--- not, and with 16
+-- an empty line, and a line of one field; with no demand, with a leading zero in a demand of two to seven
+-- digits, with seven digits; with six digits in each other number; with an unknown terrain, with a leading zero
+-- in a factor; with 14 fields, of which the last is empty or not, and with 16
 abbrev pub malformed_lines : List String
 malformed_lines =
     "" ∷ "F"
-    ∷ map (λ demand. printed_line_with demand "R") ("" ∷ "00" ∷ "007" ∷ "0100" ∷ "02000" ∷ "099999" ∷ "0999999" ∷ "1000000" ∷ [])
+    ∷ map (λ demand. printed_line_with demand "R")
+    ("" ∷ "00" ∷ "007" ∷ "0100" ∷ "02000" ∷ "099999" ∷ "0999999" ∷ "1000000" ∷ [])
     ++ (
     "F\tE\t100000\t110\t20\t0\tD\t24\t2\t2000\t920\t50\tR"
     ∷ "F\tE\t75400\t100000\t20\t0\tD\t24\t2\t2000\t920\t50\tR"
@@ -67,8 +70,9 @@ malformed_lines =
     ∷ []
     )
 
--- the printed line; with the factors of snow, and with a factor of 99999, which 19 refuses later; with a demand of six digits, by the reader
--- before T-09 too, and by that with five; the lines that are refused; the longest line that is read
+-- what lines are read as
+-- the printed line; with the factors of snow, and with a factor of 99999, which 19 refuses later; with a demand of
+-- six digits, by the reader before T-09 too, and by that with five; the lines that are refused; the longest line
 unfoldable pub line_facts : List Fact
 line_facts =
     fact (read_as printed_line) (printed_values 2000 1000 1000)
@@ -79,5 +83,6 @@ line_facts =
     ∷ fact (read_before (printed_line_with "99999" "R")) (printed_values 99999 1000 1000)
     ∷ fact (flat_map read_as malformed_lines) (replicate (length malformed_lines) 15)
     ∷ fact (length (bytes_of longest) ∷ read_as longest)
-    (longest_well_formed ∷ 0 ∷ 77 ∷ 71 ∷ 99999 ∷ 99999 ∷ 99999 ∷ 99999 ∷ 84 ∷ 99999 ∷ 99999 ∷ 999999 ∷ 99999 ∷ 99999 ∷ 76 ∷ 99999 ∷ 99999 ∷ [])
+    (longest_well_formed ∷ 0 ∷ 77 ∷ 71 ∷ 99999 ∷ 99999 ∷ 99999 ∷ 99999 ∷ 84 ∷ 99999 ∷ 99999 ∷ 999999 ∷ 99999 ∷ 99999
+    ∷ 76 ∷ 99999 ∷ 99999 ∷ [])
     ∷ []

@@ -14,7 +14,8 @@ use Rattle.lines.specs.Reading.{read_values, read_by, read_line, case_values}
 
 -- a line is read by its fields: none of more than 80 bytes has well-formed ones
 abbrev pub LengthNeverDecidesAlone : Type 0
-LengthNeverDecidesAlone = (bs : List ℕ) → read_line bs ≡ read_values (values_of layout (completed (parts tab bs)))
+LengthNeverDecidesAlone =
+    (bs : List ℕ) → read_line bs ≡ read_values (values_of layout (completed (parts tab bs)))
 
 -- the most bytes of a line that is read
 -- four letters, ten numbers of five digits and one of six, and fourteen tabs
@@ -23,7 +24,8 @@ longest_well_formed = 74
 
 -- no line that is read has more
 abbrev pub WellFormedLinesAreShort : Type 0
-WellFormedLinesAreShort = (bs : List ℕ) (case : Case) → read_line bs ≡ Ok case → length bs ≤ longest_well_formed
+WellFormedLinesAreShort =
+    (bs : List ℕ) (case : Case) → read_line bs ≡ Ok case → length bs ≤ longest_well_formed
 
 -- a line with every field as long as it may be
 abbrev pub longest : String
@@ -42,23 +44,26 @@ ClearWeatherMayBeLeftOut =
 -- fewer than 13 fields, 14, or more than 15 are malformed
 abbrev pub OtherCountsAreMalformed : Type 0
 OtherCountsAreMalformed =
-    (bs : List ℕ) → (length (parts tab bs) ≡ 13 → ⊥) → (length (parts tab bs) ≡ 15 → ⊥) → read_line bs ≡ Err Refusal.LineMalformed
+    (bs : List ℕ) → (length (parts tab bs) ≡ 13 → ⊥) → (length (parts tab bs) ≡ 15 → ⊥)
+    → read_line bs ≡ Err Refusal.LineMalformed
 
 -- the values of a line that is read are those of its fields, in their order
 abbrev pub ValuesAreTheFields : Type 0
-ValuesAreTheFields = (bs vs : List ℕ) → values_of layout (completed (parts tab bs)) ≡ Some vs → case_values (read_line bs) ≡ vs
+ValuesAreTheFields =
+    (bs vs : List ℕ) → values_of layout (completed (parts tab bs)) ≡ Some vs → case_values (read_line bs) ≡ vs
 
 -- the number of a refused line is the documents' number of its refusal, and it has no values
 abbrev pub RefusalHasItsNumber : Type 0
-RefusalHasItsNumber = (r : Refusal) → (refusal_number {A = Case} (Err r) ≡ number r) × (case_values (Err r) ≡ [])
+RefusalHasItsNumber =
+    (r : Refusal) → (refusal_number {A = Case} (Err r) ≡ number r) × (case_values (Err r) ≡ [])
 
 -- no line can hold a demand that 7 refuses
 -- "Refusal 7, now for V above 999,999, is still met only by a caller who hands over numbers"
 abbrev pub DemandOnALine : Type 0
 DemandOnALine = (bs : List ℕ) (case : Case) → read_line bs ≡ Ok case → case.demand ≤ greatest_demand
 
--- a line that is read, with the digits of a demand in the place of its tenth field, reads as its case with that
--- demand
+-- a line that is read, with the digits of a demand in the place of its tenth field, reads as its case with
+-- that demand
 abbrev pub TenthFieldIsTheDemand : Type 0
 TenthFieldIsTheDemand =
     (bs other : List ℕ) (case : Case) (demand : ℕ) → read_line bs ≡ Ok case → demand ≤ greatest_demand
@@ -85,4 +90,5 @@ FiveDigitsReadAsBefore = (bs : List ℕ) → length (demand_field bs) ≤ 5 → 
 -- with more, an older reader meets 15
 -- "an older reader meets a six-digit demand with refusal 15"
 abbrev pub OlderReaderRefusesMore : Type 0
-OlderReaderRefusesMore = (bs : List ℕ) → 5 < length (demand_field bs) → older_read_line bs ≡ Err Refusal.LineMalformed
+OlderReaderRefusesMore =
+    (bs : List ℕ) → 5 < length (demand_field bs) → older_read_line bs ≡ Err Refusal.LineMalformed

@@ -29,8 +29,8 @@ before None ws = None
 before (Some vs) None = None
 before (Some vs) (Some ws) = Some (vs ++ ws)
 
--- the fields fs have been read off the parts ps: they have the values vs, none where they are malformed, and qs are
--- left for whatever fields stand behind them
+-- the fields fs have been read off the parts ps: they have the values vs, none where they are malformed, and
+-- qs are left for whatever fields stand behind them
 abbrev pub Reads : (fs : List Field) (vs : Option (List ℕ)) (ps qs : List (List ℕ)) → Type 0
 Reads fs vs ps qs = (behind : List Field) → values_of (fs ++ behind) ps ≡ before vs (values_of behind qs)
 
@@ -45,13 +45,14 @@ letter_among ls b = if one_of b ls then Some b else None
 -- the values of a road
 abbrev pub road_values : Road → List ℕ
 road_values r =
-    kind_byte r.kind ∷ way_byte r.way ∷ r.speed ∷ r.lane_width ∷ r.right_clearance ∷ r.left_clearance ∷ median_byte r.median
-    ∷ r.access ∷ []
+    kind_byte r.kind ∷ way_byte r.way ∷ r.speed ∷ r.lane_width ∷ r.right_clearance ∷ r.left_clearance
+    ∷ median_byte r.median ∷ r.access ∷ []
 
 -- the values of a case, its weather's aside
 abbrev pub clear_values : Case → List ℕ
 clear_values c =
-    road_values c.road ++ (c.lanes ∷ c.demand ∷ c.peak_hour_factor ∷ c.heavy_share ∷ terrain_byte c.terrain ∷ [])
+    road_values c.road
+    ++ (c.lanes ∷ c.demand ∷ c.peak_hour_factor ∷ c.heavy_share ∷ terrain_byte c.terrain ∷ [])
 
 -- the values of the weather
 abbrev pub weather_values : Weather → List ℕ
