@@ -44,8 +44,8 @@ printed_values demand speed_factor capacity_factor =
 
 -- lines that are refused with 15
 -- an empty line, and a line of one field; with no demand, with a leading zero in a demand of two to seven
--- digits, with seven digits; with six digits in each other number; with an unknown terrain, with a leading zero
--- in a factor; with 14 fields, of which the last is empty or not, and with 16
+-- digits, with seven digits; with six digits in each other number; with an unknown terrain, with a leading
+-- zero in a factor; with 14 fields, of which the last is empty or not, and with 16
 abbrev pub malformed_lines : List String
 malformed_lines =
     "" ∷ "F"
@@ -71,8 +71,9 @@ malformed_lines =
     )
 
 -- what lines are read as
--- the printed line; with the factors of snow, and with a factor of 99999, which 19 refuses later; with a demand of
--- six digits, by the reader before T-09 too, and by that with five; the lines that are refused; the longest line
+-- the printed line; with the factors of snow, and with a factor of 99999, which 19 refuses later; with a
+-- demand of six digits, by the reader before T-09 too, and by that with five; the lines that are refused; the
+-- longest line
 unfoldable pub line_facts : List Fact
 line_facts =
     fact (read_as printed_line) (printed_values 2000 1000 1000)
@@ -83,6 +84,6 @@ line_facts =
     ∷ fact (read_before (printed_line_with "99999" "R")) (printed_values 99999 1000 1000)
     ∷ fact (flat_map read_as malformed_lines) (replicate (length malformed_lines) 15)
     ∷ fact (length (bytes_of longest) ∷ read_as longest)
-    (longest_well_formed ∷ 0 ∷ 77 ∷ 71 ∷ 99999 ∷ 99999 ∷ 99999 ∷ 99999 ∷ 84 ∷ 99999 ∷ 99999 ∷ 999999 ∷ 99999 ∷ 99999
-    ∷ 76 ∷ 99999 ∷ 99999 ∷ [])
+    (longest_well_formed ∷ 0 ∷ 77 ∷ 71 ∷ 99999 ∷ 99999 ∷ 99999 ∷ 99999 ∷ 84 ∷ 99999 ∷ 99999 ∷ 999999
+    ∷ 99999 ∷ 99999 ∷ 76 ∷ 99999 ∷ 99999 ∷ [])
     ∷ []

@@ -85,5 +85,6 @@ abbrev pub case_values : Result Case Refusal → List ℕ
 case_values (Ok c) =
     kind_byte c.road.kind ∷ way_byte c.road.way ∷ c.road.speed ∷ c.road.lane_width ∷ c.road.right_clearance
     ∷ c.road.left_clearance ∷ median_byte c.road.median ∷ c.road.access ∷ c.lanes ∷ c.demand
-    ∷ c.peak_hour_factor ∷ c.heavy_share ∷ terrain_byte c.terrain ∷ c.weather.speed_factor ∷ c.weather.capacity_factor ∷ []
+    ∷ c.peak_hour_factor ∷ c.heavy_share ∷ terrain_byte c.terrain
+    ∷ c.weather.speed_factor ∷ c.weather.capacity_factor ∷ []
 case_values (Err r) = []

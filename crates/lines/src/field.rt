@@ -88,14 +88,16 @@ impl Lettered for Terrain {
     }
 }
 
-/// What is left of a line; none: no field is left. The readers are inlined, so that it stays in registers.
+/// What is left of a line, its fields parted by tabs; none where no field is left. The readers are inlined, so that it
+/// stays in registers.
 #[derive(Drop)]
 pub(crate) struct Fields<'a> {
     pub(crate) rest: Option<&'a [u8]>,
 }
 
 impl<'a> Fields<'a> {
-    /// A number of one to so many digits, in one pass over its bytes.
+    /// The first field that is left, a number of one to so many digits, in one pass over its bytes; none where it is
+    /// malformed.
     #[inline(always)]
     fn number_up_to(&mut self, most_digits: usize) -> Option<u64>
         requires fits { most_digits ≤ 19 }
@@ -127,7 +129,7 @@ impl<'a> Fields<'a> {
         self.number_up_to(MOST_DIGITS)
     }
 
-    /// A number of one to six.
+    /// A number of one to six digits.
     #[inline(always)]
     pub(crate) fn demand(&mut self) -> Option<u64>
         ensures { ReadsOne (digits 6) result (left self.old) (left self.new) }

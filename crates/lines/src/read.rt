@@ -1,4 +1,4 @@
-//! A line read into a case or its refusal.
+//! A line read as the case that it describes.
 
 ghost use Rattle.std.specs.Prelude.{◌≡◌, Ok, [], take, drop, option_map};
 ghost use Rattle.lines.specs.Fields.{layout, completed, values_of};
@@ -10,7 +10,7 @@ use curve::Weather;
 use refusals::Refusal;
 use road::{Case, Road};
 
-/// "Longer than 80 bytes is malformed"
+/// The most bytes of a line: "Longer than 80 bytes is malformed".
 pub const LONGEST_LINE: usize = 80;
 
 impl<'a> Fields<'a> {
@@ -30,7 +30,8 @@ impl<'a> Fields<'a> {
     #[inline(always)]
     #[tactic(auto, using(crate::proofs::FieldsLaws::weather_laws))]
     fn weather(&mut self) -> Option<Weather>
-        ensures { Reads (drop 13 layout) (option_map weather_values result) (or_clear (left self.old)) (left self.new) }
+        ensures { Reads (drop 13 layout) (option_map weather_values result)
+            (or_clear (left self.old)) (left self.new) }
     {
         match self.rest {
             None => Some(Weather::CLEAR),
@@ -82,7 +83,9 @@ impl<'a> Fields<'a> {
     }
 }
 
-/// Not inlined, so that the engine that a caller goes on to has the registers.
+/// The case of a line without its newline, 13 or 15 fields parted by tabs; 15 where the line is malformed or longer
+/// than 80 bytes. What the numbers may be is not asked. Not inlined, so that the engine that a caller goes on to has
+/// the registers.
 #[inline(never)]
 #[tactic(auto, using(crate::proofs::FieldsLaws::line_laws), unfolding(crate::specs::Reading::read_values))]
 pub fn read_line(line: &[u8]) -> Result<Case, Refusal>

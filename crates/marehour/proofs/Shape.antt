@@ -1,30 +1,38 @@
 -- The shape of the method as a host meets it (specs/Shape), by the promises of the answers and what the calls hand back.
 use Rattle.std.proofs.Common.{◌≡◌, ◌↔◌, ℕ, zero, suc, ◌+◌, ◌≤◌, ◌<◌, Result, Ok, Err, List, [], ◌∷◌, ◌++◌, length, drop, get_or, pos, neg_ℤ}
-use Rattle.std.proofs.Common.{refl, sym, ap, ◌∙◌, arith, ⊎_elim, eq-zero-or-pos}
+use Rattle.std.proofs.Common.{refl, sym, ap, ◌∙◌, arith, ⊎_elim, eq-zero-or-pos, lit≤, lit<}
 use Rattle.std.proofs.lemmas.Grind.{common_steps}
 use Rattle.refusals.specs.declared.Refusal.{Refusal}
 use Rattle.refusals.specs.Numbers.{number, refusal_number}
 use Rattle.refusals.proofs.NumberLaws.{number-above}
-use Rattle.text.specs.Bytes.{newline}
+use Rattle.text.specs.Bytes.{bytes_of, newline}
+use Rattle.text.specs.Parts.{on_first, parts}
 use Rattle.text.specs.Buffer.{written}
-use Rattle.text.specs.Decimal.{row_text}
+use Rattle.text.specs.Decimal.{decimal_up_to, decimal, row_text}
 use Rattle.text.proofs.DigitLaws.{decimal-small}
 use Rattle.road.specs.declared.Case.{Case}
 use Rattle.road.specs.Cases.{with_demand}
 use Rattle.answer.specs.declared.evaluate.Grade.{Grade}
 use Rattle.answer.specs.Answers.{answer_to, grade_figures}
 use Rattle.answer.specs.Lanes.{lanes_answer, lanes_figures}
-use Rattle.answer.specs.Promises.{letter_in, Meets}
+use Rattle.answer.specs.Promises.{letter_in, volume_in, Meets}
+use Rattle.answer.specs.Boundary.{example_with}
+use Rattle.method.specs.Boundary.{example}
+use Rattle.road.specs.Refusals.{greatest_demand}
+use Rattle.answer.proofs.Boundary.{example-accepted, example-figures, none-at-999999}
 use Rattle.answer.proofs.Laws.{found-digit}
 use Rattle.answer.proofs.AnswerLaws.{answer_to-number}
 use Rattle.answer.proofs.Promises.{no-better-under-more-load, meets-up-to-the-service-volume, least-accepted-count}
 use Rattle.lines.specs.Reading.{read_line}
+use Rattle.lines.specs.Boundary.{printed_line, printed_line_with}
 use Rattle.lines.proofs.Laws.{demand-on-a-line}
+use Rattle.lines.proofs.DemandLaws.{tenth-field-is-the-demand}
 use Rattle.replies.specs.Texts.{letter_byte, text_of, answer_text, longest_answer}
 use Rattle.marehour.specs.Calls.{answer_call, lanes_call, count_text, count_reply, lanes_reply, call_result, content}
 use Rattle.marehour.specs.Shape.{answered, letter_written, NoBetterLetterUnderMoreLoad, LineMeets, MeetsUpToTheWrittenVolume}
-use Rattle.marehour.specs.Shape.{LanesDigitIsTheLeastCount}
-use Rattle.marehour.proofs.Laws.{answer-hands-back, lanes-read}
+use Rattle.marehour.specs.Shape.{LanesDigitIsTheLeastCount, PrintedLineMeetsUpTo2642}
+use Rattle.marehour.proofs.Laws.{answer-hands-back, lanes-hand-back, lanes-read}
+use Rattle.marehour.proofs.Boundary.{line-read}
 
 -- ---- what is written for a line
 -- no refusal's number is handed back as a count
@@ -136,4 +144,28 @@ lanes-digit-is-the-least-count line old case n room e h k fit =
           (λ m. (least.0 count).0 (bytes.0 (rw reply at m)), λ l. rw reply (bytes.1 ((least.0 count).1 l))),
       let refused = by-14 (lanes_answer case n) in
           (λ m. least.1.0 (refused.0 (rw reply at m)), λ none. rw reply (refused.1 (least.1.1 none))),
+    )
+
+-- ---- the printed line with another demand
+with-2642 : read_line (bytes_of (printed_line_with "2642" "R")) ≡ Ok (example_with 2642)
+unfolding on_first parts decimal_up_to decimal
+with-2642 = tenth-field-is-the-demand (bytes_of printed_line) _ example 2642 line-read (lit≤ tt) refl
+
+with-2643 : read_line (bytes_of (printed_line_with "2643" "R")) ≡ Ok (example_with 2643)
+unfolding on_first parts decimal_up_to decimal
+with-2643 = tenth-field-is-the-demand (bytes_of printed_line) _ example 2643 line-read (lit≤ tt) refl
+
+with-999999 : read_line (bytes_of (printed_line_with "999999" "R")) ≡ Ok (example_with 999999)
+unfolding on_first parts decimal_up_to decimal
+with-999999 = tenth-field-is-the-demand (bytes_of printed_line) _ example 999999 line-read (lit≤ tt) refl
+
+pub printed-line-meets-up-to-2642 : PrintedLineMeetsUpTo2642
+printed-line-meets-up-to-2642 old room =
+    let volume : volume_in (answer_to example) 3 ≡ 2642 = ap (λ vs. get_or vs 8 0) example-figures in
+    let up-to : (demand : ℕ) → demand ≤ greatest_demand → Meets (with_demand example demand) 3 ↔ (demand ≤ volume_in (answer_to example) 3) =
+    meets-up-to-the-service-volume example example-accepted 3 (lit≤ tt) (lit≤ tt) in (
+      (line-meets _ old (example_with 2642) room with-2642 3).1 ((up-to 2642 (lit≤ tt)).1 (omega (arith, volume))),
+      λ m. let less = (up-to 2643 (lit≤ tt)).0 ((line-meets _ old (example_with 2643) room with-2643 3).0 m) in
+          absurd (omega (arith, volume, less)),
+      (((lanes-hand-back 3 _ old).2 room (example_with 999999) with-999999).0 14 none-at-999999 (lit< tt)).0,
     )

@@ -1,5 +1,4 @@
--- The boundary sections of document 01, with the ramp term of T-08, and of T-03 and T-09 of document 02: one list, those of the layers
--- below with what this layer adds.
+-- The boundary sections: one list, those of the layers below with what is printed and handed back.
 use Rattle.std.specs.Prelude.{List, [], ◌∷◌, ◌++◌, replicate}
 use Prim.Native.String.{String, ◌++◌ as ◌then◌}
 use Rattle.text.specs.Bytes.{bytes_of}
@@ -24,17 +23,21 @@ abbrev pub snow_answer : String
 snow_answer = "C\t52272\t173372\t1196\t52222\t230\t960\t1572\t2221\t2636\t2898\n"
 
 -- what this layer adds
--- Starred: the printed line. Not starred: what is printed for it between an empty line and a last line without newline; an empty input; its
--- day with 2,000, 1,000,000 and 2,643; its daily figures with 40,404 vehicles, K 90 and D 550; its letters with a demand of 1,000 to 4,000,
--- a share of 0 to 100 and a factor of 850 to 950; the line in snow, and with a factor of 99999, which is 19.
+-- Starred: the printed line. Not starred: what is printed for it between an empty line and a last line
+-- without newline; an empty input; its day with 2,000, 1,000,000 and 2,643; its daily figures with 40,404
+-- vehicles, K 90 and D 550; its letters with a demand of 1,000 to 4,000, a share of 0 to 100 and a factor of
+-- 850 to 950; the line in snow, and with a factor of 99999, which is 19
 unfoldable pub added_facts : List Fact
 added_facts =
     fact (line_text (bytes_of printed_line)) (bytes_of printed_answer)
-    ∷ fact (output_of line_texts (bytes_of ("\n" then (printed_line then "\nF")))) (bytes_of ("X\t15\n" then (printed_answer then "X\t15\n")))
+    ∷ fact (output_of line_texts (bytes_of ("\n" then (printed_line then "\nF"))))
+    (bytes_of ("X\t15\n" then (printed_answer then "X\t15\n")))
     ∷ fact (output_of line_texts (bytes_of "")) (bytes_of "")
     ∷ fact (content (day_call (bytes_of printed_line) example_demands 38) (replicate 38 9)) example_day
-    ∷ fact (content (daily_call (bytes_of printed_line) urban 40404 17) (replicate 17 9)) (printed_figures ++ (9 ∷ []))
-    ∷ fact (content (forecast_call (bytes_of printed_line) wide 9) (replicate 9 9)) (1 ∷ 1000 ∷ 0 ∷ 950 ∷ 6 ∷ 4000 ∷ 100 ∷ 850 ∷ 9 ∷ [])
+    ∷ fact (content (daily_call (bytes_of printed_line) urban 40404 17) (replicate 17 9))
+    (printed_figures ++ (9 ∷ []))
+    ∷ fact (content (forecast_call (bytes_of printed_line) wide 9) (replicate 9 9))
+    (1 ∷ 1000 ∷ 0 ∷ 950 ∷ 6 ∷ 4000 ∷ 100 ∷ 850 ∷ 9 ∷ [])
     ∷ fact (line_text (bytes_of (printed_line_under "860\t780"))) (bytes_of snow_answer)
     ∷ fact (line_text (bytes_of (printed_line_under "99999\t1000"))) (bytes_of "X\t19\n")
     ∷ []

@@ -1,5 +1,4 @@
--- What the calls of a host in C hand back, and what the lent memory then holds (document 01, "Lines", "Refused, by who can cause it";
--- document 02, T-01, T-06 and T-07).
+-- What the calls of a host in C hand back, and what the lent memory then holds.
 use Rattle.std.specs.Prelude.{ℕ, ◌/◌, ◌^◌, ◌<◌, Result, Ok, Err, IfOk, List, [], ◌∷◌, ◌++◌, ℤ, pos, neg_ℤ, nat_lt, length}
 use Rattle.refusals.specs.declared.Refusal.{Refusal}
 use Rattle.refusals.specs.Refusals.{Condition, refuses, first_refusal, unless_refused}
@@ -69,12 +68,14 @@ figures_reply number values = reply_of number values values
 -- the reply to a case for a daily traffic and its shares
 abbrev pub daily_reply : Shares → ℕ → Case → Reply
 daily_reply shares traffic case =
-    let answer = daily_answer case shares traffic in figures_reply (refusal_number answer) (daily.daily_figures answer)
+    let answer = daily_answer case shares traffic in
+    figures_reply (refusal_number answer) (daily.daily_figures answer)
 
 -- the same for a forecast
 abbrev pub forecast_reply : Forecast → Case → Reply
 forecast_reply forecast case =
-    let answer = forecast_answer case forecast in figures_reply (refusal_number answer) (forecasts.outcome_figures answer)
+    let answer = forecast_answer case forecast in
+    figures_reply (refusal_number answer) (forecasts.outcome_figures answer)
 
 -- the reply to a line that was read, by the reply to its case
 -- "15 malformed line", before 16, 20 and 1
@@ -107,12 +108,14 @@ day_call line demands room = line_call (day_reply demands) line (lent_refusals (
 -- the same for a daily traffic and its shares, with room for so many numbers
 -- "20 .. before 1": behind 17 and 15, as 1 is
 abbrev pub daily_call : List ℕ → Shares → ℕ → ℕ → Reply
-daily_call line shares traffic room = line_call (daily_reply shares traffic) line (buffer_refusals daily.figure_count room)
+daily_call line shares traffic room =
+    line_call (daily_reply shares traffic) line (buffer_refusals daily.figure_count room)
 
 -- the same for a forecast, with room for so many numbers
 -- 1 to 6 and 22 behind 17 and 15
 abbrev pub forecast_call : List ℕ → Forecast → ℕ → Reply
-forecast_call line forecast room = line_call (forecast_reply forecast) line (buffer_refusals forecasts.figure_count room)
+forecast_call line forecast room =
+    line_call (forecast_reply forecast) line (buffer_refusals forecasts.figure_count room)
 
 -- what a call hands back: a count or a speed that was found, or minus a refusal's number
 abbrev pub handed_back : Result ℕ Refusal → ℤ
@@ -142,7 +145,8 @@ abbrev pub day_result : Reply → ℤ
 day_result = counted answer_count
 
 -- what the lent memory holds afterwards, if it held old
--- "Bytes past the count keep their content; a refusal changes no byte"; "Answers past the demands keep their content"
+-- "Bytes past the count keep their content; a refusal changes no byte"; "Answers past the demands keep their
+-- content"
 abbrev pub content : Reply → List ℕ → List ℕ
 content (writes ns) old = written ns old
 content (refusal number) old = old

@@ -21,14 +21,15 @@ use Rattle.replies.specs.Texts.{answer_text, longest_answer}
 use Rattle.marehour.specs.Calls.{Reply, writes, refusal, answer_reply, count_text, answer_call, lanes_call, day_call}
 use Rattle.marehour.specs.Calls.{daily_call, forecast_call, call_result, day_result, content, result_of}
 
--- last_refusal, last_daily_refusal, last_forecast_refusal: 19, 21 of a call with a daily traffic, and 22 of
--- one with a forecast
+-- the last refusal of a call over a line
 abbrev pub last_refusal : ℕ
 last_refusal = 19
 
+-- of one with a daily traffic
 abbrev pub last_daily_refusal : ℕ
 last_daily_refusal = 21
 
+-- of one with a forecast
 abbrev pub last_forecast_refusal : ℕ
 last_forecast_refusal = 22
 
@@ -45,16 +46,18 @@ RepliesWithinEnds =
     → WithinEnds 1 longest_answer last_refusal (answer_call line room)
     × WithinEnds 1 longest_answer last_refusal (lanes_call line letter room)
     × WithinEnds figure_count (most_demands * figure_count) last_refusal (day_call line demands room)
-    × WithinEnds daily.figure_count daily.figure_count last_daily_refusal (daily_call line shares traffic room)
-    × WithinEnds forecasts.figure_count forecasts.figure_count last_forecast_refusal (forecast_call line forecast room)
+    × WithinEnds daily.figure_count daily.figure_count last_daily_refusal
+    (daily_call line shares traffic room)
+    × WithinEnds forecasts.figure_count forecasts.figure_count last_forecast_refusal
+    (forecast_call line forecast room)
 
 -- a buffer of 63 bytes gets 17, and so do 15 numbers for daily figures and 7 for a forecast, whatever the
 -- line
 abbrev pub BufferTooShort : Type 0
 BufferTooShort =
     (line : List ℕ) (letter : ℕ) (shares : Shares) (traffic : ℕ) (forecast : Forecast)
-    → (answer_call line 63 ≡ refusal 17) × (lanes_call line letter 63 ≡ refusal 17) × (daily_call line shares traffic 15 ≡ refusal 17)
-    × (forecast_call line forecast 7 ≡ refusal 17)
+    → (answer_call line 63 ≡ refusal 17) × (lanes_call line letter 63 ≡ refusal 17)
+    × (daily_call line shares traffic 15 ≡ refusal 17) × (forecast_call line forecast 7 ≡ refusal 17)
 
 -- no demand gets 18, whatever the line and the room
 abbrev pub NoDemandIsRefused : Type 0
@@ -85,8 +88,9 @@ DayHandsBack =
 abbrev pub DayCallIsTheDay : Type 0
 DayCallIsTheDay =
     (line : List ℕ) (case : Case) → read_line line ≡ Ok case → (demands old : List ℕ)
-    → (day_result (day_call line demands (length old))
-    ≡ result_of (refusal_number (day_answer (length demands) (length old))) (count_figures (day_answer (length demands) (length old))))
+    → let answer = day_answer (length demands) (length old) in
+    (day_result (day_call line demands (length old))
+    ≡ result_of (refusal_number answer) (count_figures answer))
     × (content (day_call line demands (length old)) old ≡ day_content case demands old)
 
 -- position i and the reply to a line with demand i are those of one answer
@@ -94,17 +98,18 @@ abbrev pub PositionIsTheLinesAnswer : Type 0
 PositionIsTheLinesAnswer =
     (line : List ℕ) (case : Case) (demands old : List ℕ) (i : ℕ)
     → read_line line ≡ Ok case → LentFits (length demands) (length old) → i < length demands
-    → (position i (content (day_call line demands (length old)) old) ≡ answer_figures (answer_to (with_demand case (get_or demands i 0))))
-    × ((other : List ℕ) (room : ℕ) → read_line other ≡ Ok (with_demand case (get_or demands i 0)) → longest_answer ≤ room
-    → answer_call other room ≡ answer_reply (answer_to (with_demand case (get_or demands i 0))))
+    → let asked = with_demand case (get_or demands i 0) in
+    (position i (content (day_call line demands (length old)) old) ≡ answer_figures (answer_to asked))
+    × ((other : List ℕ) (room : ℕ) → read_line other ≡ Ok asked → longest_answer ≤ room
+    → answer_call other room ≡ answer_reply (answer_to asked))
 
 -- minus that number is handed back, and nothing is written
 abbrev pub RefusedWith : ℕ → Reply → List ℕ → Type 0
 RefusedWith n reply old = (call_result reply ≡ neg_ℤ (pos n)) × (content reply old ≡ old)
 
--- what a call over a line hands back: minus 17 where less is lent than so much; else minus 15 where the line is
--- malformed; else minus the number that refuses its case; else the count of the text, which stands from the
--- start on, before what stood there
+-- what a call over a line hands back: minus 17 where less is lent than so much; else minus 15 where the line
+-- is malformed; else minus the number that refuses its case; else the count of the text, which stands from
+-- the start on, before what stood there
 abbrev pub HandsBack : (least : ℕ) (number : Case → ℕ) (text : Case → List ℕ) (count : Case → ℕ)
     (call : List ℕ → ℕ → Reply) → Type 0
 HandsBack least number text count call =
@@ -128,7 +133,8 @@ abbrev pub LanesHandBack : Type 0
 LanesHandBack =
     (letter : ℕ)
     → HandsBack longest_answer (λ case. refusal_number (lanes_answer case letter))
-    (λ case. count_text (lanes_figures (lanes_answer case letter))) (λ case. 2) (λ line room. lanes_call line letter room)
+    (λ case. count_text (lanes_figures (lanes_answer case letter))) (λ case. 2)
+    (λ line room. lanes_call line letter room)
 
 -- the call with a daily traffic, with sixteen numbers and the daily answer
 abbrev pub DailyHandsBack : Type 0

@@ -1,4 +1,4 @@
-//! Daily volumes for a host in C: a lent line without its newline, a daily traffic with its shares, and sixteen lent numbers.
+//! A daily traffic for a host in C, answered in sixteen lent numbers.
 
 ghost use Rattle.std.specs.Prelude.{◌≡◌, length};
 ghost use Rattle.daily.specs.Daily.{shares_of};
@@ -9,6 +9,7 @@ use daily::{FIGURE_COUNT, Shares};
 use lines::read;
 use refusals::Refusal;
 
+/// Sixteen numbers; 17, 15, 20, 21, or one of 1 to 9, 19 and 10.
 #[tactic(auto, using(crate::proofs::CallLaws::call_laws))]
 fn daily_in(
     line: &[u8],
@@ -17,8 +18,10 @@ fn daily_in(
     figures: &mut [u64],
 ) -> Result<usize, Refusal>
     ensures fits { CanBeHandedBack result }
-    ensures result { handed_back result ≡ call_result (daily_call line.now shares daily_traffic (length figures.old)) }
-    ensures figures { figures.new ≡ content (daily_call line.now shares daily_traffic (length figures.old)) figures.old }
+    ensures result { handed_back result
+        ≡ call_result (daily_call line.now shares daily_traffic (length figures.old)) }
+    ensures figures { figures.new
+        ≡ content (daily_call line.now shares daily_traffic (length figures.old)) figures.old }
 {
     check_room(figures.len(), FIGURE_COUNT)?;
     let case = read::read_line(line)?;
@@ -26,7 +29,8 @@ fn daily_in(
     Ok(grade.put_figures(figures))
 }
 
-/// The answer to the line's case with the hourly demand of the daily traffic, and its daily service volumes.
+/// The answer to the line's section with the hourly demand of a daily traffic, in vehicles per day, and its daily
+/// service volumes. The shares are in thousandths. 16, or minus the refusal's number.
 #[unsafe(no_mangle)]
 pub extern "C" fn marehour_daily(
     line: &[u8],
@@ -35,8 +39,8 @@ pub extern "C" fn marehour_daily(
     direction_share: u32,
     figures: &mut [u64],
 ) -> i32
-    ensures result { result ≡ call_result (daily_call line.now (shares_of peak_share direction_share) daily_traffic
-        (length figures.old)) }
+    ensures result { result ≡ call_result (daily_call line.now (shares_of peak_share direction_share)
+        daily_traffic (length figures.old)) }
     ensures figures { figures.new ≡ content (daily_call line.now (shares_of peak_share direction_share)
         daily_traffic (length figures.old)) figures.old }
 {

@@ -1,4 +1,4 @@
-//! A whole day for a host in C: a lent line without its newline, lent demands, and lent answers of twelve numbers each.
+//! A whole day for a host in C: lent demands, answered in twelve lent numbers each.
 
 ghost use Rattle.std.specs.Prelude.{◌≡◌, length};
 ghost use Rattle.marehour.specs.Calls.{day_call, day_result, content, handed_back, CanBeHandedBack};
@@ -7,6 +7,7 @@ use crate::calls::handed_back;
 use lines::read;
 use refusals::Refusal;
 
+/// As many answers as demands; 18 or 15. A refusal of the case stands in its position.
 #[tactic(auto, using(crate::proofs::CallLaws::call_laws))]
 fn day_in(line: &[u8], demands: &[u64], answers: &mut [u64]) -> Result<usize, Refusal>
     ensures fits { CanBeHandedBack result }
@@ -20,7 +21,8 @@ fn day_in(line: &[u8], demands: &[u64], answers: &mut [u64]) -> Result<usize, Re
     Ok(demands.len())
 }
 
-/// The answers to the line's case with each demand.
+/// The answers to the line's section with each demand, in vehicles per hour, in its position. The count of the
+/// answers, or minus the refusal's number.
 #[unsafe(no_mangle)]
 pub extern "C" fn marehour_day(line: &[u8], demands: &[u64], answers: &mut [u64]) -> i32
     ensures result { result ≡ day_result (day_call line.now demands.now (length answers.old)) }

@@ -5,7 +5,7 @@ ghost use Rattle.marehour.specs.Boundary.{boundary_facts};
 ghost use Rattle.marehour.specs.Laws.{RepliesWithinEnds, BufferTooShort, NoDemandIsRefused, LastRefusalIsReached};
 ghost use Rattle.marehour.specs.Laws.{AnswerHandsBack, LanesHandBack, LetterOutsideIsRefused, DailyHandsBack, ForecastHandsBack};
 ghost use Rattle.marehour.specs.Laws.{DayHandsBack, DayCallIsTheDay, PositionIsTheLinesAnswer};
-ghost use Rattle.marehour.specs.Shape.{NoBetterLetterUnderMoreLoad, MeetsUpToTheWrittenVolume, LanesDigitIsTheLeastCount};
+ghost use Rattle.marehour.specs.Shape.{NoBetterLetterUnderMoreLoad, MeetsUpToTheWrittenVolume, LanesDigitIsTheLeastCount, PrintedLineMeetsUpTo2642};
 ghost use Rattle.marehour.specs.Tries.{TriesHandBack, TriesOfLines};
 
 /// The shape of the method, over lines and lent buffers. Of two lines of accepted cases, of the same road under one weather, the one
@@ -16,6 +16,7 @@ pub fn shape_of_the_calls()
     ensures letter { NoBetterLetterUnderMoreLoad }
     ensures volume { MeetsUpToTheWrittenVolume }
     ensures lanes { LanesDigitIsTheLeastCount }
+    ensures instance { PrintedLineMeetsUpTo2642 }
 {}
 
 /// What each call over a line hands back and writes: minus 17 where too little is lent, else minus 15 where the line is malformed, else

@@ -1,4 +1,4 @@
-//! The demands that the search for the service volumes tries, counted for a host in C: their count, or minus the refusal's number.
+//! The demands that the search for the service volumes tries, counted for a host in C.
 
 ghost use Rattle.std.specs.Prelude.{◌≡◌};
 ghost use Rattle.marehour.specs.Calls.{handed_back, CanBeHandedBack};
@@ -9,6 +9,7 @@ use answer::evaluate;
 use lines::read;
 use refusals::Refusal;
 
+/// The count; 15, or one of 1 to 6, 8, 9, 19 and 10.
 #[tactic(auto, using(crate::proofs::CallLaws::call_laws))]
 fn tries_for(line: &[u8]) -> Result<usize, Refusal>
     ensures fits { CanBeHandedBack result }
@@ -20,7 +21,7 @@ fn tries_for(line: &[u8]) -> Result<usize, Refusal>
     Ok(counted.tries as usize)
 }
 
-/// For the case of a lent line.
+/// How many demands are tried for the service volumes of a line's section, 1 to 80, or minus the refusal's number.
 #[unsafe(no_mangle)]
 pub extern "C" fn marehour_tries(line: &[u8]) -> i32
     ensures { result ≡ tries_call line.now }
