@@ -15,7 +15,7 @@ use Rattle.lines.proofs.ReadingLaws.{case_of-values}
 
 pub lines-shown : Shown line_facts
 unfolding flat_map on_first parts decimal_up_to decimal layout completed spelled number letter field_as values_of case_of read_values read_line line_facts
-lines-shown = (refl, (refl, (refl, (refl, (refl, (refl, (refl, (refl, tt))))))))
+lines-shown = (refl, (refl, (refl, (refl, (refl, (refl, (refl, (refl, (refl, tt)))))))))
 
 -- a line that tells what a case does is read as that case
 pub read-told : (r : Result Case Refusal) (case : Case) → told r ≡ told (Ok case) → r ≡ Ok case

@@ -24,6 +24,10 @@ printed_line = printed_line_with "2000" "R"
 abbrev pub printed_line_under : String → String
 printed_line_under factors = printed_line then ("\t" then factors)
 
+-- a line with a speed factor of 499
+abbrev pub line_under_499 : String
+line_under_499 = "F\tG\t75000\t120\t60\t60\tD\t0\t2\t0\t1000\t0\tL\t499\t1000"
+
 -- the number of the refusal of what was read, 0 for none, and its values
 abbrev pub told : Result Case Refusal → List ℕ
 told r = refusal_number r ∷ case_values r
@@ -71,14 +75,16 @@ malformed_lines =
     )
 
 -- what lines are read as
--- the printed line; with the factors of snow, and with a factor of 99999, which 19 refuses later; with a
--- demand of six digits, by the reader before T-09 too, and by that with five; the lines that are refused; the
+-- the printed line; with the factors of snow, and with a factor of 99999, which 19 refuses later, as it does one
+-- of 499; with a demand of six digits, by the reader before T-09 too, and by that with five; the lines that are refused; the
 -- longest line
 unfoldable pub line_facts : List Fact
 line_facts =
     fact (read_as printed_line) (printed_values 2000 1000 1000)
     ∷ fact (read_as (printed_line_under "860\t780")) (printed_values 2000 860 780)
     ∷ fact (read_as (printed_line_under "99999\t1000")) (printed_values 2000 99999 1000)
+    ∷ fact (read_as line_under_499)
+    (0 ∷ 70 ∷ 71 ∷ 75000 ∷ 120 ∷ 60 ∷ 60 ∷ 68 ∷ 0 ∷ 2 ∷ 0 ∷ 1000 ∷ 0 ∷ 76 ∷ 499 ∷ 1000 ∷ [])
     ∷ fact (read_as (printed_line_with "100000" "R")) (printed_values 100000 1000 1000)
     ∷ fact (read_before (printed_line_with "100000" "R")) (15 ∷ [])
     ∷ fact (read_before (printed_line_with "99999" "R")) (printed_values 99999 1000 1000)

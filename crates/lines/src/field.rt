@@ -1,6 +1,6 @@
 //! The fields of a line, read in turn.
 
-ghost use Rattle.std.specs.Prelude.{◌≡◌, ◌≤◌, ℕ, List, option_map};
+ghost use Rattle.std.specs.Prelude.{◌≡◌, ◌==◌, ◌≤◌, ◌||◌, not, ℕ, List, length, option_map};
 ghost use Rattle.text.specs.Bytes.{bytes_of};
 ghost use Rattle.lines.specs.Fields.{digits, letters, leading_zero};
 ghost use Rattle.lines.specs.Reading.{kind_byte, way_byte, median_byte, terrain_byte};
@@ -15,10 +15,14 @@ const MOST_DIGITS: usize = 5;
 /// "V may reach 999,999 and its field may have six digits"
 const MOST_DEMAND_DIGITS: usize = 6;
 
-fn leading_zero(field: &[u8]) -> bool
-    ensures { result ≡ leading_zero field.now }
+/// Whether digits are a number: there is one at least, and no zero before another.
+fn is_number(digits: &[u8]) -> bool
+    ensures { result ≡ not (length digits.now == 0 || leading_zero digits.now) }
 {
-    field.len() > 1 && field[0] == b'0'
+    match digits {
+        [] | [b'0', _, ..] => false,
+        _ => true,
+    }
 }
 
 /// A type whose values stand on a line as one letter each, out of an alphabet.
@@ -117,8 +121,7 @@ impl<'a> Fields<'a> {
             value = 10 * value + u64::from(b - b'0');
             length += 1;
         }
-        let field = &line[..length];
-        (!field.is_empty() && !leading_zero(field)).then_some(value)
+        is_number(&line[..length]).then_some(value)
     }
 
     /// A number of one to five digits.

@@ -9,14 +9,15 @@ use Rattle.refusals.specs.Numbers as refusals
 use Rattle.refusals.specs.Numbers.{in_order, refusal_of, refusal_number}
 use Rattle.refusals.proofs.NumberLaws.{number-above, number-refusal_of, ok_unless-by, ok_unless-none, ok_unless-err}
 use Rattle.std.proofs.Math.Nat.{le_trans}
+use Rattle.text.specs.Bytes.{bytes_of}
 use Rattle.text.specs.Buffer.{written}
-use Rattle.text.specs.Parts.{on_first, parts}
 use Rattle.road.specs.declared.Case.{Case}
 use Rattle.road.specs.Refusals.{weather_unfit, road_refusals, load_refusals, field_refusals}
 use Rattle.method.specs.Refusals.{refusals, refusal}
 use Rattle.method.proofs.RefusalLaws.{refusal-le}
 use Rattle.answer.specs.declared.evaluate.Grade.{Grade}
 use Rattle.answer.specs.Answers.{graded, answer_to}
+use Rattle.answer.specs.Boundary.{refused_by19}
 use Rattle.answer.specs.Lanes.{lanes_found, lanes_refusals, lanes_answer, lanes_figures}
 use Rattle.answer.proofs.AnswerLaws.{answer_to-accepted}
 use Rattle.answer.proofs.Laws.{refusals-within-ends, counts-are-digits, found-digit, lanes_answer-number}
@@ -35,8 +36,9 @@ use Rattle.forecast.specs.Forecasts.{range_refusals, forecast_refusals, forecast
 use Rattle.forecast.proofs.ForecastLaws as forecast-laws
 use Rattle.forecast.proofs.ForecastLaws.{refused-values}
 use Rattle.forecast.proofs.Promises.{shown}
-use Rattle.lines.specs.Fields.{layout, completed, spelled, number, letter, field_as, values_of}
-use Rattle.lines.specs.Reading.{case_of, read_values, read_line}
+use Rattle.lines.specs.Reading.{read_line}
+use Rattle.lines.specs.Boundary.{line_under_499, line_facts}
+use Rattle.lines.proofs.Boundary.{lines-shown, read-told}
 use Rattle.lines.proofs.ReadingLaws.{read_line-by, read_line-refused}
 use Rattle.replies.specs.Texts.{answer_text, longest_answer}
 use Rattle.replies.proofs.TextsLaws.{answer_text-le, answer_text-pos}
@@ -139,10 +141,15 @@ pub no-demand-is-refused : NoDemandIsRefused
 unfolding lent_unfit lent_refusals
 no-demand-is-refused line room = refl
 
+-- the line whose speed factor is 499 is the case that 19 refuses
+line-under-499 : read_line (bytes_of line_under_499) ≡ Ok refused_by19
+unfolding line_facts
+line-under-499 = read-told _ refused_by19 lines-shown.1.1.1.0
+
 pub last-refusal-is-reached : LastRefusalIsReached
-unfolding in_order refusal_of on_first parts layout completed spelled number letter field_as values_of case_of read_values read_line weather_unfit
-    road_refusals load_refusals field_refusals refusals lanes_refusals buffer_refusals shares_unfit traffic_refusals range_refusals forecast_refusals
-last-refusal-is-reached = (refl, refl, refl, refl)
+unfolding in_order refusal_of weather_unfit road_refusals load_refusals field_refusals refusals lanes_refusals buffer_refusals
+    shares_unfit traffic_refusals range_refusals forecast_refusals
+last-refusal-is-reached = (rw line-under-499, rw line-under-499, rw line-under-499, rw line-under-499)
 
 -- ---- a day
 -- lent memory that fits: the line decides

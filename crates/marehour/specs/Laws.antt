@@ -17,6 +17,7 @@ use Rattle.forecast.specs.Forecasts.{forecast_of, forecast_answer}
 use Rattle.refusals.specs.declared.Refusal.{Refusal}
 use Rattle.refusals.specs.Numbers.{refusal_number}
 use Rattle.lines.specs.Reading.{read_line}
+use Rattle.lines.specs.Boundary.{line_under_499}
 use Rattle.replies.specs.Texts.{answer_text, longest_answer}
 use Rattle.marehour.specs.Calls.{Reply, writes, refusal, answer_reply, count_text, answer_call, lanes_call, day_call}
 use Rattle.marehour.specs.Calls.{daily_call, forecast_call, call_result, day_result, content, result_of}
@@ -67,7 +68,7 @@ NoDemandIsRefused = (line : List ℕ) (room : ℕ) → day_call line [] room ≡
 -- of 4,000,000,001, and 22 with a forecast whose demand is from 1 to 0
 abbrev pub LastRefusalIsReached : Type 0
 LastRefusalIsReached =
-    let line = bytes_of "F\tG\t75000\t120\t60\t60\tD\t0\t2\t0\t1000\t0\tL\t499\t1000" in
+    let line = bytes_of line_under_499 in
     (answer_call line 64 ≡ refusal last_refusal) × (lanes_call line 1 64 ≡ refusal last_refusal)
     × (daily_call line urban 4000000001 16 ≡ refusal last_daily_refusal)
     × (forecast_call line (forecast_of 1 0 0 0 1000 1000) 8 ≡ refusal last_forecast_refusal)
