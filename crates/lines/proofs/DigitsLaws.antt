@@ -1,4 +1,4 @@
--- A number read digit by digit (specs/Fields, specs/Places).
+-- A number read digit by digit (specs/Fields, specs/ReadSoFar).
 use Rattle.std.proofs.Common.{◌≡◌, ℕ, suc, ◌+◌, ◌-◌, ◌*◌, ◌^◌, ◌≤◌, ◌<◌, Bool, true, false, cond, ◌||◌, ◌⊎◌, Some, None}
 use Rattle.std.proofs.Common.{List, [], ◌∷◌, length, get_or, take, drop, eqb, sym, ◌∙◌, arith, add-one, pow-suc, drop-cons}
 use Rattle.std.proofs.Common.{ne_eqb, eq-eqb, length-take-le, drop_of_length-le, ⊎_elim, eq-or-lt_of_le}
@@ -8,7 +8,7 @@ use Rattle.text.specs.Bytes.{tab}
 use Rattle.text.specs.Parts.{count_before}
 use Rattle.text.proofs.PartsLaws.{count_before-le}
 use Rattle.lines.specs.Fields.{digits, digit, spelled, leading_zero, number, field_as}
-use Rattle.lines.specs.Places.{first_field}
+use Rattle.lines.specs.ReadSoFar.{first_field}
 
 -- a number of i digits with one digit more
 pub fits-more : (n d i : ℕ) → n < 10 ^ i → d ≤ 9 → 10 * n + d < 10 ^ (i + 1)

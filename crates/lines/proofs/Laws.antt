@@ -7,6 +7,7 @@ use native.Mathlib.Nat.{pow-le-pow_right}
 use Rattle.numbers.proofs.BoolLaws.{cond-all}
 use Rattle.text.specs.Bytes.{bytes_of, tab}
 use Rattle.text.specs.Parts.{parts, on_first}
+use Rattle.text.specs.Decimal.{decimal_up_to, decimal}
 use Rattle.text.proofs.PartsLaws.{parts-append, spread, parts-spread}
 use Rattle.refusals.specs.declared.Refusal.{Refusal}
 use Rattle.road.specs.declared.Case.{Case}
@@ -67,7 +68,7 @@ fits-cons f fs v vs h r = (ap suc r.0, at)
     at (suc i) l = r.1 i (omega arith)
 
 -- what holds of no field, and of a field more where it is well formed, holds of the values of all
-by-fields : (P : List Field → List (List ℕ) → List ℕ → Type 0) → P [] [] []
+pub by-fields : (P : List Field → List (List ℕ) → List ℕ → Type 0) → P [] [] []
     → ((f : Field) (p : List ℕ) (v : ℕ) (fs : List Field) (ps : List (List ℕ)) (vs : List ℕ)
     → field_as f p ≡ Some v → P fs ps vs → P (f ∷ fs) (p ∷ ps) (v ∷ vs))
     → (fs : List Field) (ps : List (List ℕ)) (vs : List ℕ) → values_of fs ps ≡ Some vs → P fs ps vs
@@ -169,7 +170,7 @@ length-never-decides-alone bs = go (values_of layout (completed (parts tab bs)))
     go (Some vs) e = rw (le-ltb longest_line (length bs) (omega (arith, well-formed-length bs vs e)))
 
 -- a line that is read has values
-read-values : (bs : List ℕ) (case : Case) → read_line bs ≡ Ok case
+pub read-values : (bs : List ℕ) (case : Case) → read_line bs ≡ Ok case
     → (vs : List ℕ) × (values_of layout (completed (parts tab bs)) ≡ Some vs) × (case_of vs ≡ case)
 unfolding read_values
 read-values bs case e = go (values_of layout (completed (parts tab bs))) (sym (length-never-decides-alone bs) ∙ e)
@@ -187,7 +188,7 @@ unfolding completed
 completed-thirteen ps h = grind (arith, common_steps)
 
 pub clear-weather-may-be-left-out : ClearWeatherMayBeLeftOut
-unfolding parts on_first
+unfolding parts on_first decimal_up_to decimal
 clear-weather-may-be-left-out bs h =
     length-never-decides-alone (bs ++ bytes_of "\t1000\t1000")
     ∙ ap (λ ps. read_values (values_of layout ps))

@@ -7,3 +7,7 @@ pub mod FieldsLaws
 pub mod ReadingLaws
 -- the laws that specs/Laws states
 pub mod Laws
+-- what lines of the boundary sections are read as
+pub mod Boundary
+-- a line with another demand in its tenth field
+pub mod DemandLaws

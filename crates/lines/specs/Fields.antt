@@ -5,6 +5,8 @@ use Rattle.std.specs.Prelude.{◌==◌, nat_le, nat_lt, length, get_or}
 use Rattle.std.specs.List.{list_any}
 use Prim.Native.Char.{code}
 use Rattle.text.specs.Bytes.{bytes_of}
+use Rattle.text.specs.Decimal.{decimal}
+use Rattle.curve.specs.Weather.{clear}
 use Rattle.refusals.specs.Refusals.{outside}
 
 -- one of some letters, or a number with at most so many digits
@@ -13,9 +15,9 @@ pub data Field : Type 0 where
   digits : ℕ → Field
 
 -- the 15 fields
--- "kind F or M; E or G; speed; width; right clearance; left clearance; median U, D or T; ramps in six miles (F) or access points per
--- mile (M); lanes; V; H; P; terrain L or R"; "two fields at its end, speed factor and capacity factor"; "A number has one to five digits";
--- of V "its field may have six digits"
+-- "kind F or M; E or G; speed; width; right clearance; left clearance; median U, D or T; ramps in six miles
+-- (F) or access points per mile (M); lanes; V; H; P; terrain L or R"; "two fields at its end, speed factor and
+-- capacity factor"; "A number has one to five digits"; of V "its field may have six digits"
 unfoldable pub layout : List Field
 layout =
     letters (bytes_of "FM") ∷ letters (bytes_of "EG")
@@ -25,10 +27,10 @@ layout =
     ∷ letters (bytes_of "LR")
     ∷ digits 5 ∷ digits 5 ∷ []
 
--- the last two fields of a line that has 13
+-- the last two fields of a line that has 13: the factors of clear weather
 -- "Lines of 13 fields mean 1,000 for both"
 abbrev pub clear_factors : List (List ℕ)
-clear_factors = bytes_of "1000" ∷ bytes_of "1000" ∷ []
+clear_factors = decimal clear.speed_factor ∷ decimal clear.capacity_factor ∷ []
 
 -- the parts ps of a line, with these where they are 13
 unfoldable pub completed : List (List ℕ) → List (List ℕ)

@@ -1,8 +1,11 @@
 -- Laws of lines, stated; proofs/Laws proves them.
-use Rattle.std.specs.Prelude.{ℕ, ◌≤◌, ◌<◌, ◌≡◌, Some, Result, Ok, Err, List, [], ◌++◌, length, get_or, set}
+use Rattle.std.specs.Prelude.{ℕ, ◌≤◌, ◌<◌, ◌≡◌, Some, Result, Ok, Err, IsOk, List, [], ◌++◌, length, get_or, set}
+use Prim.Native.String.{String}
 use Rattle.text.specs.Bytes.{bytes_of, tab}
 use Rattle.text.specs.Parts.{parts}
+use Rattle.text.specs.Decimal.{decimal}
 use Rattle.road.specs.declared.Case.{Case}
+use Rattle.road.specs.Cases.{with_demand}
 use Rattle.road.specs.Refusals.{greatest_demand}
 use Rattle.refusals.specs.declared.Refusal.{Refusal}
 use Rattle.refusals.specs.Numbers.{number, refusal_number}
@@ -11,15 +14,26 @@ use Rattle.lines.specs.Reading.{read_values, read_by, read_line, case_values}
 
 -- a line is read by its fields: none of more than 80 bytes has well-formed ones
 abbrev pub LengthNeverDecidesAlone : Type 0
-LengthNeverDecidesAlone = (bs : List ℕ) → read_line bs ≡ read_values (values_of layout (completed (parts tab bs)))
+LengthNeverDecidesAlone =
+    (bs : List ℕ) → read_line bs ≡ read_values (values_of layout (completed (parts tab bs)))
 
--- longest_well_formed, WellFormedLinesAreShort: 74 bytes, and no line that is read has more
+-- the most bytes of a line that is read
 -- four letters, ten numbers of five digits and one of six, and fourteen tabs
 abbrev pub longest_well_formed : ℕ
 longest_well_formed = 74
 
+-- no line that is read has more
 abbrev pub WellFormedLinesAreShort : Type 0
-WellFormedLinesAreShort = (bs : List ℕ) (case : Case) → read_line bs ≡ Ok case → length bs ≤ longest_well_formed
+WellFormedLinesAreShort =
+    (bs : List ℕ) (case : Case) → read_line bs ≡ Ok case → length bs ≤ longest_well_formed
+
+-- a line with every field as long as it may be
+abbrev pub longest : String
+longest = "M\tG\t99999\t99999\t99999\t99999\tT\t99999\t99999\t999999\t99999\t99999\tL\t99999\t99999"
+
+-- it has so many bytes and is read: no smaller number is the most
+abbrev pub LongestIsRead : Type 0
+LongestIsRead = (length (bytes_of longest) ≡ longest_well_formed) × IsOk (read_line (bytes_of longest))
 
 -- a line of 13 fields reads as the same line with 1000 and 1000
 -- "Lines of 13 fields mean 1,000 for both"
@@ -30,27 +44,37 @@ ClearWeatherMayBeLeftOut =
 -- fewer than 13 fields, 14, or more than 15 are malformed
 abbrev pub OtherCountsAreMalformed : Type 0
 OtherCountsAreMalformed =
-    (bs : List ℕ) → (length (parts tab bs) ≡ 13 → ⊥) → (length (parts tab bs) ≡ 15 → ⊥) → read_line bs ≡ Err Refusal.LineMalformed
+    (bs : List ℕ) → (length (parts tab bs) ≡ 13 → ⊥) → (length (parts tab bs) ≡ 15 → ⊥)
+    → read_line bs ≡ Err Refusal.LineMalformed
 
 -- the values of a line that is read are those of its fields, in their order
 abbrev pub ValuesAreTheFields : Type 0
-ValuesAreTheFields = (bs vs : List ℕ) → values_of layout (completed (parts tab bs)) ≡ Some vs → case_values (read_line bs) ≡ vs
+ValuesAreTheFields =
+    (bs vs : List ℕ) → values_of layout (completed (parts tab bs)) ≡ Some vs → case_values (read_line bs) ≡ vs
 
 -- the number of a refused line is the documents' number of its refusal, and it has no values
 abbrev pub RefusalHasItsNumber : Type 0
-RefusalHasItsNumber = (r : Refusal) → (refusal_number {A = Case} (Err r) ≡ number r) × (case_values (Err r) ≡ [])
+RefusalHasItsNumber =
+    (r : Refusal) → (refusal_number {A = Case} (Err r) ≡ number r) × (case_values (Err r) ≡ [])
 
 -- no line can hold a demand that 7 refuses
 -- "Refusal 7, now for V above 999,999, is still met only by a caller who hands over numbers"
 abbrev pub DemandOnALine : Type 0
 DemandOnALine = (bs : List ℕ) (case : Case) → read_line bs ≡ Ok case → case.demand ≤ greatest_demand
 
--- older_layout, older_read_line bs: the fields before T-09, the demand with at most five digits as every
--- number; a line read by them
+-- a line that is read, with the digits of a demand in the place of its tenth field, reads as its case with
+-- that demand
+abbrev pub TenthFieldIsTheDemand : Type 0
+TenthFieldIsTheDemand =
+    (bs other : List ℕ) (case : Case) (demand : ℕ) → read_line bs ≡ Ok case → demand ≤ greatest_demand
+    → parts tab other ≡ set (parts tab bs) 9 (decimal demand) → read_line other ≡ Ok (with_demand case demand)
+
+-- the fields before T-09, the demand with at most five digits as every number
 -- "A number has one to five digits", the tenth field, V, too
 abbrev pub older_layout : List Field
 older_layout = set layout 9 (digits 5)
 
+-- a line read by them
 abbrev pub older_read_line : List ℕ → Result Case Refusal
 older_read_line bs = read_by older_layout bs
 
@@ -66,4 +90,5 @@ FiveDigitsReadAsBefore = (bs : List ℕ) → length (demand_field bs) ≤ 5 → 
 -- with more, an older reader meets 15
 -- "an older reader meets a six-digit demand with refusal 15"
 abbrev pub OlderReaderRefusesMore : Type 0
-OlderReaderRefusesMore = (bs : List ℕ) → 5 < length (demand_field bs) → older_read_line bs ≡ Err Refusal.LineMalformed
+OlderReaderRefusesMore =
+    (bs : List ℕ) → 5 < length (demand_field bs) → older_read_line bs ≡ Err Refusal.LineMalformed

@@ -1,10 +1,10 @@
 //! The fields of a line, read in turn.
 
-ghost use Rattle.std.specs.Prelude.{◌≡◌, ◌≤◌, ℕ, List, option_map};
+ghost use Rattle.std.specs.Prelude.{◌≡◌, ◌==◌, ◌≤◌, ◌||◌, not, ℕ, List, length, option_map};
 ghost use Rattle.text.specs.Bytes.{bytes_of};
 ghost use Rattle.lines.specs.Fields.{digits, letters, leading_zero};
 ghost use Rattle.lines.specs.Reading.{kind_byte, way_byte, median_byte, terrain_byte};
-ghost use Rattle.lines.specs.Places.{left, letter_among, ReadsOne};
+ghost use Rattle.lines.specs.ReadSoFar.{left, letter_among, ReadsOne};
 
 use curve::kind::Kind;
 use road::{Median, Terrain, Way};
@@ -15,14 +15,18 @@ const MOST_DIGITS: usize = 5;
 /// "V may reach 999,999 and its field may have six digits"
 const MOST_DEMAND_DIGITS: usize = 6;
 
-fn leading_zero(field: &[u8]) -> bool
-    ensures { result ≡ leading_zero field.now }
+/// Whether digits are a number: there is one at least, and no zero before another.
+fn is_number(digits: &[u8]) -> bool
+    ensures { result ≡ not (length digits.now == 0 || leading_zero digits.now) }
 {
-    field.len() > 1 && field[0] == b'0'
+    match digits {
+        [] | [b'0', _, ..] => false,
+        _ => true,
+    }
 }
 
 /// A type whose values stand on a line as one letter each, out of an alphabet.
-pub trait Lettered: Sized {
+pub(crate) trait Lettered: Sized {
     ghost alphabet: { List ℕ };
 
     ghost byte: { Self → ℕ };
@@ -88,14 +92,16 @@ impl Lettered for Terrain {
     }
 }
 
-/// What is left of a line; none: no field is left. The readers are inlined, so that it stays in registers.
+/// What is left of a line, its fields parted by tabs; none where no field is left. The readers are inlined, so that it
+/// stays in registers.
 #[derive(Drop)]
-pub struct Fields<'a> {
-    pub rest: Option<&'a [u8]>,
+pub(crate) struct Fields<'a> {
+    pub(crate) rest: Option<&'a [u8]>,
 }
 
 impl<'a> Fields<'a> {
-    /// A number of one to so many digits, in one pass over its bytes.
+    /// The first field that is left, a number of one to so many digits, in one pass over its bytes; none where it is
+    /// malformed.
     #[inline(always)]
     fn number_up_to(&mut self, most_digits: usize) -> Option<u64>
         requires fits { most_digits ≤ 19 }
@@ -115,21 +121,20 @@ impl<'a> Fields<'a> {
             value = 10 * value + u64::from(b - b'0');
             length += 1;
         }
-        let field = &line[..length];
-        (!field.is_empty() && !leading_zero(field)).then_some(value)
+        is_number(&line[..length]).then_some(value)
     }
 
     /// A number of one to five digits.
     #[inline(always)]
-    pub fn number(&mut self) -> Option<u64>
+    pub(crate) fn number(&mut self) -> Option<u64>
         ensures { ReadsOne (digits 5) result (left self.old) (left self.new) }
     {
         self.number_up_to(MOST_DIGITS)
     }
 
-    /// A number of one to six.
+    /// A number of one to six digits.
     #[inline(always)]
-    pub fn demand(&mut self) -> Option<u64>
+    pub(crate) fn demand(&mut self) -> Option<u64>
         ensures { ReadsOne (digits 6) result (left self.old) (left self.new) }
     {
         self.number_up_to(MOST_DEMAND_DIGITS)
@@ -137,7 +142,7 @@ impl<'a> Fields<'a> {
 
     /// A letter, as a value of the type that is asked for.
     #[inline(always)]
-    pub fn letter<T: Lettered>(&mut self) -> Option<T>
+    pub(crate) fn letter<T: Lettered>(&mut self) -> Option<T>
         ensures { ReadsOne (letters T.alphabet) (option_map T.byte result) (left self.old) (left self.new) }
     {
         match self.rest.take()? {

@@ -1,23 +1,26 @@
 -- The laws of specs/Laws, proved.
-use Rattle.std.proofs.Common.{◌≡◌, ℕ, ℤ, ◌*◌, ◌≤◌, ◌<◌, Result, Ok, lit≤, List, length, pos, neg_ℤ, refl, sym, ap, subst, ◌∙◌, ⊎_elim, arith}
+use Rattle.std.proofs.Common.{◌≡◌, ℕ, ℤ, ◌*◌, ◌≤◌, ◌<◌, Result, Ok, Err, lit<, lit≤, List, length, pos, refl, sym, ap, subst, ◌∙◌, ⊎_elim, arith}
 use Rattle.std.proofs.Common.{eq-zero-or-pos}
+use Rattle.std.proofs.lemmas.Bool.Decides.{nat_tests}
 use Rattle.refusals.specs.Refusals.{Condition, first_refusal}
 use Rattle.refusals.proofs.RefusalLaws.{unless_refused-none, unless_refused-some, unless_refused-by, first_refusal-le, first_refusal-ge}
 use Rattle.refusals.specs.declared.Refusal.{Refusal}
 use Rattle.refusals.specs.Numbers as refusals
 use Rattle.refusals.specs.Numbers.{in_order, refusal_of, refusal_number}
-use Rattle.refusals.proofs.NumberLaws.{number-refusal_of, ok_unless-by, ok_unless-none, ok_unless-err}
+use Rattle.refusals.proofs.NumberLaws.{number-above, number-refusal_of, ok_unless-by, ok_unless-none, ok_unless-err}
 use Rattle.std.proofs.Math.Nat.{le_trans}
+use Rattle.text.specs.Bytes.{bytes_of}
 use Rattle.text.specs.Buffer.{written}
-use Rattle.text.specs.Parts.{on_first, parts}
 use Rattle.road.specs.declared.Case.{Case}
 use Rattle.road.specs.Refusals.{weather_unfit, road_refusals, load_refusals, field_refusals}
 use Rattle.method.specs.Refusals.{refusals, refusal}
 use Rattle.method.proofs.RefusalLaws.{refusal-le}
-use Rattle.answer.specs.Answers.{graded}
-use Rattle.answer.specs.Lanes.{lanes_found, lanes_refusals, lanes_figures}
+use Rattle.answer.specs.declared.evaluate.Grade.{Grade}
+use Rattle.answer.specs.Answers.{graded, answer_to}
+use Rattle.answer.specs.Boundary.{refused_by19}
+use Rattle.answer.specs.Lanes.{lanes_found, lanes_refusals, lanes_answer, lanes_figures}
 use Rattle.answer.proofs.AnswerLaws.{answer_to-accepted}
-use Rattle.answer.proofs.Laws.{refusals-within-ends, counts-are-digits, lanes_answer-number}
+use Rattle.answer.proofs.Laws.{refusals-within-ends, counts-are-digits, found-digit, lanes_answer-number}
 use Rattle.day.specs.Days.{most_demands, figure_count, lent_unfit, lent_refusals, LentFits, count_figures as day_values}
 use Rattle.day.specs.Promises.{position}
 use Rattle.day.proofs.DayLaws.{day_figures-length, day_figures-count, day-refused, day-answered}
@@ -33,16 +36,18 @@ use Rattle.forecast.specs.Forecasts.{range_refusals, forecast_refusals, forecast
 use Rattle.forecast.proofs.ForecastLaws as forecast-laws
 use Rattle.forecast.proofs.ForecastLaws.{refused-values}
 use Rattle.forecast.proofs.Promises.{shown}
-use Rattle.lines.specs.Fields.{layout, completed, spelled, number, letter, field_as, values_of}
-use Rattle.lines.specs.Reading.{case_of, read_values, read_line}
+use Rattle.lines.specs.Reading.{read_line}
+use Rattle.lines.specs.Boundary.{line_under_499, line_facts}
+use Rattle.lines.proofs.Boundary.{lines-shown, read-told}
 use Rattle.lines.proofs.ReadingLaws.{read_line-by, read_line-refused}
-use Rattle.replies.specs.Texts.{longest_answer}
+use Rattle.replies.specs.Texts.{answer_text, longest_answer}
 use Rattle.replies.proofs.TextsLaws.{answer_text-le, answer_text-pos}
-use Rattle.marehour.specs.Calls.{Reply, refusal as refusal_reply, answer_reply, count_reply, case_reply, lanes_reply, day_reply, line_reply}
-use Rattle.marehour.specs.Calls.{figures_reply, daily_reply, forecast_reply, line_call, buffer_refusals, day_call, call_result, day_result}
+use Rattle.marehour.specs.Calls.{Reply, writes, refusal as refusal_reply, count_text, answer_reply, count_reply, case_reply, lanes_reply, day_reply, line_reply}
+use Rattle.marehour.specs.Calls.{figures_reply, daily_reply, forecast_reply, line_call, buffer_refusals, lanes_call, day_call, call_result, day_result}
 use Rattle.marehour.specs.Calls.{content, result_of}
 use Rattle.marehour.specs.Laws.{last_refusal, last_daily_refusal, last_forecast_refusal, WithinEnds, RepliesWithinEnds, BufferTooShort}
-use Rattle.marehour.specs.Laws.{NoDemandIsRefused, LastRefusalIsReached, HandsBackFigures, DailyHandsBack, ForecastHandsBack}
+use Rattle.marehour.specs.Laws.{NoDemandIsRefused, LastRefusalIsReached, RefusedWith, HandsBack, AnswerHandsBack, LanesHandBack}
+use Rattle.marehour.specs.Laws.{DailyHandsBack, ForecastHandsBack, LetterOutsideIsRefused}
 use Rattle.marehour.specs.Laws.{DayHandsBack, DayCallIsTheDay, PositionIsTheLinesAnswer}
 use Rattle.marehour.proofs.CallLaws.{FiguresFit, figures-written, figures-refused, count-length, buffer-short, buffer-fits}
 
@@ -103,7 +108,7 @@ forecast-fit forecast case =
 -- lent memory that is refused, a line that is refused with 15, or a case
 of-line : (least most last : ℕ) (reply : Case → Reply) (lent : List Condition) → 15 ≤ last → first_refusal lent ≤ last
     → (first_refusal lent ≡ 0 → (case : Case) → WithinEnds least most last (reply case)) → (line : List ℕ)
-    → WithinEnds least most last (line_call reply (read_line line) lent)
+    → WithinEnds least most last (line_call reply line lent)
 of-line least most last reply lent k h ends line =
     unless_refused-by (first_refusal lent) (line_reply reply (read_line line)) refusal_reply (WithinEnds least most last)
     (λ z. read_line-by (λ r. WithinEnds least most last (line_reply reply r)) (ends z) (omega arith, k) line) (λ p. (p, h))
@@ -136,10 +141,15 @@ pub no-demand-is-refused : NoDemandIsRefused
 unfolding lent_unfit lent_refusals
 no-demand-is-refused line room = refl
 
+-- the line whose speed factor is 499 is the case that 19 refuses
+line-under-499 : read_line (bytes_of line_under_499) ≡ Ok refused_by19
+unfolding line_facts
+line-under-499 = read-told _ refused_by19 lines-shown.1.1.1.0
+
 pub last-refusal-is-reached : LastRefusalIsReached
-unfolding in_order refusal_of on_first parts layout completed spelled number letter field_as values_of case_of read_values read_line weather_unfit
-    road_refusals load_refusals field_refusals refusals lanes_refusals buffer_refusals shares_unfit traffic_refusals range_refusals forecast_refusals
-last-refusal-is-reached = (refl, refl, refl, refl)
+unfolding in_order refusal_of weather_unfit road_refusals load_refusals field_refusals refusals lanes_refusals buffer_refusals
+    shares_unfit traffic_refusals range_refusals forecast_refusals
+last-refusal-is-reached = (rw line-under-499, rw line-under-499, rw line-under-499, rw line-under-499)
 
 -- ---- a day
 -- lent memory that fits: the line decides
@@ -195,27 +205,31 @@ position-is-the-lines-answer line case demands old i e z h = (
       ∙ ap (line_reply case_reply) k,
 )
 
--- ---- an answer in figures
-module _ (count last : ℕ) (h : 1 ≤ count) (number : Case → ℕ) (values : Case → List ℕ)
-    (fit : (case : Case) → FiguresFit count last (number case) (values case)) where
-  abbrev reply : Case → Reply
-  reply case = figures_reply (number case) (values case)
+-- ---- what a call over a line hands back
+-- the reply to a case: its text, of so many bytes or numbers, where its number is 0; else the refusal
+abbrev RepliesBy : (number : Case → ℕ) (text : Case → List ℕ) (count : Case → ℕ) (reply : Case → Reply) → Type 0
+RepliesBy number text count reply =
+    (case : Case)
+    → (number case ≡ 0 → (reply case ≡ writes (text case)) × (length (text case) ≡ count case))
+    × (0 < number case → reply case ≡ refusal_reply (number case))
 
+module _ (least : ℕ) (number : Case → ℕ) (text : Case → List ℕ) (count : Case → ℕ) (reply : Case → Reply)
+    (by : RepliesBy number text count reply) where
   abbrev call : List ℕ → ℕ → Reply
-  call line room = line_call reply (read_line line) (buffer_refusals count room)
+  call line room = line_call reply line (buffer_refusals least room)
 
-  hand-back-figures : HandsBackFigures count number values call
+  hand-back : HandsBack least number text count call
   unfolding written
-  hand-back-figures line old = (
+  hand-back line old = (
     λ short.
-        let own = buffer-short count (length old) short in
+        let own = buffer-short least (length old) short in
         back (unless_refused-some _ on_line refusal_reply (omega (arith, own)) ∙ ap refusal_reply (sym own)),
     λ room r e. back (read room ∙ ap (line_reply reply) (read_line-refused line r e)),
     λ room case e. (
-      λ n k p. back (read room ∙ ap (line_reply reply) e ∙ figures-refused _ _ ((fit case).none (omega (arith, k))) ∙ ap refusal_reply k),
+      λ n k p. back (read room ∙ ap (line_reply reply) e ∙ (by case).1 (omega (arith, k)) ∙ ap refusal_reply k),
       λ z.
-          let long = (fit case).some z in
-          let wrote = read room ∙ ap (line_reply reply) e ∙ figures-written (number case) (values case) (omega arith) in
+          let wrote = read room ∙ ap (line_reply reply) e ∙ ((by case).0 z).0 in
+          let long = ((by case).0 z).1 in
           (ap call_result wrote ∙ ap pos long, ap (λ r. content r old) wrote ∙ rw long),
     ),
   )
@@ -223,15 +237,62 @@ module _ (count last : ℕ) (h : 1 ≤ count) (number : Case → ℕ) (values : 
       on_line : Reply
       on_line = line_reply reply (read_line line)
 
-      read : count ≤ length old → call line (length old) ≡ on_line
-      read room = unless_refused-none _ on_line refusal_reply (buffer-fits count (length old) room)
+      read : least ≤ length old → call line (length old) ≡ on_line
+      read room = unless_refused-none _ on_line refusal_reply (buffer-fits least (length old) room)
 
-      back : {n : ℕ} → call line (length old) ≡ refusal_reply n
-          → (call_result (call line (length old)) ≡ neg_ℤ (pos n)) × (content (call line (length old)) old ≡ old)
+      back : {n : ℕ} → call line (length old) ≡ refusal_reply n → RefusedWith n (call line (length old)) old
       back e = (ap call_result e, ap (λ r. content r old) e)
 
+-- an answer with a grade is its text, and one with a count its two bytes
+answer-reply : (a : Result Grade Refusal)
+    → (refusal_number a ≡ 0 → (answer_reply a ≡ writes (answer_text a)) × (length (answer_text a) ≡ length (answer_text a)))
+    × (0 < refusal_number a → answer_reply a ≡ refusal_reply (refusal_number a))
+answer-reply (Ok grade) = (λ z. (refl, refl), λ p. absurd (omega arith))
+answer-reply (Err r) = (λ z. absurd (omega (arith, number-above r)), λ p. refl)
+
+count-reply : (a : Result ℕ Refusal) → ((count : ℕ) → a ≡ Ok count → count ≤ 9)
+    → (refusal_number a ≡ 0 → (count_reply a ≡ writes (count_text (lanes_figures a))) × (length (count_text (lanes_figures a)) ≡ 2))
+    × (0 < refusal_number a → count_reply a ≡ refusal_reply (refusal_number a))
+count-reply (Ok count) digit = (λ z. (refl, count-length count (digit count refl)), λ p. absurd (omega arith))
+count-reply (Err r) digit = (λ z. absurd (omega (arith, number-above r)), λ p. refl)
+
+figures-reply : (count last : ℕ) → 1 ≤ count → (number : Case → ℕ) (values : Case → List ℕ)
+    → ((case : Case) → FiguresFit count last (number case) (values case))
+    → RepliesBy number values (λ case. count) (λ case. figures_reply (number case) (values case))
+figures-reply count last h number values fit case = (
+  λ z. let long = (fit case).some z in (figures-written (number case) (values case) (omega arith), long),
+  λ p. figures-refused (number case) (values case) ((fit case).none p),
+)
+
+pub answer-hands-back : AnswerHandsBack
+answer-hands-back = hand-back longest_answer _ _ _ case_reply (λ case. answer-reply (answer_to case))
+
+pub lanes-hand-back : LanesHandBack
+lanes-hand-back letter =
+    hand-back longest_answer _ _ _ (lanes_reply letter)
+    (λ case. count-reply (lanes_answer case letter) (λ count e. found-digit case letter count e))
+
 pub daily-hands-back : DailyHandsBack
-daily-hands-back shares traffic = hand-back-figures daily.figure_count last_daily_refusal (omega arith) _ _ (daily-fit shares traffic)
+daily-hands-back shares traffic =
+    hand-back daily.figure_count _ _ _ (daily_reply shares traffic)
+    (figures-reply daily.figure_count last_daily_refusal (omega arith) _ _ (daily-fit shares traffic))
 
 pub forecast-hands-back : ForecastHandsBack
-forecast-hands-back forecast = hand-back-figures forecasts.figure_count last_forecast_refusal (omega arith) _ _ (forecast-fit forecast)
+forecast-hands-back forecast =
+    hand-back forecasts.figure_count _ _ _ (forecast_reply forecast)
+    (figures-reply forecasts.figure_count last_forecast_refusal (omega arith) _ _ (forecast-fit forecast))
+
+letter-outside : (case : Case) (letter : ℕ) → ((1 ≤ letter) × (letter ≤ 5) → ⊥) → first_refusal (lanes_refusals case letter) ≡ 16
+unfolding lanes_refusals
+letter-outside case letter out = grind (arith, nat_tests)
+
+-- the reply to a line that is read is that to its case
+pub lanes-read : (line old : List ℕ) (case : Case) (letter : ℕ) → longest_answer ≤ length old → read_line line ≡ Ok case
+    → lanes_call line letter (length old) ≡ lanes_reply letter case
+lanes-read line old case letter room e =
+    unless_refused-none _ (line_reply (lanes_reply letter) (read_line line)) refusal_reply (buffer-fits longest_answer (length old) room)
+    ∙ ap (line_reply (lanes_reply letter)) e
+
+pub letter-outside-is-refused : LetterOutsideIsRefused
+letter-outside-is-refused line old case letter room e out =
+    (((lanes-hand-back letter line old).2 room case e).0 16 (lanes_answer-number case letter ∙ letter-outside case letter out) (lit< tt))

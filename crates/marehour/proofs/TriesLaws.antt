@@ -1,17 +1,15 @@
 -- The call that counts the tried demands (specs/Tries).
-use Rattle.std.proofs.Common.{refl, ap, ◌∙◌, pos, neg_ℤ, arith}
+use Rattle.std.proofs.Common.{ap, ◌∙◌, pos, neg_ℤ, arith}
 use Rattle.refusals.proofs.NumberLaws.{number-refusal_of}
 use Rattle.method.proofs.RefusalLaws.{refusal-le}
 use Rattle.text.specs.Bytes.{bytes_of}
-use Rattle.text.specs.Parts.{on_first, parts}
 use Rattle.method.specs.Boundary.{example}
 use Rattle.answer.specs.Tries.{counted_answer}
 use Rattle.answer.proofs.AnswerLaws.{answer_to-accepted, answer_to-refused}
 use Rattle.answer.proofs.Boundary.{example-accepted}
 use Rattle.answer.proofs.TriesLaws.{tries-accepted}
 use Rattle.answer.proofs.SearchOrder.{at-most-80-tried, example-tried}
-use Rattle.lines.specs.Fields.{layout, completed, spelled, number, letter, field_as, values_of}
-use Rattle.lines.specs.Reading.{read_values, read_line}
+use Rattle.lines.proofs.Boundary.{short-read}
 use Rattle.lines.proofs.ReadingLaws.{read_line-refused}
 use Rattle.marehour.specs.Tries.{tries_result, line_tries, TriesHandBack, TriesOfLines}
 use Rattle.marehour.proofs.Boundary.{line-read}
@@ -27,8 +25,7 @@ tries-hand-back line = (
 )
 
 pub tries-of-lines : TriesOfLines
-unfolding on_first parts layout completed spelled number letter field_as values_of read_values read_line
 tries-of-lines = (
   ap line_tries line-read ∙ rw (answer_to-accepted example example-accepted, example-tried.1),
-  (tries-hand-back (bytes_of "F")).0 _ refl,
+  (tries-hand-back (bytes_of "F")).0 _ short-read.1,
 )

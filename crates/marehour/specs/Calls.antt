@@ -1,6 +1,5 @@
--- What the calls of a host in C hand back, and what the lent memory then holds (document 01, "Lines", "Refused, by who can cause it";
--- document 02, T-01, T-06 and T-07).
-use Rattle.std.specs.Prelude.{ℕ, ◌/◌, Result, Ok, Err, List, [], ◌∷◌, ◌++◌, ℤ, pos, neg_ℤ, nat_lt, length}
+-- What the calls of a host in C hand back, and what the lent memory then holds.
+use Rattle.std.specs.Prelude.{ℕ, ◌/◌, ◌^◌, ◌<◌, Result, Ok, Err, IfOk, List, [], ◌∷◌, ◌++◌, ℤ, pos, neg_ℤ, nat_lt, length}
 use Rattle.refusals.specs.declared.Refusal.{Refusal}
 use Rattle.refusals.specs.Refusals.{Condition, refuses, first_refusal, unless_refused}
 use Rattle.refusals.specs.Numbers.{number, refusal_number}
@@ -69,12 +68,14 @@ figures_reply number values = reply_of number values values
 -- the reply to a case for a daily traffic and its shares
 abbrev pub daily_reply : Shares → ℕ → Case → Reply
 daily_reply shares traffic case =
-    let answer = daily_answer case shares traffic in figures_reply (refusal_number answer) (daily.daily_figures answer)
+    let answer = daily_answer case shares traffic in
+    figures_reply (refusal_number answer) (daily.daily_figures answer)
 
 -- the same for a forecast
 abbrev pub forecast_reply : Forecast → Case → Reply
 forecast_reply forecast case =
-    let answer = forecast_answer case forecast in figures_reply (refusal_number answer) (forecasts.outcome_figures answer)
+    let answer = forecast_answer case forecast in
+    figures_reply (refusal_number answer) (forecasts.outcome_figures answer)
 
 -- the reply to a line that was read, by the reply to its case
 -- "15 malformed line", before 16, 20 and 1
@@ -82,16 +83,9 @@ abbrev pub line_reply : (Case → Reply) → Result Case Refusal → Reply
 line_reply reply (Ok case) = reply case
 line_reply reply (Err r) = refusal (number r)
 
--- the case of a line that was read, or what refuses the lent memory or the line
--- what the code finds of them: the case, or the first that refuses
-abbrev pub line_case : Result (Unit {0}) Refusal → Result Case Refusal → Result Case Refusal
-line_case (Ok u) r = r
-line_case (Err refused) r = Err refused
-
--- the reply of a call to a line that was read, by what refuses the lent memory
--- what refuses the lent memory comes first of all
-abbrev pub line_call : (Case → Reply) → Result Case Refusal → List Condition → Reply
-line_call reply r lent = unless_refused (first_refusal lent) (line_reply reply r) refusal
+-- the reply of a call over a line, by the reply to its case: what refuses the lent memory comes first of all
+abbrev pub line_call : (Case → Reply) → List ℕ → List Condition → Reply
+line_call reply line lent = unless_refused (first_refusal lent) (line_reply reply (read_line line)) refusal
 
 -- 17, of lent memory of room bytes or numbers that must have so many at least
 -- "17 answer buffer under 64 bytes, first of all", and fewer numbers than there are figures
@@ -100,42 +94,47 @@ buffer_refusals least room = refuses 17 (nat_lt room least) ∷ []
 
 -- the reply of the call for the answer to a line
 abbrev pub answer_call : List ℕ → ℕ → Reply
-answer_call line room = line_call case_reply (read_line line) (buffer_refusals longest_answer room)
+answer_call line room = line_call case_reply line (buffer_refusals longest_answer room)
 
 -- the same for the lanes question and letter number n
 abbrev pub lanes_call : List ℕ → ℕ → ℕ → Reply
-lanes_call line n room = line_call (lanes_reply n) (read_line line) (buffer_refusals longest_answer room)
+lanes_call line n room = line_call (lanes_reply n) line (buffer_refusals longest_answer room)
 
 -- the same for a day of demands, with room for so many numbers
 -- "18 .. before 1", and before 15, as it is about lent memory
 abbrev pub day_call : List ℕ → List ℕ → ℕ → Reply
-day_call line demands room = line_call (day_reply demands) (read_line line) (lent_refusals (length demands) room)
+day_call line demands room = line_call (day_reply demands) line (lent_refusals (length demands) room)
 
 -- the same for a daily traffic and its shares, with room for so many numbers
 -- "20 .. before 1": behind 17 and 15, as 1 is
 abbrev pub daily_call : List ℕ → Shares → ℕ → ℕ → Reply
-daily_call line shares traffic room = line_call (daily_reply shares traffic) (read_line line) (buffer_refusals daily.figure_count room)
+daily_call line shares traffic room =
+    line_call (daily_reply shares traffic) line (buffer_refusals daily.figure_count room)
 
 -- the same for a forecast, with room for so many numbers
 -- 1 to 6 and 22 behind 17 and 15
 abbrev pub forecast_call : List ℕ → Forecast → ℕ → Reply
-forecast_call line forecast room = line_call (forecast_reply forecast) (read_line line) (buffer_refusals forecasts.figure_count room)
+forecast_call line forecast room =
+    line_call (forecast_reply forecast) line (buffer_refusals forecasts.figure_count room)
 
--- what a call hands back where a count is found, or a refusal
--- a count, or minus a refusal's number
-abbrev pub hands_back : Result ℤ Refusal → ℤ
-hands_back (Ok count) = count
-hands_back (Err r) = neg_ℤ (pos (number r))
+-- what a call hands back: a count or a speed that was found, or minus a refusal's number
+abbrev pub handed_back : Result ℕ Refusal → ℤ
+handed_back (Ok n) = pos n
+handed_back (Err r) = neg_ℤ (pos (number r))
 
--- what a call hands back, by how it counts what is written
-abbrev pub handed_back : (List ℕ → ℕ) → Reply → ℤ
-handed_back count (writes ns) = pos (count ns)
-handed_back count (refusal number) = neg_ℤ (pos number)
+-- what was found fits the number that is handed back
+abbrev pub CanBeHandedBack : Result ℕ Refusal → Type 0
+CanBeHandedBack found = IfOk found (λ n. n < 2 ^ 31)
+
+-- what a call hands back with a reply, by how it counts what is written
+abbrev pub counted : (List ℕ → ℕ) → Reply → ℤ
+counted count (writes ns) = pos (count ns)
+counted count (refusal number) = neg_ℤ (pos number)
 
 -- the same in bytes, or in numbers where numbers are written
 -- "gets the count of bytes written, newline included, or minus the refusal number"
 abbrev pub call_result : Reply → ℤ
-call_result = handed_back length
+call_result = counted length
 
 -- how many answers so many numbers are
 abbrev pub answer_count : List ℕ → ℕ
@@ -143,10 +142,11 @@ answer_count ns = length ns / figure_count
 
 -- what a call hands back, in answers
 abbrev pub day_result : Reply → ℤ
-day_result = handed_back answer_count
+day_result = counted answer_count
 
 -- what the lent memory holds afterwards, if it held old
--- "Bytes past the count keep their content; a refusal changes no byte"; "Answers past the demands keep their content"
+-- "Bytes past the count keep their content; a refusal changes no byte"; "Answers past the demands keep their
+-- content"
 abbrev pub content : Reply → List ℕ → List ℕ
 content (writes ns) old = written ns old
 content (refusal number) old = old

@@ -4,6 +4,7 @@ use Rattle.text.specs.Bytes.{bytes_of}
 use Rattle.road.specs.declared.Case.{Case}
 use Rattle.road.specs.Cases.{with_demand}
 use Rattle.answer.specs.Answers.{answer_to}
+use Rattle.answer.specs.Lanes.{lanes_answer, lanes_figures}
 use Rattle.day.specs.Days.{most_demands, figure_count, answer_figures, LentFits, day_answer, day_content, count_figures}
 use Rattle.day.specs.Promises.{position}
 use Rattle.daily.specs.declared.Shares.{Shares}
@@ -16,18 +17,20 @@ use Rattle.forecast.specs.Forecasts.{forecast_of, forecast_answer}
 use Rattle.refusals.specs.declared.Refusal.{Refusal}
 use Rattle.refusals.specs.Numbers.{refusal_number}
 use Rattle.lines.specs.Reading.{read_line}
-use Rattle.replies.specs.Texts.{longest_answer}
-use Rattle.marehour.specs.Calls.{Reply, writes, refusal, answer_reply, answer_call, lanes_call, day_call, daily_call}
-use Rattle.marehour.specs.Calls.{forecast_call, call_result, day_result, content, result_of}
+use Rattle.lines.specs.Boundary.{line_under_499}
+use Rattle.replies.specs.Texts.{answer_text, longest_answer}
+use Rattle.marehour.specs.Calls.{Reply, writes, refusal, answer_reply, count_text, answer_call, lanes_call, day_call}
+use Rattle.marehour.specs.Calls.{daily_call, forecast_call, call_result, day_result, content, result_of}
 
--- last_refusal, last_daily_refusal, last_forecast_refusal: 19, 21 of a call with a daily traffic, and 22 of
--- one with a forecast
+-- the last refusal of a call over a line
 abbrev pub last_refusal : ℕ
 last_refusal = 19
 
+-- of one with a daily traffic
 abbrev pub last_daily_refusal : ℕ
 last_daily_refusal = 21
 
+-- of one with a forecast
 abbrev pub last_forecast_refusal : ℕ
 last_forecast_refusal = 22
 
@@ -44,16 +47,18 @@ RepliesWithinEnds =
     → WithinEnds 1 longest_answer last_refusal (answer_call line room)
     × WithinEnds 1 longest_answer last_refusal (lanes_call line letter room)
     × WithinEnds figure_count (most_demands * figure_count) last_refusal (day_call line demands room)
-    × WithinEnds daily.figure_count daily.figure_count last_daily_refusal (daily_call line shares traffic room)
-    × WithinEnds forecasts.figure_count forecasts.figure_count last_forecast_refusal (forecast_call line forecast room)
+    × WithinEnds daily.figure_count daily.figure_count last_daily_refusal
+    (daily_call line shares traffic room)
+    × WithinEnds forecasts.figure_count forecasts.figure_count last_forecast_refusal
+    (forecast_call line forecast room)
 
 -- a buffer of 63 bytes gets 17, and so do 15 numbers for daily figures and 7 for a forecast, whatever the
 -- line
 abbrev pub BufferTooShort : Type 0
 BufferTooShort =
     (line : List ℕ) (letter : ℕ) (shares : Shares) (traffic : ℕ) (forecast : Forecast)
-    → (answer_call line 63 ≡ refusal 17) × (lanes_call line letter 63 ≡ refusal 17) × (daily_call line shares traffic 15 ≡ refusal 17)
-    × (forecast_call line forecast 7 ≡ refusal 17)
+    → (answer_call line 63 ≡ refusal 17) × (lanes_call line letter 63 ≡ refusal 17)
+    × (daily_call line shares traffic 15 ≡ refusal 17) × (forecast_call line forecast 7 ≡ refusal 17)
 
 -- no demand gets 18, whatever the line and the room
 abbrev pub NoDemandIsRefused : Type 0
@@ -63,7 +68,7 @@ NoDemandIsRefused = (line : List ℕ) (room : ℕ) → day_call line [] room ≡
 -- of 4,000,000,001, and 22 with a forecast whose demand is from 1 to 0
 abbrev pub LastRefusalIsReached : Type 0
 LastRefusalIsReached =
-    let line = bytes_of "F\tG\t75000\t120\t60\t60\tD\t0\t2\t0\t1000\t0\tL\t499\t1000" in
+    let line = bytes_of line_under_499 in
     (answer_call line 64 ≡ refusal last_refusal) × (lanes_call line 1 64 ≡ refusal last_refusal)
     × (daily_call line urban 4000000001 16 ≡ refusal last_daily_refusal)
     × (forecast_call line (forecast_of 1 0 0 0 1000 1000) 8 ≡ refusal last_forecast_refusal)
@@ -84,8 +89,9 @@ DayHandsBack =
 abbrev pub DayCallIsTheDay : Type 0
 DayCallIsTheDay =
     (line : List ℕ) (case : Case) → read_line line ≡ Ok case → (demands old : List ℕ)
-    → (day_result (day_call line demands (length old))
-    ≡ result_of (refusal_number (day_answer (length demands) (length old))) (count_figures (day_answer (length demands) (length old))))
+    → let answer = day_answer (length demands) (length old) in
+    (day_result (day_call line demands (length old))
+    ≡ result_of (refusal_number answer) (count_figures answer))
     × (content (day_call line demands (length old)) old ≡ day_content case demands old)
 
 -- position i and the reply to a line with demand i are those of one answer
@@ -93,33 +99,62 @@ abbrev pub PositionIsTheLinesAnswer : Type 0
 PositionIsTheLinesAnswer =
     (line : List ℕ) (case : Case) (demands old : List ℕ) (i : ℕ)
     → read_line line ≡ Ok case → LentFits (length demands) (length old) → i < length demands
-    → (position i (content (day_call line demands (length old)) old) ≡ answer_figures (answer_to (with_demand case (get_or demands i 0))))
-    × ((other : List ℕ) (room : ℕ) → read_line other ≡ Ok (with_demand case (get_or demands i 0)) → longest_answer ≤ room
-    → answer_call other room ≡ answer_reply (answer_to (with_demand case (get_or demands i 0))))
+    → let asked = with_demand case (get_or demands i 0) in
+    (position i (content (day_call line demands (length old)) old) ≡ answer_figures (answer_to asked))
+    × ((other : List ℕ) (room : ℕ) → read_line other ≡ Ok asked → longest_answer ≤ room
+    → answer_call other room ≡ answer_reply (answer_to asked))
 
--- minus 17 and nothing written where fewer numbers are lent than the count; else minus 15 where the line is
--- malformed; else minus the number of the answer to its case, or the count and the answer's values from the
--- start on
-abbrev pub HandsBackFigures : (count : ℕ) (number : Case → ℕ) (values : Case → List ℕ) (call : List ℕ → ℕ → Reply) → Type 0
-HandsBackFigures count number values call =
+-- minus that number is handed back, and nothing is written
+abbrev pub RefusedWith : ℕ → Reply → List ℕ → Type 0
+RefusedWith n reply old = (call_result reply ≡ neg_ℤ (pos n)) × (content reply old ≡ old)
+
+-- what a call over a line hands back: minus 17 where less is lent than so much; else minus 15 where the line
+-- is malformed; else minus the number that refuses its case; else the count of the text, which stands from
+-- the start on, before what stood there
+abbrev pub HandsBack : (least : ℕ) (number : Case → ℕ) (text : Case → List ℕ) (count : Case → ℕ)
+    (call : List ℕ → ℕ → Reply) → Type 0
+HandsBack least number text count call =
     (line old : List ℕ)
     → let reply = call line (length old) in
-    (length old < count → (call_result reply ≡ neg_ℤ (pos 17)) × (content reply old ≡ old))
-    × (count ≤ length old → (r : Refusal) → read_line line ≡ Err r → (call_result reply ≡ neg_ℤ (pos 15)) × (content reply old ≡ old))
-    × (count ≤ length old → (case : Case) → read_line line ≡ Ok case
-    → ((n : ℕ) → number case ≡ n → 0 < n → (call_result reply ≡ neg_ℤ (pos n)) × (content reply old ≡ old))
-    × (number case ≡ 0 → (call_result reply ≡ pos count) × (content reply old ≡ values case ++ drop count old)))
+    (length old < least → RefusedWith 17 reply old)
+    × (least ≤ length old → (r : Refusal) → read_line line ≡ Err r → RefusedWith 15 reply old)
+    × (least ≤ length old → (case : Case) → read_line line ≡ Ok case
+    → ((n : ℕ) → number case ≡ n → 0 < n → RefusedWith n reply old)
+    × (number case ≡ 0
+    → (call_result reply ≡ pos (count case)) × (content reply old ≡ text case ++ drop (count case) old)))
 
--- so does the call with a daily traffic, with sixteen numbers and the daily answer
+-- so does the call for the answer, with 64 bytes and the text of the answer
+abbrev pub AnswerHandsBack : Type 0
+AnswerHandsBack =
+    HandsBack longest_answer (λ case. refusal_number (answer_to case)) (λ case. answer_text (answer_to case))
+    (λ case. length (answer_text (answer_to case))) answer_call
+
+-- the call for the lanes question, with 64 bytes and the two bytes of the count
+abbrev pub LanesHandBack : Type 0
+LanesHandBack =
+    (letter : ℕ)
+    → HandsBack longest_answer (λ case. refusal_number (lanes_answer case letter))
+    (λ case. count_text (lanes_figures (lanes_answer case letter))) (λ case. 2)
+    (λ line room. lanes_call line letter room)
+
+-- the call with a daily traffic, with sixteen numbers and the daily answer
 abbrev pub DailyHandsBack : Type 0
 DailyHandsBack =
     (shares : Shares) (traffic : ℕ)
-    → HandsBackFigures daily.figure_count (λ case. refusal_number (daily_answer case shares traffic))
-    (λ case. daily.daily_figures (daily_answer case shares traffic)) (λ line room. daily_call line shares traffic room)
+    → HandsBack daily.figure_count (λ case. refusal_number (daily_answer case shares traffic))
+    (λ case. daily.daily_figures (daily_answer case shares traffic)) (λ case. daily.figure_count)
+    (λ line room. daily_call line shares traffic room)
 
 -- and the call with a forecast, with eight and the forecast's answer
 abbrev pub ForecastHandsBack : Type 0
 ForecastHandsBack =
     (forecast : Forecast)
-    → HandsBackFigures forecasts.figure_count (λ case. refusal_number (forecast_answer case forecast))
-    (λ case. forecasts.outcome_figures (forecast_answer case forecast)) (λ line room. forecast_call line forecast room)
+    → HandsBack forecasts.figure_count (λ case. refusal_number (forecast_answer case forecast))
+    (λ case. forecasts.outcome_figures (forecast_answer case forecast)) (λ case. forecasts.figure_count)
+    (λ line room. forecast_call line forecast room)
+
+-- a letter number outside 1 to 5 is refused with 16, whatever the line's case
+abbrev pub LetterOutsideIsRefused : Type 0
+LetterOutsideIsRefused =
+    (line old : List ℕ) (case : Case) (letter : ℕ) → longest_answer ≤ length old → read_line line ≡ Ok case
+    → ((1 ≤ letter) × (letter ≤ 5) → ⊥) → RefusedWith 16 (lanes_call line letter (length old)) old

@@ -3,6 +3,8 @@
 pub mod Calls
 -- laws of the calls
 pub mod Laws
+-- the shape of the method, as a host meets it
+pub mod Shape
 -- the boundary sections of documents 01 and 02
 pub mod Boundary
 -- what the call that counts the tried demands hands back

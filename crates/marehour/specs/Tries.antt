@@ -1,5 +1,4 @@
--- What the call that counts the tried demands hands back (document 02, T-04), and its laws, stated; proofs/TriesLaws proves
--- them.
+-- What the call that counts the tried demands hands back, and its laws, stated; proofs/TriesLaws proves them.
 use Rattle.std.specs.Prelude.{◌≡◌, Result, Ok, Err, List, ℕ, ◌≤◌, ◌<◌, ℤ, pos, neg_ℤ, length}
 use Rattle.text.specs.Bytes.{bytes_of}
 use Rattle.road.specs.declared.Case.{Case}
@@ -10,7 +9,7 @@ use Rattle.answer.specs.Tries.{demands_tried, counted_answer}
 use Rattle.refusals.specs.declared.Refusal.{Refusal}
 use Rattle.refusals.specs.Numbers.{number}
 use Rattle.lines.specs.Reading.{read_line}
-use Rattle.marehour.specs.Boundary.{printed_line}
+use Rattle.lines.specs.Boundary.{printed_line}
 
 -- the count n of an answer with a grade, or minus the refusal's number
 abbrev pub tries_result : Result Grade Refusal → ℕ → ℤ
@@ -35,7 +34,7 @@ TriesHandBack =
     → ((r : Refusal) → read_line line ≡ Err r → tries_call line ≡ neg_ℤ (pos 15))
     × ((case : Case) → read_line line ≡ Ok case
     → (Accepted case
-    → (tries_call line ≡ pos (length (demands_tried case))) × (1 ≤ length (demands_tried case)) × (length (demands_tried case) ≤ 80))
+    → let tries = length (demands_tried case) in (tries_call line ≡ pos tries) × (1 ≤ tries) × (tries ≤ 80))
     × ((n : ℕ) → refusal case ≡ n → 0 < n → tries_call line ≡ neg_ℤ (pos n)))
 
 -- 67 for the printed line, and minus 15 for a line of one field

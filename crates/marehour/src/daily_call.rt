@@ -1,29 +1,36 @@
-//! Daily volumes for a host in C: a lent line without its newline, a daily traffic with its shares, and sixteen lent numbers.
+//! A daily traffic for a host in C, answered in sixteen lent numbers.
 
 ghost use Rattle.std.specs.Prelude.{◌≡◌, length};
 ghost use Rattle.daily.specs.Daily.{shares_of};
-ghost use Rattle.marehour.specs.Calls.{daily_call, call_result, content, hands_back};
+ghost use Rattle.marehour.specs.Calls.{daily_call, call_result, content, handed_back, CanBeHandedBack};
 
-use crate::calls::{case_of, check_room, handed_back};
-use refusals::Refusal;
+use crate::calls::{check_room, handed_back};
 use daily::{FIGURE_COUNT, Shares};
+use lines::read;
+use refusals::Refusal;
 
+/// Sixteen numbers; 17, 15, 20, 21, or one of 1 to 9, 19 and 10.
+#[tactic(auto, using(crate::proofs::CallLaws::call_laws))]
 fn daily_in(
     line: &[u8],
     shares: Shares,
     daily_traffic: u64,
     figures: &mut [u64],
-) -> Result<i32, Refusal>
-    ensures result { hands_back result ≡ call_result (daily_call line.now shares daily_traffic (length figures.old)) }
-    ensures figures { figures.new ≡ content (daily_call line.now shares daily_traffic (length figures.old)) figures.old }
+) -> Result<usize, Refusal>
+    ensures fits { CanBeHandedBack result }
+    ensures result { handed_back result
+        ≡ call_result (daily_call line.now shares daily_traffic (length figures.old)) }
+    ensures figures { figures.new
+        ≡ content (daily_call line.now shares daily_traffic (length figures.old)) figures.old }
 {
-    let case = case_of(line, check_room(figures.len(), FIGURE_COUNT))?;
+    check_room(figures.len(), FIGURE_COUNT)?;
+    let case = read::read_line(line)?;
     let grade = daily::evaluate_daily(case, shares, daily_traffic)?;
-    let written = grade.put_figures(figures);
-    Ok(written as i32)
+    Ok(grade.put_figures(figures))
 }
 
-/// The answer to the line's case with the hourly demand of the daily traffic, and its daily service volumes.
+/// The answer to the line's section with the hourly demand of a daily traffic, in vehicles per day, and its daily
+/// service volumes. The shares are in thousandths. 16, or minus the refusal's number.
 #[unsafe(no_mangle)]
 pub extern "C" fn marehour_daily(
     line: &[u8],
@@ -32,8 +39,8 @@ pub extern "C" fn marehour_daily(
     direction_share: u32,
     figures: &mut [u64],
 ) -> i32
-    ensures result { result ≡ call_result (daily_call line.now (shares_of peak_share direction_share) daily_traffic
-        (length figures.old)) }
+    ensures result { result ≡ call_result (daily_call line.now (shares_of peak_share direction_share)
+        daily_traffic (length figures.old)) }
     ensures figures { figures.new ≡ content (daily_call line.now (shares_of peak_share direction_share)
         daily_traffic (length figures.old)) figures.old }
 {

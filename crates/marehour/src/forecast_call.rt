@@ -1,24 +1,31 @@
-//! A forecast for a host in C: a lent line without its newline, the ends of demand, heavy share and peak-hour factor, eight lent numbers.
+//! A forecast for a host in C: a load known within ends, answered in eight lent numbers.
 
 ghost use Rattle.std.specs.Prelude.{◌≡◌, length};
 ghost use Rattle.forecast.specs.Forecasts.{forecast_of};
-ghost use Rattle.marehour.specs.Calls.{forecast_call, call_result, content, hands_back};
+ghost use Rattle.marehour.specs.Calls.{forecast_call, call_result, content, handed_back, CanBeHandedBack};
 
-use crate::calls::{case_of, check_room, handed_back};
-use refusals::Refusal;
+use crate::calls::{check_room, handed_back};
 use forecast::{FIGURE_COUNT, Forecast, Range};
+use lines::read;
+use refusals::Refusal;
 
-fn forecast_in(line: &[u8], forecast: Forecast, figures: &mut [u64]) -> Result<i32, Refusal>
-    ensures result { hands_back result ≡ call_result (forecast_call line.now forecast (length figures.old)) }
-    ensures figures { figures.new ≡ content (forecast_call line.now forecast (length figures.old)) figures.old }
+/// Eight numbers; 17, 15, one of 1 to 6, 22, one of 7 to 9, 19 or 10.
+#[tactic(auto, using(crate::proofs::CallLaws::call_laws))]
+fn forecast_in(line: &[u8], forecast: Forecast, figures: &mut [u64]) -> Result<usize, Refusal>
+    ensures fits { CanBeHandedBack result }
+    ensures result { handed_back result ≡ call_result (forecast_call line.now forecast (length figures.old)) }
+    ensures figures { figures.new
+        ≡ content (forecast_call line.now forecast (length figures.old)) figures.old }
 {
-    let case = case_of(line, check_room(figures.len(), FIGURE_COUNT))?;
+    check_room(figures.len(), FIGURE_COUNT)?;
+    let case = read::read_line(line)?;
     let outcomes = forecast::evaluate_forecast(case, forecast)?;
-    let written = outcomes.put_figures(figures);
-    Ok(written as i32)
+    Ok(outcomes.put_figures(figures))
 }
 
-/// The best and the worst letter of the line's case within the ends, each with its combination.
+/// The best and the worst letter of the line's section within the ends of its demand, in vehicles per hour, its heavy
+/// share and its peak-hour factor, in thousandths, each with the combination that gets it. 8, or minus the refusal's
+/// number.
 #[unsafe(no_mangle)]
 pub extern "C" fn marehour_forecast(
     line: &[u8],
@@ -33,8 +40,8 @@ pub extern "C" fn marehour_forecast(
     ensures result { result ≡ call_result (forecast_call line.now
         (forecast_of demand_low demand_high share_low share_high factor_low factor_high) (length figures.old)) }
     ensures figures { figures.new ≡ content (forecast_call line.now
-        (forecast_of demand_low demand_high share_low share_high factor_low factor_high) (length figures.old))
-        figures.old }
+        (forecast_of demand_low demand_high share_low share_high factor_low factor_high)
+        (length figures.old)) figures.old }
 {
     let forecast = Forecast {
         demand: Range {

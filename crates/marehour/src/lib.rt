@@ -1,5 +1,4 @@
-//! Marehour: what the calls that a host in C makes do; crate marehour_c has them with C's calling convention. include/marehour.h documents
-//! them.
+//! The calls that a host in C makes: the static library. include/marehour.h documents them.
 
 #![tactic(auto)]
 
@@ -7,5 +6,6 @@ pub mod calls;
 pub mod daily_call;
 pub mod day_call;
 pub mod forecast_call;
+pub mod promises;
 pub mod speed;
 pub mod tries;

@@ -1,16 +1,19 @@
-//! The surveyed speed for a host in C: thousandths of mi/h, or minus the refusal's number.
+//! A surveyed speed for a host in C, who gets thousandths of mi/h.
 
 ghost use Rattle.std.specs.Prelude.{◌≡◌};
 ghost use Rattle.survey.specs.Survey.{survey_answer};
 ghost use Rattle.survey.specs.declared.SurveyedSpeed.TheVariants.{MilesPerHour, KilometresPerHour};
-ghost use Rattle.marehour.specs.Calls.{hands_back, survey_result};
+ghost use Rattle.marehour.specs.Calls.{handed_back, CanBeHandedBack, survey_result};
 
 use crate::calls::handed_back;
 use refusals::Refusal;
 use survey::{Survey, SurveyedSpeed};
 
-fn survey_speed(speed: SurveyedSpeed, cars: u32, flow: u32) -> Result<i32, Refusal>
-    ensures { hands_back result ≡ survey_result (survey_answer (record { speed = speed; cars = cars; flow = flow })) }
+/// Thousandths of mi/h; 11, 12 or 13.
+fn survey_speed(speed: SurveyedSpeed, cars: u32, flow: u32) -> Result<usize, Refusal>
+    ensures fits { CanBeHandedBack result }
+    ensures result { handed_back result
+        ≡ survey_result (survey_answer (record { speed = speed; cars = cars; flow = flow })) }
 {
     let survey = Survey {
         speed,
@@ -18,21 +21,24 @@ fn survey_speed(speed: SurveyedSpeed, cars: u32, flow: u32) -> Result<i32, Refus
         flow: u64::from(flow),
     };
     let thousandths = survey::surveyed_speed(survey)?;
-    Ok(thousandths as i32)
+    Ok(thousandths as usize)
 }
 
-/// From a float in miles per hour.
+/// The exact value of a float in miles per hour, rounded down, of so many cars at a flow rate in passenger cars per
+/// hour per lane. The speed, or minus the refusal's number.
 #[unsafe(no_mangle)]
 pub extern "C" fn marehour_survey_mph(speed: f32, cars: u32, flow: u32) -> i32
-    ensures { result ≡ survey_result (survey_answer (record { speed = MilesPerHour speed; cars = cars; flow = flow })) }
+    ensures { result
+        ≡ survey_result (survey_answer (record { speed = MilesPerHour speed; cars = cars; flow = flow })) }
 {
     handed_back(survey_speed(SurveyedSpeed::MilesPerHour(speed), cars, flow))
 }
 
-/// From a float in kilometres per hour.
+/// The same of a float in kilometres per hour.
 #[unsafe(no_mangle)]
 pub extern "C" fn marehour_survey_kmh(speed: f32, cars: u32, flow: u32) -> i32
-    ensures { result ≡ survey_result (survey_answer (record { speed = KilometresPerHour speed; cars = cars; flow = flow })) }
+    ensures { result
+        ≡ survey_result (survey_answer (record { speed = KilometresPerHour speed; cars = cars; flow = flow })) }
 {
     handed_back(survey_speed(SurveyedSpeed::KilometresPerHour(speed), cars, flow))
 }

@@ -6,7 +6,7 @@ use Rattle.lines.proofs.FieldsLaws.{none-left, lone, not-lone, letter-read, lett
 use Rattle.lines.proofs.field.Fields.letter.Goals as goal
 
 pub returns-in_err-take : goal.returns-in_err-take
-returns-in_err-take g c = rw (c.from_residual.ensures, sym c.in_err-take.ensures.value) (none-left _ _)
+returns-in_err-take g c = rw (c.from_residual.ensures, sym c.in_err-take.ensures.value) (none-left _)
 
 pub returns-in-len1 : goal.returns-in-len1
 returns-in-len1 g c =
@@ -23,4 +23,4 @@ returns-in-9 g c =
 
 pub returns-in_default : goal.returns-in_default
 returns-in_default g c =
-    rw (sym c.in_ok-take.ensures.value) (letter-none _ _ _ (λ h. let n = not-lone _ h in grind (arith, n, c.in_default.branch)))
+    rw (sym c.in_ok-take.ensures.value) (letter-none _ _ (λ h. let n = not-lone _ h in grind (arith, n, c.in_default.branch)))

@@ -7,10 +7,9 @@ use Rattle.lines.proofs.DigitsLaws.{read-more, fits-more, room-for-more, read-st
 use Rattle.lines.proofs.FieldsLaws.{none-left, reads-none, reads, last, not-last}
 use Rattle.lines.proofs.field.Fields.number_up_to.Goals as goal
 use Rattle.lines.proofs.field.Fields.number_up_to.Goals.{else-loop-b-test, then-loop-b-test+then-b-eq9}
-use Rattle.lines.proofs.field.Fields.number_up_to.Goals.{then-not-is_empty, else-not-is_empty}
 
 pub returns-in_err-line : goal.returns-in_err-line
-returns-in_err-line c = rw (c.from_residual.ensures, sym c.in_err-line.ensures.value) (none-left _ _)
+returns-in_err-line c = rw (c.from_residual.ensures, sym c.in_err-line.ensures.value) (none-left _)
 
 pub overflow_mul-value : goal.overflow_mul-value
 overflow_mul-value c = omega (arith, room-for-more _ _ c.loop-b.invariant.fits (omega arith))
@@ -34,7 +33,7 @@ loop-b-preserved c =
 pub returns-then-not-is_ascii_digit : goal.returns-then-not-is_ascii_digit
 returns-then-not-is_ascii_digit c =
     rw (sym c.in_ok-line.ensures.value)
-    (reads-none _ _ _
+    (reads-none _ _
     (read-stops _ _ _ c.loop-b.invariant.digits c.loop-b-test.true c.if-b-eq9.false _ _ c.is_ascii_digit.ensures.value
     (⊎_elim (λ e. inl e) (λ e. inr (omega arith)) c.then-not-is_ascii_digit.either)))
 
@@ -52,13 +51,10 @@ returns c =
       | then-loop-b-test+then-b-eq9 w ↦ λ h. w.if-b-eq9.true
     ] in
     let count = counts-all _ _ _ l.invariant.digits (omega arith) ended in
+    let number = read-all _ _ _ l.invariant.digits (omega arith) ended _ l.invariant.few in
     rw (sym c.in_ok-line.ensures.value)
     (reads _ _ _ _
-    (rw (c.then_some.ensures, read-all _ _ _ l.invariant.digits (omega arith) ended _ l.invariant.few, sym l.invariant.counted)
-    (elim c.if-not-is_empty.branch [
-      | then-not-is_empty w ↦ rw (w.then_some-is, w.leading_zero.ensures, sym w.if-not-is_empty.ensures) (unless _ _)
-      | else-not-is_empty w ↦ rw (w.then_some-is, w.if-not-is_empty.false, sym w.if-not-is_empty.ensures)
-    ]))
+    (rw (c.then_some.ensures, c.is_number.ensures, number, sym l.invariant.counted) (unless _ _))
     (elim c.loop-b-test.branch [
       | else-loop-b-test w ↦ rw (w.self-is, l.invariant.none) (last bs (omega arith))
       | then-loop-b-test+then-b-eq9 w ↦ rw w.self-is (not-last bs l.b-index _ (omega arith) count (omega arith))
