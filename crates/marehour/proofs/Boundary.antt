@@ -23,7 +23,7 @@ use Rattle.day.proofs.Instances.{example-day}
 use Rattle.daily.specs.Instances.{urban, printed_figures}
 use Rattle.daily.proofs.Instances.{printed-accepted, printed-figures}
 use Rattle.forecast.specs.Instances.{wide}
-use Rattle.forecast.proofs.Instances.{wide-told}
+use Rattle.forecast.proofs.Instances.{wide-answered}
 use Rattle.survey.specs.Boundary.{survey_facts}
 use Rattle.survey.proofs.Boundary.{survey-shown}
 use Rattle.lines.specs.Reading.{read_line}
@@ -92,8 +92,8 @@ daily-shown =
 forecast-shown : content (forecast_call (bytes_of printed_line) wide 9) (replicate 9 9)
     ≡ 1 ∷ 1000 ∷ 0 ∷ 950 ∷ 6 ∷ 4000 ∷ 100 ∷ 850 ∷ 9 ∷ []
 forecast-shown =
-    (((forecast-hands-back wide (bytes_of printed_line) (replicate 9 9)).2 (lit≤ tt) example line-read).1 (ap (λ ns. get_or ns 0 0) wide-told)).1
-    ∙ ap (λ figures. drop 1 figures ++ (9 ∷ [])) wide-told
+    (((forecast-hands-back wide (bytes_of printed_line) (replicate 9 9)).2 (lit≤ tt) example line-read).1 (ap (λ ns. get_or ns 0 0) wide-answered)).1
+    ∙ ap (λ figures. drop 1 figures ++ (9 ∷ [])) wide-answered
 
 added-shown : Shown added_facts
 unfolding added_facts

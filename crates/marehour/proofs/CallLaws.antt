@@ -14,7 +14,7 @@ use Rattle.answer.proofs.Laws.{found-digit}
 use Rattle.answer.proofs.SearchOrder.{tries-le}
 use Rattle.day.specs.Days.{most_demands, lent_refusals}
 use Rattle.day.proofs.DayLaws.{day_figures-count}
-use Rattle.day.proofs.Promises.{lent-fits-exactly}
+use Rattle.day.proofs.PromiseLaws.{lent-fits-exactly}
 use Rattle.replies.specs.Texts.{answer_text, longest_answer}
 use Rattle.replies.proofs.TextsLaws.{answer_text-le}
 use Rattle.marehour.specs.Calls.{writes, refusal, count_text, figures_reply, buffer_refusals}

@@ -24,18 +24,18 @@ use Rattle.answer.proofs.Laws.{refusals-within-ends, counts-are-digits, found-di
 use Rattle.day.specs.Days.{most_demands, figure_count, lent_unfit, lent_refusals, LentFits, count_figures as day_values}
 use Rattle.day.specs.Promises.{position}
 use Rattle.day.proofs.DayLaws.{day_figures-length, day_figures-count, day-refused, day-answered}
-use Rattle.day.proofs.Promises.{position-holds-the-answer, lent-fits-exactly}
+use Rattle.day.proofs.PromiseLaws.{position-holds-the-answer, lent-fits-exactly}
 use Rattle.daily.specs.declared.Shares.{Shares}
 use Rattle.daily.specs.Daily as daily
 use Rattle.daily.specs.Daily.{shares_unfit, traffic_refusals, daily_answer}
 use Rattle.daily.proofs.DailyLaws as daily-laws
-use Rattle.daily.proofs.Promises.{figures-of-the-hour}
+use Rattle.daily.proofs.PromiseLaws.{figures-of-the-hour}
 use Rattle.forecast.specs.declared.Forecast.{Forecast}
 use Rattle.forecast.specs.Forecasts as forecasts
 use Rattle.forecast.specs.Forecasts.{range_refusals, forecast_refusals, forecast_answer}
 use Rattle.forecast.proofs.ForecastLaws as forecast-laws
 use Rattle.forecast.proofs.ForecastLaws.{refused-values}
-use Rattle.forecast.proofs.Promises.{shown}
+use Rattle.forecast.proofs.PromiseLaws.{shown}
 use Rattle.lines.specs.Reading.{read_line}
 use Rattle.lines.specs.Boundary.{line_under_499, line_facts}
 use Rattle.lines.proofs.Boundary.{lines-shown, read-told}

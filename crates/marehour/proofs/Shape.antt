@@ -22,7 +22,7 @@ use Rattle.road.specs.Refusals.{greatest_demand}
 use Rattle.answer.proofs.Boundary.{example-accepted, example-figures, none-at-999999}
 use Rattle.answer.proofs.Laws.{found-digit}
 use Rattle.answer.proofs.AnswerLaws.{answer_to-number}
-use Rattle.answer.proofs.Promises.{no-better-under-more-load, meets-up-to-the-service-volume, least-accepted-count}
+use Rattle.answer.proofs.PromiseLaws.{no-better-under-more-load, meets-up-to-the-service-volume, least-accepted-count}
 use Rattle.lines.specs.Reading.{read_line}
 use Rattle.lines.specs.Boundary.{printed_line, printed_line_with}
 use Rattle.lines.proofs.Laws.{demand-on-a-line}
