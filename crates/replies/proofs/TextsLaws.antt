@@ -17,14 +17,14 @@ use Rattle.answer.proofs.Laws.{figures-within-ends}
 use Rattle.answer.proofs.AnswerLaws.{answer_to-accepted}
 use Rattle.text.proofs.BlockLaws.{last-one}
 use Rattle.lines.specs.Reading.{longest_line, read_line}
-use Rattle.lines.proofs.ReadingLaws.{read_line-by, read_line-refused, read_line-long}
+use Rattle.lines.proofs.ReadingLaws.{read_line-by, read_line-long}
 use Rattle.replies.specs.Texts.{letter_byte, refusal_text, text_of, answer_text, longest_answer, answer_of, line_text}
 
 -- ---- by what was read
 -- what is printed for a line that is refused
-pub line_text-refused : (bs : List ℕ) (r : Refusal) → read_line bs ≡ Err r → line_text bs ≡ refusal_text 15
+pub line_text-refused : (bs : List ℕ) (r : Refusal) → read_line bs ≡ Err r → line_text bs ≡ refusal_text (number r)
 unfolding text_of line_text
-line_text-refused bs r e = ap (λ a. answer_text (answer_of a)) (read_line-refused bs r e)
+line_text-refused bs r e = ap (λ a. answer_text (answer_of a)) e
 
 -- what is printed for a line that is a case
 pub line_text-case : (bs : List ℕ) (case : Case) → read_line bs ≡ Ok case → line_text bs ≡ answer_text (answer_to case)

@@ -65,8 +65,9 @@ pub fn answer_line(line: &[u8], out: &mut [u8]) -> usize
     requires { longest_answer ≤ length out.old }
     ensures { Wrote (line_text line.now) out.old out.new result }
 {
-    let Ok(case) = read::read_line(line) else {
-        return write_refusal(Refusal::LineMalformed, out);
+    let read = read::read_line(line);
+    let Ok(case) = read else {
+        return write_refusal(read.unwrap_err(), out);
     };
     write_answer(evaluate::evaluate(case), out)
 }
