@@ -7,7 +7,7 @@
      marehour_day          a section's answers for up to 24 demands
      marehour_daily        a section's answer for a daily traffic, and its daily service volumes
      marehour_forecast     a section's best and worst letter for a load known within ranges
-     marehour_tries        how many demands the search for a section's service volumes tries
+     marehour_tries        how many demands halving tries for a section's service volumes
      marehour_survey_mph   a surveyed speed, from miles per hour
      marehour_survey_kmh   a surveyed speed, from kilometres per hour
 
@@ -87,7 +87,7 @@ extern "C" {
 /* How many numbers the answer for a forecast has. */
 #define MAREHOUR_FORECAST_FIGURES 8
 
-/* No search for a section's service volumes tries more demands. */
+/* The most that marehour_tries counts for any section. */
 #define MAREHOUR_MOST_TRIES 80
 
 /* Numbers of the letters: marehour_lanes takes A to E; marehour_day, marehour_daily and
@@ -282,10 +282,11 @@ int32_t marehour_forecast(const uint8_t *line, size_t line_length, uint64_t dema
 */
 
 int32_t marehour_tries(const uint8_t *line, size_t line_length);
-/* Counts what marehour_answer does for a section: the demands that its search for the five service
-   volumes tries, by halving, for E from 0 to the greatest demand and then for each better letter
-   from 0 to the volume found before. It is for tests and for whoever plans the time of many calls;
-   no answer depends on it.
+/* Counts the demands that halving tries for the five service volumes of a section, for E from 0 to
+   the greatest demand and then for each better letter from 0 to the volume found before. This is
+   the order in which marehour_answer searches for them. The count is proved to be the length of
+   that list of demands; that the search tries these and no others is not part of any contract. It
+   is for tests and for whoever plans the time of many calls; no answer depends on it.
 
    The result is the count, 1 to MAREHOUR_MOST_TRIES; or minus the first of these refusals that
    holds, in this order:
