@@ -16,18 +16,20 @@ use Rattle.text.proofs.StreamLaws.{first_line, after_first, by-lines, without_em
 use Rattle.text.proofs.HeldLaws.{half_line-last, half_line-next, half_line-unended, same-half, stands-self, stands-trans, stands-fed}
 
 -- ---- whole lines, and the half line after them
--- a first line: it has no newline, and its newline and the rest follow
+-- no newline is in a first line
 first_line-unended : (bs : List ℕ) → count_before newline (first_line bs) ≡ length (first_line bs)
 unfolding count_before
 first_line-unended [] = refl
 first_line-unended (b ∷ bs) = grind (arith, nat_tests, first_line-unended bs)
 
+-- its newline and the rest follow
 first_line-ended : (bs : List ℕ) → count_before newline bs < length bs → bs ≡ first_line bs ++ (newline ∷ after_first bs)
 unfolding count_before
 first_line-ended [] h = absurd (omega arith)
 first_line-ended (b ∷ bs) h = grind (arith, nat_tests, first_line-ended bs)
 
 module _ (t : LineTexts) where
+  -- a line and more: its text, and what is printed for more
   one-line : (l more : List ℕ) → count_before newline l ≡ length l → output_of t (l ++ (newline ∷ more)) ≡ t.text l ++ output_of t more
   unfolding parts flat_map texts lines_of output_of
   one-line l more h = rw (
@@ -43,6 +45,7 @@ module _ (t : LineTexts) where
     pub ended : IsWholeLines whole
     pub prints : output_of t bs ≡ output_of t whole ++ output_of t (half_line bs)
 
+  -- all bytes are whole lines and a half line
   pub halved : (bs : List ℕ) → Halved bs
   unfolding last_line without_empty_last parts flat_map texts lines_of output_of
   halved = by-lines Halved last next
@@ -101,6 +104,7 @@ pub record Underway (t : LineTexts) (input left old new : Option (List ℕ)) (he
   pub appended : Appends old new out
   pub stands : StandsFor t bytes held out
 
+-- nothing is read yet
 pub begun : (t : LineTexts) (input old : Option (List ℕ)) → Underway t input input old old []
 begun t input old = record {
   bytes = [];
@@ -136,12 +140,13 @@ module _ (t : LineTexts) (input left old new : Option (List ℕ)) (held : List �
   all-printed : output_of t u.bytes ≡ u.out ++ output_of t held
   all-printed = rw (append-nil u.bytes, append-nil held) at (u.stands.prints [])
 
-  -- all, or a start, of what is printed for the bytes held was appended at the input's end
+  -- what is printed for the bytes held was appended at the input's end
   pub ended : (new' : Option (List ℕ)) → IsAtEnd left → Appends new new' (output_of t held) → AnswersInput t input old new'
   ended new' e a =
       Consumes-whole input left u.bytes (λ bytes. Appends old new' (output_of t bytes)) u.read e
       (rw all-printed (Appends-trans old new new' u.out (output_of t held) u.appended a))
 
+  -- a start of it was appended there
   pub ended-early : (new' : Option (List ℕ)) → IsAtEnd left → AppendsAStart new new' (output_of t held) → AnswersAStart t input old new'
   ended-early new' e a =
       Consumes-whole input left u.bytes (λ bytes. AppendsAStart old new' (output_of t bytes)) u.read e

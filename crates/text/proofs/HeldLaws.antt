@@ -11,6 +11,7 @@ use Rattle.text.specs.Runs.{TooLongAlike}
 use Rattle.text.proofs.StreamLaws.{first_line, after_first, by-lines, by-turns, left, left-next, count_before-append, no-newline, parts-front, lines_of-last, same-texts, turn-law}
 
 -- ---- the half line
+-- the last of more parts is the last of the others
 last_part-cons : (p : List ℕ) (ps : List (List ℕ)) → 0 < length ps → last_part (p ∷ ps) ≡ last_part ps
 unfolding last_part
 last_part-cons p [] h = absurd (omega arith)
@@ -21,22 +22,24 @@ pub half_line-last : (bs : List ℕ) → count_before newline bs ≡ length bs �
 unfolding last_part half_line
 half_line-last bs h = rw (parts-one newline bs h)
 
+-- bytes with a newline have the half line of what follows their first line
 pub half_line-next : (bs : List ℕ) → count_before newline bs < length bs → half_line bs ≡ half_line (after_first bs)
 unfolding half_line
 half_line-next bs h =
     rw (parts-more newline bs h, last_part-cons (first_line bs) (parts newline (after_first bs)) (parts-pos newline (after_first bs)))
 
+-- no newline is in it
 pub half_line-unended : (bs : List ℕ) → count_before newline (half_line bs) ≡ length (half_line bs)
 half_line-unended = by-lines (λ bs. count_before newline (half_line bs) ≡ length (half_line bs))
     (λ bs e. rw (half_line-last bs e) e) (λ bs l rec. rw (half_line-next bs l) rec)
 
--- of bytes and more: the first line of the bytes is past
+-- the same where more bytes follow
 half_line-past : (bs more : List ℕ) → count_before newline bs < length bs → half_line (bs ++ more) ≡ half_line (after_first bs ++ more)
 half_line-past bs more h =
     let e : count_before newline (bs ++ more) ≡ count_before newline bs = count_before-append bs more h in
     rw (e, drop-append-le (suc (count_before newline bs)) bs more h) at (half_line-next (bs ++ more) (omega (arith, length-append bs more)))
 
--- more with a newline has the half line, more without one goes on with it
+-- more bytes with a newline have the half line of all
 half_line-new : (more : List ℕ) → count_before newline more < length more → (bs : List ℕ) → half_line (bs ++ more) ≡ half_line more
 unfolding half_line
 half_line-new more m = by-lines (λ bs. half_line (bs ++ more) ≡ half_line more)
@@ -46,6 +49,7 @@ half_line-new more m = by-lines (λ bs. half_line (bs ++ more) ≡ half_line mor
     ) (sym (half_line-next more m)))
     (λ bs l rec. half_line-past bs more l ∙ rec)
 
+-- more bytes without one go on with it
 half_line-longer : (more : List ℕ) → count_before newline more ≡ length more → (bs : List ℕ) → half_line (bs ++ more) ≡ half_line bs ++ more
 unfolding last_part half_line
 half_line-longer more m = by-lines (λ bs. half_line (bs ++ more) ≡ half_line bs ++ more)
@@ -54,20 +58,23 @@ half_line-longer more m = by-lines (λ bs. half_line (bs ++ more) ≡ half_line 
 
 -- ---- what stands for what
 module _ (t : LineTexts) where
+  -- lines that count as one with a third
   SameLine-trans : (l m n : List ℕ) → SameLine t l m → SameLine t m n → SameLine t l n
   SameLine-trans l m n = ⊎_elim (λ e. λ s. subst (λ x. SameLine t x n) (sym e) s)
       (λ long. ⊎_elim (λ e. inr (long.0, subst (λ (x : List ℕ). t.longest_line < length x) e long.1)) (λ longer. inr (long.0, longer.1)))
 
-  -- what no newline ends, of two half lines that count as one, prints the same
+  -- two half lines that count as one print the same
   pub same-half : TooLongAlike t → (l m : List ℕ) → count_before newline l ≡ length l → count_before newline m ≡ length m
       → SameLine t l m → output_of t l ≡ output_of t m
   unfolding without_empty_last output_of
   same-half alike l m h k = ⊎_elim (λ e. ap (output_of t) e)
       (λ long. rw (lines_of-last l h, lines_of-last m k) (same-texts t alike l m [] long.0 long.1))
 
+  -- bytes stand for themselves
   pub stands-self : (bytes : List ℕ) → StandsFor t bytes bytes []
   stands-self bytes = record { prints = λ more. refl; half = inl refl }
 
+  -- what stands for bytes that stand for others stands for these
   pub stands-trans : {a b c o p : List ℕ} → StandsFor t a b o → StandsFor t b c p → StandsFor t a c (o ++ p)
   stands-trans {a} {b} {c} {o} {p} s r = record {
     prints = λ more. s.prints more ∙ ap (λ (x : List ℕ). o ++ x) (r.prints more) ∙ sym (append_assoc o p (output_of t (c ++ more)));
@@ -107,6 +114,7 @@ module _ (t : LineTexts) where
           rw (half_line-last bs e, half_line-last (take (suc t.longest_line) bs) (no-newline (suc t.longest_line) bs e))
           (inr (omega arith, omega arith))
 
+  -- what a turn carries over stands for what was held
   pub stands-turned : TooLongAlike t → (room : ℕ) (held : List ℕ)
       → StandsFor t held (carried t room held) (texts t (answered t room held))
   unfolding carried
