@@ -75,9 +75,9 @@ malformed_lines =
     )
 
 -- what lines are read as
--- the printed line; with the factors of snow, and with a factor of 99999, which 19 refuses later, as it does one
--- of 499; with a demand of six digits, by the reader before T-09 too, and by that with five; the lines that are refused; the
--- longest line
+-- the printed line; with the factors of snow, and with a factor of 99999; a line with one of 499 (19 refuses
+-- both later); with a demand of six digits, by the reader before T-09 too, and by that with five; the lines
+-- that are refused; the longest line
 unfoldable pub line_facts : List Fact
 line_facts =
     fact (read_as printed_line) (printed_values 2000 1000 1000)

@@ -16,8 +16,8 @@ pub data Field : Type 0 where
 
 -- the 15 fields
 -- "kind F or M; E or G; speed; width; right clearance; left clearance; median U, D or T; ramps in six miles
--- (F) or access points per mile (M); lanes; V; H; P; terrain L or R"; "two fields at its end, speed factor and
--- capacity factor"; "A number has one to five digits"; of V "its field may have six digits"
+-- (F) or access points per mile (M); lanes; V; H; P; terrain L or R"; "two fields at its end, speed factor
+-- and capacity factor"; "A number has one to five digits"; of V "its field may have six digits"
 unfoldable pub layout : List Field
 layout =
     letters (bytes_of "FM") ∷ letters (bytes_of "EG")

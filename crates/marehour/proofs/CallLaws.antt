@@ -20,11 +20,12 @@ use Rattle.replies.proofs.TextsLaws.{answer_text-le}
 use Rattle.marehour.specs.Calls.{writes, refusal, count_text, figures_reply, buffer_refusals}
 
 -- ---- an answer buffer
--- buffer-short, buffer-fits, buffer-room: a buffer that 17 refuses; one that it does not
+-- a buffer that 17 refuses
 pub buffer-short : (least room : ℕ) → room < least → 17 ≡ first_refusal (buffer_refusals least room)
 unfolding buffer_refusals
 buffer-short least room h = rw (lt-ltb room least h)
 
+-- one that it does not
 pub buffer-fits : (least room : ℕ) → least ≤ room → first_refusal (buffer_refusals least room) ≡ 0
 unfolding buffer_refusals
 buffer-fits least room h = rw (le-ltb room least h)
@@ -44,11 +45,12 @@ pub record FiguresFit (count last number : ℕ) (values : List ℕ) : Type 0 whe
   pub none : 0 < number → values ≡ []
   pub most : number ≤ last
 
--- figures-written, figures-refused: an answer in figures, of which there is one at least; a refusal
+-- its reply, where there is one figure at least
 pub figures-written : (number : ℕ) (values : List ℕ) → 1 ≤ length values → figures_reply number values ≡ writes values
 figures-written number [] h = absurd (omega arith)
 figures-written number (v ∷ vs) h = refl
 
+-- the reply of a refusal
 pub figures-refused : (number : ℕ) (values : List ℕ) → values ≡ [] → figures_reply number values ≡ refusal number
 figures-refused number values e = ap (figures_reply number) e
 
