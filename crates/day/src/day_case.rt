@@ -50,7 +50,7 @@ impl DayCase {
     pub(crate) fn refusal_with(refusal: Refusal, demand: Demand) -> Refusal
         ensures { number result ≡ refusal_with (number refusal) demand }
     {
-        if GREATEST_DEMAND < demand && Refusal::DemandTooLarge < refusal {
+        if GREATEST_DEMAND < demand && Refusal::DemandTooLarge.number() < refusal.number() {
             return Refusal::DemandTooLarge;
         }
         refusal

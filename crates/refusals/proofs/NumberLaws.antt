@@ -43,9 +43,6 @@ number-above r = (number-fits r).0
 pub number-le : (r : Refusal) → number r ≤ 22
 number-le r = (number-fits r).1
 
--- number_ends, in_turn: for tactics: the first two, and the last two
-pub ruleset number_ends = (number-above, number-le)
-
 -- the refusal of a refusal's number is that refusal
 pub refusal_of-number : (r : Refusal) → refusal_of (number r) ≡ r
 refusal_of-number r = (number-fits r).2

@@ -3,7 +3,7 @@ use Rattle.std.proofs.Common.{◌≡◌, refl, sym, ◌∙◌, Bool, true, false
 use Rattle.std.proofs.Common.{eq-zero-or-pos, arith, le-ltb, ne_eqb, T, leb, ltb, eqb, leb→le, ltb→lt, eqb→eq}
 use Rattle.std.proofs.lemmas.Bool.Decides.{nat_tests}
 use Rattle.numbers.proofs.BoolLaws.{and-left, and-right, cond-le}
-use Rattle.refusals.specs.Refusals.{Condition, refuses, first_refusal, by_turns, lesser_refusal, unless_refused, outside}
+use Rattle.refusals.specs.Refusals.{Condition, refuses, first_refusal, unless_refused, outside}
 
 -- ---- the first of a list
 -- every refusal of the list has a number above 0
@@ -102,50 +102,6 @@ first_refusal-lacks n (r ∷ rs) t p e =
     go true q rest =
         let other : T (not (eqb r.number n)) = and-left (not (eqb r.number n)) (lacks n rs) t in grind (arith, nat_tests)
     go false q rest = rest q
-
--- ---- two lists by turns
--- two lists with the same numbers above 0, each greater than those before it
-abbrev pub rises_with : List Condition → List Condition → Bool
-rises_with [] [] = true
-rises_with [] (s ∷ ss) = false
-rises_with (r ∷ rs) [] = false
-rises_with (r ∷ rs) (s ∷ ss) =
-    (ltb 0 r.number && eqb r.number s.number)
-    && ((at_least (suc r.number) rs && at_least (suc r.number) ss) && rises_with rs ss)
-
--- the lesser of a number and itself
-pub lesser_refusal-same : (n : ℕ) → lesser_refusal n n ≡ n
-unfolding lesser_refusal
-lesser_refusal-same n = grind (arith, nat_tests)
-
--- the number that two lines share, met in the one or the other, before what the lines after them say
-lesser-head : (n f g : ℕ) (a b : Bool) → 0 < n → (0 < f → suc n ≤ f) → (0 < g → suc n ≤ g)
-    → cond a n (cond b n (lesser_refusal f g)) ≡ lesser_refusal (cond a n f) (cond b n g)
-unfolding lesser_refusal
-lesser-head n f g false false p h k = refl
-lesser-head n f g true true p h k = grind (arith, nat_tests)
-lesser-head n f g true false p h k = grind (arith, nat_tests)
-lesser-head n f g false true p h k = grind (arith, nat_tests)
-
--- of two such lists that are asked by turns: the lesser number
-pub first_refusal-by_turns : (rs ss : List Condition) → T (rises_with rs ss)
-    → first_refusal (by_turns rs ss) ≡ lesser_refusal (first_refusal rs) (first_refusal ss)
-unfolding lesser_refusal
-first_refusal-by_turns [] [] t = refl
-first_refusal-by_turns [] (s ∷ ss) t = absurd t
-first_refusal-by_turns (r ∷ rs) [] t = absurd t
-first_refusal-by_turns (r ∷ rs) (s ∷ ss) t =
-    let n = r.number in
-    let shared = and-left (ltb 0 n && eqb n s.number) _ t in
-    let rest = and-right (ltb 0 n && eqb n s.number) _ t in
-    let later = and-left (at_least (suc n) rs && at_least (suc n) ss) (rises_with rs ss) rest in
-    rw (
-      sym (eqb→eq n s.number (and-right (ltb 0 n) _ shared)),
-      first_refusal-by_turns rs ss (and-right (at_least (suc n) rs && at_least (suc n) ss) (rises_with rs ss) rest),
-    )
-    (lesser-head n (first_refusal rs) (first_refusal ss) r.met s.met (ltb→lt 0 n (and-left (ltb 0 n) _ shared))
-    (first_refusal-ge (suc n) rs (and-left (at_least (suc n) rs) _ later))
-    (first_refusal-ge (suc n) ss (and-right (at_least (suc n) rs) _ later)))
 
 -- ---- ranges
 -- within, inside: a number that is not outside a range

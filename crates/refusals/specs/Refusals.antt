@@ -1,5 +1,5 @@
 -- Numbered refusals in an order, and an answer unless one is met (document 01, "Refused, by who can cause it").
-use Rattle.std.specs.Prelude.{ℕ, min, Bool, if◌then◌else◌, ◌||◌, List, [], ◌∷◌, nat_lt, ◌==◌}
+use Rattle.std.specs.Prelude.{ℕ, Bool, if◌then◌else◌, ◌||◌, List, [], ◌∷◌, nat_lt, ◌==◌}
 
 -- a refusal's number, and whether it is met
 pub record Condition : Type 0 where
@@ -20,11 +20,6 @@ abbrev pub by_turns : List Condition → List Condition → List Condition
 by_turns [] ss = ss
 by_turns (r ∷ rs) [] = r ∷ rs
 by_turns (r ∷ rs) (s ∷ ss) = r ∷ s ∷ by_turns rs ss
-
--- the lesser of two numbers, of which 0 is none
-unfoldable pub lesser_refusal : ℕ → ℕ → ℕ
-lesser_refusal m n = if m == 0 then n
-    else if n == 0 then m else min m n
 
 -- a where the number n is 0, else the refusal n, made by f
 -- "Every refusal hands back its number and nothing else"

@@ -3,11 +3,10 @@
 #![tactic(auto)]
 
 ghost use Rattle.std.specs.Prelude.{◌≡◌};
-ghost use Rattle.refusals.specs.Refusals.{lesser_refusal};
-ghost use Rattle.refusals.specs.Numbers.{number, refusal_number};
+ghost use Rattle.refusals.specs.Numbers.{number};
 
 /// Why a call, a line or a case is refused. Each is handed back by its number and nothing else.
-#[derive(Clone, Copy, PartialEq, Eq, PartialOrd, Ord)]
+#[derive(Clone, Copy, PartialEq, Eq)]
 pub enum Refusal {
     /// 1: a speed that is not 30,000 to 90,000 thousandths of mi/h.
     SpeedOutOfRange = 1,
@@ -62,17 +61,5 @@ impl Refusal {
         ensures { result ≡ number self }
     {
         self as u64
-    }
-}
-
-/// Of two answers whose questions are asked by turns, the first that refuses: the refusal with the lesser number, if either refuses.
-#[tactic(auto, using(crate::proofs::NumberLaws::number_ends), unfolding(crate::specs::Refusals::lesser_refusal))]
-pub fn lesser_refusal(one: Result<(), Refusal>, other: Result<(), Refusal>) -> Result<(), Refusal>
-    ensures { refusal_number result ≡ lesser_refusal (refusal_number one) (refusal_number other) }
-{
-    match (one, other) {
-        (Err(first), Err(second)) if second < first => other,
-        (Err(_), _) => one,
-        (Ok(()), _) => other,
     }
 }
