@@ -16,7 +16,7 @@ use Rattle.method.specs.Assess.{measures}
 use Rattle.answer.specs.Answers.{graded, answer_to}
 use Rattle.accuracy.specs.Promises.{UpToCapacity}
 use Rattle.accuracy.specs.Instances.{first_figures, farthest, AnswerToFarthest, at_capacity, AnswerAtCapacity, AnswerAboveCapacity}
-use Rattle.accuracy.proofs.Promises.{answer-just-below, a-to-e-just-below}
+use Rattle.accuracy.proofs.PromiseLaws.{answer-just-below, a-to-e-just-below}
 
 accepted : Accepted farthest × Accepted at_capacity
 unfolding uncapped_by free_flow_speed_of weather_unfit road_refusals load_refusals field_refusals adjusted_speed speed_refusals refusals

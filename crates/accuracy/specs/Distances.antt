@@ -1,4 +1,5 @@
--- Points of the manual's curve and how far below it the shown speed is, each worked out by whole powers; proofs/Distances proves them.
+-- Points of the manual's curve and how far below it the shown speed is, each worked out by whole powers;
+-- proofs/Distances proves them.
 use Rattle.std.specs.Prelude.{◌≡◌, ℕ, suc, ◌+◌}
 use Rattle.curve.specs.declared.kind.Kind.TheVariants as Kind
 use Rattle.curve.specs.Curves.{curve_at}
@@ -9,7 +10,9 @@ use Rattle.accuracy.specs.Promises.{JustBelowManualCurve}
 -- at F and v the shown speed is s, k whole thousandths of mi/h below the manual's curve
 abbrev pub ShownBelow : (f v s k : ℕ) → Type 0
 ShownBelow f v s k =
-    (shown_speed (curve_at Kind.Multilane f) v ≡ s) × AtMostManualCurve f v (s + k) × (AtMostManualCurve f v (s + suc k) → ⊥)
+    (shown_speed (curve_at Kind.Multilane f) v ≡ s)
+    × AtMostManualCurve f v (s + k)
+    × (AtMostManualCurve f v (s + suc k) → ⊥)
 
 -- the farthest that the comparison finds, and the same flow rate at the highest F; just past the breakpoint,
 -- and at it; halfway from there to capacity; at capacity, with the highest c and with the lowest; and two

@@ -1,4 +1,5 @@
--- Three cases with their answers; proofs/Instances works the figures out, and that the speed is just below the curve is by the promises.
+-- Three cases with their answers; proofs/Instances works the figures out, and that the speed is just below
+-- the curve is by the promises.
 use Rattle.std.specs.Prelude.{◌≡◌, List, [], ◌∷◌, ℕ, Result}
 use Rattle.refusals.specs.declared.Refusal.{Refusal}
 use Rattle.curve.specs.declared.kind.Kind.TheVariants as Kind
@@ -11,11 +12,16 @@ use Rattle.accuracy.specs.Promises.{free_flow_speed_in, capacity_in, flow_rate_i
 
 -- letter, F, c, v and speed of an answer
 abbrev pub first_figures : Result Grade Refusal → List ℕ
-first_figures answer = letter_in answer ∷ free_flow_speed_in answer ∷ capacity_in answer ∷ flow_rate_in answer ∷ speed_in answer ∷ []
+first_figures answer =
+    letter_in answer ∷ free_flow_speed_in answer ∷ capacity_in answer ∷ flow_rate_in answer ∷ speed_in answer
+    ∷ []
 
 -- these five in the answer to a case, up to capacity, and the speed just below the curve
 abbrev pub AnsweredJustBelow : Case → List ℕ → Type 0
-AnsweredJustBelow case figures = (first_figures (answer_to case) ≡ figures) × UpToCapacity (answer_to case) × JustBelowIn (answer_to case)
+AnsweredJustBelow case figures =
+    (first_figures (answer_to case) ≡ figures)
+    × UpToCapacity (answer_to case)
+    × JustBelowIn (answer_to case)
 
 -- M G 69923 120 60 60 D 0 2 4584 1000 0 L
 abbrev pub farthest : Case
@@ -40,4 +46,5 @@ above_capacity = two_lanes (given Kind.Multilane 65000 120) 4601
 -- it gets F, and its speed is 0
 abbrev pub AnswerAboveCapacity : Type 0
 AnswerAboveCapacity =
-    (first_figures (answer_to above_capacity) ≡ 6 ∷ 65000 ∷ 230000 ∷ 2301 ∷ 0 ∷ []) × (UpToCapacity (answer_to above_capacity) → ⊥)
+    (first_figures (answer_to above_capacity) ≡ 6 ∷ 65000 ∷ 230000 ∷ 2301 ∷ 0 ∷ [])
+    × (UpToCapacity (answer_to above_capacity) → ⊥)

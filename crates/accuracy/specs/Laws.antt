@@ -1,5 +1,6 @@
--- What it is to be at most the manual's curve, said without powers where that can be: for lower speeds, at the curve's two ends, and with
--- more flow; and the step of the table of powers. proofs/Laws proves each.
+-- What it is to be at most the manual's curve, said without powers where that can be: for lower speeds, at
+-- the curve's two ends, and with more flow; and the step of the table of powers. The functions of
+-- src/promises.rt ensure each.
 use Rattle.std.specs.Prelude.{◌≡◌, ◌↔◌, ℕ, suc, ◌+◌, ◌*◌, ◌≤◌}
 use Rattle.numbers.specs.Fraction.{over, whole, AtMost}
 use Rattle.curve.specs.Power.{power}
@@ -20,16 +21,20 @@ FreeFlowSpeedUpToBreakpoint =
 -- Where a whole v is at capacity, F being a multiple of 50 or at least 65,000, the curve is at 10c/45.
 abbrev pub CapacitySpeedAtCapacity : Type 0
 CapacitySpeedAtCapacity =
-    (f v s : ℕ) → lowest_speed Kind.Multilane ≤ f → f ≤ highest_speed Kind.Multilane → 100 * v ≡ capacity Kind.Multilane f
+    (f v s : ℕ) → lowest_speed Kind.Multilane ≤ f → f ≤ highest_speed Kind.Multilane
+    → 100 * v ≡ capacity Kind.Multilane f
     → AtMostManualCurve f v s ↔ AtMost (whole s) (over (10 * capacity Kind.Multilane f) 45)
 
 -- With more flow the curve never rises.
 abbrev pub NoFasterWithMoreFlow : Type 0
-NoFasterWithMoreFlow = (f v₁ v₂ s : ℕ) → v₁ ≤ v₂ → AtMostManualCurve f v₂ s → AtMostManualCurve f v₁ s
+NoFasterWithMoreFlow =
+    (f less more s : ℕ) → less ≤ more → AtMostManualCurve f more s → AtMostManualCurve f less s
 
--- From one entry of the table of powers to the next is at most 1,310 millionths. With 9F − 2c ≤ 170,000 and the rounding this makes 26.
+-- From one entry of the table of powers to the next is at most 1,310 millionths. With 9F − 2c ≤ 170,000 and
+-- the rounding this makes 26.
 abbrev pub TableStepAtMost1310 : Type 0
 TableStepAtMost1310 = (i : ℕ) → suc i ≤ 1000 → power (suc i) ≤ power i + 1310
 
+-- From place 998 to place 999 it is 1,310.
 abbrev pub TableStepReaches1310 : Type 0
 TableStepReaches1310 = power 999 ≡ power 998 + 1310

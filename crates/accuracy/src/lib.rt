@@ -1,3 +1,5 @@
-//! Accuracy: how far the shown multilane speed is below the manual's curve. A theorem and no code: specs/ states it, proofs/ proves it.
+//! How far the shown multilane speed is below the manual's curve: theorems, and no code.
 
 #![tactic(auto)]
+
+pub mod promises;

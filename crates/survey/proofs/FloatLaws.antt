@@ -1,7 +1,4 @@
 -- A float's exact value in a unit, rounded down (specs/Survey), by the bits of the float.
---     bits-low       the bits of a float below 1, subnormals and 0 among them: refused
---     bits-high      of 512 and more, infinite, NaN or negative, -0 among them: refused
---     bits-between   of 1 up to 512: by the range, the floor that the code works out or refused
 use Rattle.std.proofs.Common.{◌≡◌, refl, sym, ap, ◌∙◌, subst, ⊎_elim, Bool, true, false, cond, true≢false, leb, eqb, lit≤, pos}
 use Rattle.std.proofs.Common.{ℕ, zero, suc, ◌+◌, ◌-◌, ◌*◌, ◌/◌, ◌%◌, ◌^◌, ◌≤◌, ◌<◌, arith, leb-false, ne_eqb, mod-eq_of_lt}
 use Rattle.std.proofs.Common.{le_trans, lt_of_le_of_lt, le_of_suc-le-suc, eq-or-lt_of_le, pow-add, pow_pos, pow_mono}
@@ -164,11 +161,11 @@ module _ (unit : Fraction) where
         (ap (λ (y : ℕ). (8388608 + t) * 2 ^ x * unit.numerator / (2 ^ y * unit.denominator)) split
         ∙ floor-cancel (8388608 + t) x (150 - suc x) unit.numerator unit.denominator)
 
-    -- by the pattern: below 2 ^ 31 there is no sign
+    -- the bits of a float below 1, subnormals and 0 among them: refused. Below 2 ^ 31 there is no sign
     pub bits-low : (b : ℕ) → b / 8388608 < 127 → speed_refused (rounded_in unit (of_bits binary32 b)) ≡ true
     bits-low b h = rw (of_bits-fields b (omega arith)) (fields-low (b / 8388608) (b % 8388608) (omega arith) h)
 
-    -- the sign is the highest bit, so a negative float has a high pattern too
+    -- of 512 and more, infinite, NaN or negative, -0 among them: refused. The sign is the highest bit
     pub bits-high : (b : ℕ) → 135 < b / 8388608 → speed_refused (rounded_in unit (of_bits binary32 b)) ≡ true
     unfolding of_bits
     bits-high b h = by-sign (leb 2147483648 b) refl
@@ -179,7 +176,7 @@ module _ (unit : Fraction) where
             let below : b < 2147483648 = leb-false 2147483648 b e in
             rw (of_bits-fields b below) (fields-high (b / 8388608) (b % 8388608) h (omega arith))
 
-    -- no sign here either; the range alone decides
+    -- of 1 up to 512: by the range, the floor that the code works out or refused
     pub bits-between : (b : ℕ) → 127 ≤ b / 8388608 → b / 8388608 ≤ 135
         → (speed_refused (rounded_in unit (of_bits binary32 b)) ≡ outside 30000 90000 (quotient unit b))
         × (thousandths_in (rounded_in unit (of_bits binary32 b)) ≡ quotient unit b)
@@ -188,7 +185,7 @@ module _ (unit : Fraction) where
         rw (of_bits-fields b (omega arith)) (fields-between (b / 8388608) (b % 8388608) h l) in
         (ap speed_refused e, ap thousandths_in e)
 
--- what survey::speed_of_bits goes by:
+-- what survey::speed_of_bits goes by
 pub ruleset by_bits = (bits-low, bits-high, bits-between, nat_tests, one_shifted)
 
 -- what survey::speed_of_float goes by: a NaN is refused, and any other float is that of its bits

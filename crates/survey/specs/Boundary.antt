@@ -7,9 +7,13 @@ use Rattle.survey.specs.declared.SurveyedSpeed.{SurveyedSpeed}
 use Rattle.survey.specs.declared.Survey.{Survey}
 use Rattle.survey.specs.Survey.{survey_answer, survey_figures}
 
--- a survey of that speed with the fewest cars and the greatest flow that are accepted
+-- a survey of a speed with so many cars and such a flow
+abbrev surveyed : SurveyedSpeed → (cars flow : ℕ) → Survey
+surveyed speed cars flow = record { speed = speed; cars = cars; flow = flow }
+
+-- with the fewest cars and the greatest flow that are accepted
 abbrev pub survey_of : SurveyedSpeed → Survey
-survey_of speed = record { speed = speed; cars = 100; flow = 999 }
+survey_of speed = surveyed speed 100 999
 
 -- the same of x mi/h
 abbrev pub miles : Float → Survey
@@ -20,17 +24,18 @@ abbrev answered : Survey → List ℕ
 answered survey = refusal_number (survey_answer survey) ∷ survey_figures (survey_answer survey)
 
 -- the list
--- Of a survey that is accepted 0 and the speed, of one that is refused its number. A float is written m × 2 ^ e with an odd m: 100 is
--- 25 × 2 ^ 2. Starred: 100.0 km/h. Not starred: 30 and 90 mi/h; the float below 30 mi/h; 99 cars with a flow of 1,000 and NaN; a flow of
--- 1,000 with NaN; NaN, both infinities, -0, -100 and the least float above 0.
+-- Of a survey that is accepted 0 and the speed, of one that is refused its number. A float is written
+-- m × 2 ^ e with an odd m: 100 is 25 × 2 ^ 2. Starred: 100.0 km/h. Not starred: 30 and 90 mi/h; the float
+-- below 30 mi/h; 99 cars with a flow of 1,000 and NaN; a flow of 1,000 with NaN; NaN, both infinities, -0,
+-- -100 and the least float above 0.
 unfoldable pub survey_facts : List Fact
 survey_facts =
     fact (answered (survey_of (SurveyedSpeed.KilometresPerHour (fin false 25 (pos 2))))) (0 ∷ 62137 ∷ [])
     ∷ fact (answered (miles (fin false 15 (pos 1)))) (0 ∷ 30000 ∷ [])
     ∷ fact (answered (miles (fin false 45 (pos 1)))) (0 ∷ 90000 ∷ [])
     ∷ fact (answered (miles (fin false 15728639 (negsuc 18)))) (13 ∷ [])
-    ∷ fact (answered (record { speed = SurveyedSpeed.MilesPerHour nan; cars = 99; flow = 1000 })) (11 ∷ [])
-    ∷ fact (answered (record { speed = SurveyedSpeed.MilesPerHour nan; cars = 100; flow = 1000 })) (12 ∷ [])
+    ∷ fact (answered (surveyed (SurveyedSpeed.MilesPerHour nan) 99 1000)) (11 ∷ [])
+    ∷ fact (answered (surveyed (SurveyedSpeed.MilesPerHour nan) 100 1000)) (12 ∷ [])
     ∷ fact (answered (miles nan)) (13 ∷ [])
     ∷ fact (answered (miles (inf false))) (13 ∷ [])
     ∷ fact (answered (miles (inf true))) (13 ∷ [])

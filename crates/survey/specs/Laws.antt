@@ -1,4 +1,4 @@
--- Laws of the surveyed speed, stated; proofs/Laws proves them.
+-- Laws of the surveyed speed; `survey_laws` of src/promises.rt ensures each.
 use Rattle.std.specs.Prelude.{ℕ, ◌≤◌, ◌≡◌, true, negsuc, Result, Ok, Err}
 use Rattle.std.specs.Float.{fin}
 use Rattle.refusals.specs.declared.Refusal.{Refusal}

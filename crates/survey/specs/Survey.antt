@@ -15,10 +15,11 @@ use Rattle.survey.specs.declared.Survey.{Survey}
 abbrev pub mile_in_kilometres : Fraction
 mile_in_kilometres = over 1609344 1000000
 
--- mile_an_hour, kilometre_an_hour: the two units, in thousandths of mi/h
+-- the unit mi/h, in thousandths of mi/h
 abbrev pub mile_an_hour : Fraction
 mile_an_hour = whole 1000
 
+-- the unit km/h, in thousandths of mi/h
 abbrev pub kilometre_an_hour : Fraction
 kilometre_an_hour = divided_by mile_an_hour mile_in_kilometres
 
@@ -38,8 +39,8 @@ pub data RoundedSpeed : Type 0 where
   thousandths : ℤ → RoundedSpeed
 
 -- the float x in a unit: its exact value rounded down
--- "Its exact value .. is rounded down to thousandths of mi/h". A finite float `fin s m e` is m × 2 ^ e, negative where s is true; -0, and
--- the subnormal floats, are among them.
+-- "Its exact value .. is rounded down to thousandths of mi/h". A finite float `fin s m e` is m × 2 ^ e,
+-- negative where s is true; -0, and the subnormal floats, are among them.
 unfoldable pub rounded_in : Fraction → Float → RoundedSpeed
 rounded_in unit nan = not_finite
 rounded_in unit (inf s) = not_finite
@@ -66,7 +67,8 @@ thousandths_in (thousandths (pos n)) = n
 thousandths_in (thousandths (negsuc n)) = 0
 
 -- 11 to 13 in their order
--- "11 fewer than 100 cars; 12 flow of 1,000 or more; 13 not a finite number, or the rounded speed not 30,000 to 90,000"
+-- "11 fewer than 100 cars; 12 flow of 1,000 or more; 13 not a finite number, or the rounded speed not 30,000
+-- to 90,000"
 unfoldable pub survey_refusals : Survey → List Condition
 survey_refusals survey =
     refuses 11 (nat_lt survey.cars 100)
@@ -76,7 +78,8 @@ survey_refusals survey =
 
 -- the speed, or the refusal
 abbrev pub survey_answer : Survey → Result ℕ Refusal
-survey_answer survey = ok_unless (first_refusal (survey_refusals survey)) (thousandths_in (rounded_speed survey.speed))
+survey_answer survey =
+    ok_unless (first_refusal (survey_refusals survey)) (thousandths_in (rounded_speed survey.speed))
 
 -- the speed; of a refusal no value
 abbrev pub survey_figures : Result ℕ Refusal → List ℕ

@@ -1,4 +1,5 @@
--- What the code's helpers need and hand back. It is no part of the method: proofs/SurveyLaws shows where it is the answer to a survey.
+-- What the code's helpers need and hand back. It is no part of the method: proofs/SurveyLaws shows where it
+-- is the answer to a survey.
 use Rattle.std.specs.Prelude.{ℕ, ◌*◌, ◌≤◌, ◌<◌, if◌then◌else◌, Result, Ok, Err}
 use Rattle.numbers.specs.declared.Fraction.{Fraction}
 use Rattle.refusals.specs.declared.Refusal.{Refusal}

@@ -1,6 +1,9 @@
-//! Survey: a surveyed speed in thousandths of mi/h, or its refusal.
+//! A surveyed speed: the exact value of a float in mi/h or km/h, rounded down to thousandths of mi/h, or
+//! refusal 11, 12 or 13.
 
 #![tactic(auto)]
+
+pub mod promises;
 
 ghost use Rattle.std.specs.Prelude.{◌≡◌};
 ghost use Rattle.std.specs.Float.{binary32};
@@ -9,50 +12,60 @@ ghost use Rattle.survey.specs.Survey.{rounded_in, survey_answer};
 ghost use Rattle.survey.specs.Laws.{AnswerWithinEnds};
 ghost use Rattle.survey.specs.Units.{UnitFits, speed_answer};
 
-use refusals::Refusal;
 use numbers::Fraction;
+use refusals::Refusal;
 
+/// Fewer cars are refused with 11.
 const FEWEST_CARS: u64 = 100;
 
+/// A flow from here on is refused with 12; passenger cars per hour per lane.
 const FLOW_LIMIT: u64 = 1_000;
 
+/// How many thousandths of mi/h one mi/h is.
 const THOUSANDTHS: u64 = 1_000;
 
-/// 1 mi = 1.609344 km, both in millimetres.
+/// A mile in millimetres: 1 mi = 1.609344 km.
 const MILE: u64 = 1_609_344;
 
+/// A kilometre in millimetres.
 const KILOMETRE: u64 = 1_000_000;
 
-/// The units of a survey, in thousandths of mi/h.
+/// 1 mi/h, in thousandths of mi/h.
 const MILE_AN_HOUR: Fraction = Fraction {
     numerator: THOUSANDTHS,
     denominator: 1,
 };
 
+/// 1 km/h, in thousandths of mi/h.
 const KILOMETRE_AN_HOUR: Fraction = Fraction {
     numerator: THOUSANDTHS * KILOMETRE,
     denominator: MILE,
 };
 
-/// Of an f32's bits 1 is the sign, 8 are the exponent and 23 the digits below the leading one. This is the leading one's weight.
+/// What the leading digit of an f32 weighs: of its bits 1 is the sign, 8 are the exponent, and 23 the digits
+/// behind the leading one.
 const LEADING: u64 = 1 << 23;
 
-/// The speed in its unit.
+/// A speed in the unit in which it was surveyed.
 #[derive(Clone, Copy, PartialEq)]
 pub enum SurveyedSpeed {
+    /// mi/h
     MilesPerHour(f32),
+    /// km/h
     KilometresPerHour(f32),
 }
 
-/// That speed, the cars counted and the flow.
+/// What a survey holds.
 #[derive(Clone, Copy, PartialEq)]
 pub struct Survey {
     pub speed: SurveyedSpeed,
+    /// how many cars were counted
     pub cars: u64,
+    /// passenger cars per hour per lane
     pub flow: u64,
 }
 
-/// The float that has these bits, in a unit.
+/// The speed of a float with these bits, in thousandths of mi/h, or 13.
 #[tactic(auto, using(crate::proofs::FloatLaws::by_bits))]
 fn speed_of_bits(bits: u64, unit: Fraction) -> Result<u64, Refusal>
     requires { UnitFits unit }
@@ -73,7 +86,7 @@ fn speed_of_bits(bits: u64, unit: Fraction) -> Result<u64, Refusal>
     Ok(thousandths)
 }
 
-/// A float, in a unit. A NaN has no bits of its own, so it is refused first.
+/// The speed of a float, in thousandths of mi/h, or 13. A NaN has no bits of its own, so it is refused first.
 #[tactic(auto, using(crate::proofs::FloatLaws::by_float))]
 fn speed_of_float(x: f32, unit: Fraction) -> Result<u64, Refusal>
     requires { UnitFits unit }
@@ -85,7 +98,9 @@ fn speed_of_float(x: f32, unit: Fraction) -> Result<u64, Refusal>
     speed_of_bits(u64::from(x.to_bits()), unit)
 }
 
-/// For any survey at all.
+/// The surveyed speed, from 30,000 to 90,000 thousandths of mi/h, or the first refusal: 11 for fewer than 100
+/// cars, 12 for a flow of 1,000 or more, 13 for a speed that is not finite or, rounded down, not within these
+/// ends.
 #[tactic(auto, using(crate::proofs::SurveyLaws::by_survey))]
 pub fn surveyed_speed(survey: Survey) -> Result<u64, Refusal>
     ensures value { result ≡ survey_answer survey }
