@@ -28,11 +28,12 @@ pub answer_figures-length : (a : Result Grade Refusal) → length (answer_figure
 answer_figures-length (Ok g) = refl
 answer_figures-length (Err r) = refl
 
--- number-first, letter-second: the first is its refusal's number, the second its letter's
+-- the first is its refusal's number
 pub number-first : (a : Result Grade Refusal) → get_or (answer_figures a) 0 0 ≡ refusal_number a
 number-first (Ok g) = refl
 number-first (Err r) = refl
 
+-- the second is its letter's
 pub letter-second : (a : Result Grade Refusal) → get_or (answer_figures a) 1 0 ≡ letter_in a
 letter-second (Ok g) = refl
 letter-second (Err r) = refl
@@ -45,13 +46,14 @@ lent-room n room z =
     let enough : n ≤ room / figure_count = ltb-false (room / figure_count) n none.1 in
     omega arith
 
--- 18 leaves the numbers as they were, and else the answers are written
+-- ---- the lent numbers
 module _ (case : Case) (demands old : List ℕ) where
-  -- day-refused, day-answered: the lent numbers where 18 refuses, and where it does not
+  -- the lent numbers where 18 refuses
   pub day-refused : 0 < first_refusal (lent_refusals (length demands) (length old)) → old ≡ day_content case demands old
   unfolding day_content
   day-refused p = sym (unless_refused-some _ (day_written case demands old) (λ number. old) p)
 
+  -- where it does not
   pub day-answered : LentFits (length demands) (length old) → day_written case demands old ≡ day_content case demands old
   unfolding day_content
   day-answered z = sym (unless_refused-none _ (day_written case demands old) (λ number. old) z)
@@ -67,13 +69,14 @@ pub day_figures-count : (case : Case) (demands : List ℕ) → length (day_figur
 day_figures-count case demands = omega (arith, day_figures-length case demands)
 
 module _ (case : Case) (demands : List ℕ) where
-  -- day_figures-next, day_figures-at: those of one demand more; those of one of the demands
+  -- those of one of the demands
   pub day_figures-at : (rest : List ℕ) (i : ℕ) → i < length demands
       → take figure_count (drop (figure_count * i) (day_figures case demands ++ rest))
       ≡ answer_figures (answer_to (with_demand case (get_or demands i 0)))
   unfolding day_figures
   day_figures-at rest i h = rows-at _ figure_count (λ d. answer_figures-length (answer_to (with_demand case d))) demands rest i 0 h
 
+  -- those of one demand more
   pub day_figures-next : (i : ℕ) → i < length demands
       → day_figures case (take (i + 1) demands)
       ≡ day_figures case (take i demands) ++ answer_figures (answer_to (with_demand case (get_or demands i 0)))

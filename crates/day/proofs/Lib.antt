@@ -1,9 +1,9 @@
 -- The laws of the definitions in specs/.
 -- the numbers of a day
 pub mod DayLaws
--- what the demands on a case share
-pub mod SharedLaws
+-- the answer with a demand, by what is found of the case with none
+pub mod DayCaseLaws
 -- what a reader of the lent answers is promised
-pub mod Promises
--- instances of a day
+pub mod PromiseLaws
+-- instances of the promises
 pub mod Instances

@@ -1,4 +1,5 @@
--- A whole day in one call (document 02, T-01): a case whose own demand is not read, demands, and lent answers, twelve numbers each.
+-- A whole day in one call (document 02, T-01): a case whose own demand is not read, demands, and lent
+-- answers, twelve numbers each.
 use Rattle.std.specs.Prelude.{ℕ, ◌/◌, ◌≡◌, Bool, ◌||◌, nat_lt, length, replicate, Result, Ok, Err}
 use mathlib.Core.List.{List, [], ◌∷◌, flat_map}
 use Rattle.refusals.specs.declared.Refusal.{Refusal}
@@ -11,38 +12,34 @@ use Rattle.answer.specs.declared.evaluate.Grade.{Grade}
 use Rattle.answer.specs.Answers as answers
 use Rattle.answer.specs.Answers.{answer_to}
 
--- the most demands of a call
 -- "up to 24 demands"
 abbrev pub most_demands : ℕ
 most_demands = 24
 
--- how many numbers an answer has
--- the refusal's number and the eleven figures of a graded answer
+-- how many numbers an answer is: the refusal's number and the eleven figures of a graded answer
 abbrev pub figure_count : ℕ
 figure_count = 12
 
--- the numbers of an answer with number n and values vs
--- of a refusal the number and eleven zeros, so that nothing of what stood there shows
+-- a number and figures, for which a refusal has eleven zeros, so that nothing of what stood there shows
 abbrev pub figures_of : ℕ → List ℕ → List ℕ
 figures_of number [] = number ∷ replicate 11 0
 figures_of number (v ∷ vs) = number ∷ v ∷ vs
 
--- the numbers of an answer
--- the refusal's number, 0 for none, and then the figures, the letter by its number
+-- the numbers of an answer: its refusal's number, 0 for none, and the figures, the letter by its number
 abbrev pub answer_figures : Result Grade Refusal → List ℕ
 answer_figures a = figures_of (refusal_number a) (answers.grade_figures a)
 
--- those of the answers to the case with each demand, in order
+-- the numbers of the answers to the case with each demand, in order
 -- "Each answer equals that of the single call with that demand, in the same position"
 unfoldable pub day_figures : Case → List ℕ → List ℕ
 day_figures case demands = flat_map (λ demand. answer_figures (answer_to (with_demand case demand))) demands
 
--- numbers that were old, with these from the start on
+-- what the lent numbers are afterwards, where 18 does not refuse: these from the start on
 -- "Answers past the demands keep their content"
 abbrev pub day_written : Case → List ℕ → List ℕ → List ℕ
 day_written case demands old = written (day_figures case demands) old
 
--- n demands and room for so many numbers that 18 refuses
+-- 18 refuses n demands with room for so many numbers
 -- "no demand or more than 24, or answers fewer than demands"
 unfoldable pub lent_unfit : ℕ → ℕ → Bool
 lent_unfit n room = outside 1 most_demands n || nat_lt (room / figure_count) n
@@ -59,11 +56,11 @@ LentFits n room = first_refusal (lent_refusals n room) ≡ 0
 abbrev pub day_answer : ℕ → ℕ → Result ℕ Refusal
 day_answer n room = ok_unless (first_refusal (lent_refusals n room)) n
 
--- what the lent numbers are afterwards, if they were old
--- a refusal changes no number
+-- what the lent numbers are afterwards: a refusal changes none
 unfoldable pub day_content : Case → List ℕ → List ℕ → List ℕ
 day_content case demands old =
-    unless_refused (first_refusal (lent_refusals (length demands) (length old))) (day_written case demands old) (λ number. old)
+    unless_refused (first_refusal (lent_refusals (length demands) (length old)))
+    (day_written case demands old) (λ number. old)
 
 -- the count of answers; of a refusal no value
 abbrev pub count_figures : Result ℕ Refusal → List ℕ

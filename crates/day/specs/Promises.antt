@@ -1,5 +1,5 @@
--- What a reader of the lent answers is promised (document 02, T-01), over the definitions that the contract of `evaluate_day` cites;
--- proofs/Promises proves each.
+-- What a reader of the lent answers is promised (document 02, T-01), over what the lent numbers hold after the
+-- call of C, by its law `DayCallIsTheDay`; the functions of src/promises.rt ensure each.
 use Rattle.std.specs.Prelude.{◌≡◌, ◌↔◌, ◌⊎◌, List, ◌++◌, ℕ, ◌*◌, ◌≤◌, ◌<◌, length, take, drop, get_or, Result}
 use Rattle.road.specs.declared.Case.{Case}
 use Rattle.road.specs.Cases.{with_demand}
@@ -14,6 +14,14 @@ use Rattle.day.specs.Days.{most_demands, figure_count, answer_figures, day_figur
 abbrev pub position : ℕ → List ℕ → List ℕ
 position i ns = take figure_count (drop (figure_count * i) ns)
 
+-- the first of them: the refusal's number
+abbrev pub number_at : ℕ → List ℕ → ℕ
+number_at i ns = get_or (position i ns) 0 0
+
+-- the second: the letter's number
+abbrev pub letter_number_at : ℕ → List ℕ → ℕ
+letter_number_at i ns = get_or (position i ns) 1 0
+
 -- the lent numbers afterwards are the answers of the single call with each demand, in order, and then what
 -- stood there
 abbrev pub DayIsTheSingleCalls : Type 0
@@ -26,18 +34,12 @@ abbrev pub PositionHoldsTheAnswer : Type 0
 PositionHoldsTheAnswer =
     (case : Case) (demands old : List ℕ) → LentFits (length demands) (length old)
     → (i : ℕ) → i < length demands
-    → position i (day_content case demands old) ≡ answer_figures (answer_to (with_demand case (get_or demands i 0)))
+    → position i (day_content case demands old)
+    ≡ answer_figures (answer_to (with_demand case (get_or demands i 0)))
 
 -- twelve numbers are those of one answer only
 abbrev pub FiguresTellTheAnswer : Type 0
 FiguresTellTheAnswer = (a b : Result Grade Refusal) → answer_figures a ≡ answer_figures b → a ≡ b
-
--- number_at i ns, letter_number_at i ns: the first two of them: the refusal's number, and the letter's
-abbrev pub number_at : ℕ → List ℕ → ℕ
-number_at i ns = get_or (position i ns) 0 0
-
-abbrev pub letter_number_at : ℕ → List ℕ → ℕ
-letter_number_at i ns = get_or (position i ns) 1 0
 
 -- what refuses the case with no demand, 0 where nothing does
 abbrev pub road_number : Case → ℕ
@@ -45,34 +47,44 @@ road_number case = refusal (with_demand case 0)
 
 -- with a demand that 7 lets pass a position has the road's number; with one that 7 refuses it has 7, unless
 -- one of 1 to 6 refuses the road
--- "one demand that breaks refusal 7 gets its own number in its position and the others go on. A refused road puts the single call's number
--- in each position", which is 7 for such a demand where 8, 9, 19 or 10 refuses the road
+-- "one demand that breaks refusal 7 gets its own number in its position and the others go on. A refused road
+-- puts the single call's number in each position", which is 7 for such a demand where 8, 9, 19 or 10 refuses
+-- the road
 abbrev pub PositionNumbers : Type 0
 PositionNumbers =
-    (case : Case) (demands old : List ℕ) → LentFits (length demands) (length old) → (i : ℕ) → i < length demands
-    → (get_or demands i 0 ≤ greatest_demand → number_at i (day_content case demands old) ≡ road_number case)
-    × (greatest_demand < get_or demands i 0 → (road_number case ≡ 0) ⊎ (7 < road_number case) → number_at i (day_content case demands old) ≡ 7)
-    × (1 ≤ road_number case → road_number case ≤ 6 → number_at i (day_content case demands old) ≡ road_number case)
+    (case : Case) (demands old : List ℕ) → LentFits (length demands) (length old)
+    → (i : ℕ) → i < length demands
+    → let demand = get_or demands i 0 in
+    let number = number_at i (day_content case demands old) in
+    (demand ≤ greatest_demand → number ≡ road_number case)
+    × (greatest_demand < demand → (road_number case ≡ 0) ⊎ (7 < road_number case) → number ≡ 7)
+    × (1 ≤ road_number case → road_number case ≤ 6 → number ≡ road_number case)
 
 -- on an accepted road a position with more demand has no better a letter
 abbrev pub NoBetterWithMoreDemand : Type 0
 NoBetterWithMoreDemand =
-    (case : Case) (demands old : List ℕ) → LentFits (length demands) (length old) → road_number case ≡ 0
-    → (i j : ℕ) → i < length demands → j < length demands → get_or demands i 0 ≤ get_or demands j 0 → get_or demands j 0 ≤ greatest_demand
+    (case : Case) (demands old : List ℕ) → LentFits (length demands) (length old)
+    → road_number case ≡ 0
+    → (i j : ℕ) → i < length demands → j < length demands
+    → get_or demands i 0 ≤ get_or demands j 0
+    → get_or demands j 0 ≤ greatest_demand
     → letter_number_at i (day_content case demands old) ≤ letter_number_at j (day_content case demands old)
 
 -- what is behind the positions keeps its content, and what is lent its length
 abbrev pub PastTheDemandsKept : Type 0
 PastTheDemandsKept =
     (case : Case) (demands old : List ℕ)
-    → (drop (figure_count * length demands) (day_content case demands old) ≡ drop (figure_count * length demands) old)
+    → let past = figure_count * length demands in
+    (drop past (day_content case demands old) ≡ drop past old)
     × (length (day_content case demands old) ≡ length old)
 
 -- 18 leaves every number as it was
 abbrev pub RefusedDayChangesNothing : Type 0
 RefusedDayChangesNothing =
-    (case : Case) (demands old : List ℕ) → (LentFits (length demands) (length old) → ⊥) → day_content case demands old ≡ old
+    (case : Case) (demands old : List ℕ) → (LentFits (length demands) (length old) → ⊥)
+    → day_content case demands old ≡ old
 
 -- 18 refuses exactly no demand, more than 24, and room for fewer answers
 abbrev pub LentFitsExactly : Type 0
-LentFitsExactly = (n room : ℕ) → LentFits n room ↔ ((1 ≤ n) × (n ≤ most_demands) × (figure_count * n ≤ room))
+LentFitsExactly =
+    (n room : ℕ) → LentFits n room ↔ ((1 ≤ n) × (n ≤ most_demands) × (figure_count * n ≤ room))

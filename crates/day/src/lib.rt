@@ -1,24 +1,26 @@
-//! Day: the answers to up to 24 demands on one road, with its lanes, peak-hour factor, heavy share and terrain, in one call.
+//! A whole day in one call: the answers to up to 24 demands on one road, with its lanes, peak-hour factor,
+//! heavy share, terrain and weather.
 
 #![tactic(auto)]
 
-mod shared;
+mod day_case;
+pub mod promises;
 
 ghost use Rattle.std.specs.Prelude.{◌≡◌, ◌∷◌, ◌≤◌, ◌<◌, length};
 ghost use Rattle.refusals.specs.Refusals.{first_refusal};
 ghost use Rattle.refusals.specs.Numbers.{refusal_number};
 ghost use Rattle.text.specs.Buffer.{Wrote};
-ghost use Rattle.day.specs.Days.{figure_count, answer_figures, day_written, lent_unfit, lent_refusals, LentFits, day_answer, day_content};
+ghost use Rattle.day.specs.Days.{figure_count, answer_figures, day_written, lent_unfit, lent_refusals, LentFits};
 
 use answer::evaluate::Grade;
+use day_case::DayCase;
 use refusals::Refusal;
 use road::Case;
-use shared::{Shared, refusal_with};
 
-/// The most demands of a call.
+/// The most demands of a day.
 pub const MOST_DEMANDS: usize = 24;
 
-/// How many numbers an answer has.
+/// How many numbers an answer is: its refusal's number, 0 for none, and eleven figures.
 pub const FIGURE_COUNT: usize = 12;
 
 #[tactic(auto, unfolding(crate::specs::Days::lent_unfit))]
@@ -28,7 +30,8 @@ fn lent_unfit(demands: usize, numbers: usize) -> bool
     !(1..=MOST_DEMANDS).contains(&demands) || numbers / FIGURE_COUNT < demands
 }
 
-/// Whether demands and lent numbers fit, or 18.
+/// Asks whether so many demands and so many lent numbers make a day: 18 for no demand, for more than 24, and
+/// for fewer than twelve numbers a demand.
 #[tactic(auto, unfolding(crate::specs::Days::lent_refusals))]
 pub fn check_lent(demands: usize, numbers: usize) -> Result<(), Refusal>
     ensures { refusal_number result ≡ first_refusal (lent_refusals demands numbers) }
@@ -39,7 +42,7 @@ pub fn check_lent(demands: usize, numbers: usize) -> Result<(), Refusal>
     Ok(())
 }
 
-/// A refusal's number, or 0, and the figures behind it; answers how many numbers they are.
+/// Puts a refusal's number, or 0, and figures behind it; answers how many numbers these are.
 fn put_position(number: u64, figures: &[u64], out: &mut [u64]) -> usize
     requires { length figures.now < length out.old }
     ensures { Wrote (number ∷ figures.now) out.old out.new result }
@@ -48,6 +51,7 @@ fn put_position(number: u64, figures: &[u64], out: &mut [u64]) -> usize
     1 + text::buffer::put_numbers(figures, &mut out[1..])
 }
 
+/// Puts the twelve numbers of an answer; behind a refusal's number they are 0.
 fn put_answer(answer: Result<Grade, Refusal>, out: &mut [u64]) -> usize
     requires { figure_count ≤ length out.old }
     ensures { Wrote (answer_figures answer) out.old out.new result }
@@ -58,28 +62,20 @@ fn put_answer(answer: Result<Grade, Refusal>, out: &mut [u64]) -> usize
     }
 }
 
-/// The answer with each demand in its position. The case is checked once, with no demand: 7 has its place in each position.
+/// Puts the answer to the case with each demand in its position, twelve numbers each; numbers behind them stay
+/// as they are. The case's own demand is not read, and a demand that 7 refuses has 7 in its position alone.
+/// What `check_lent` refuses is not put.
 pub fn put_day(case: Case, demands: &[u64], answers: &mut [u64])
     requires { LentFits (length demands.now) (length answers.old) }
     ensures { answers.new ≡ day_written case demands.now answers.old }
 {
-    let shared = Shared::of(case);
+    let day_case = DayCase::of(case);
     let mut written = 0;
     for demand in demands {
-        let answer = match &shared {
-            Ok(shared) => shared.answer_with(*demand),
-            Err(refusal) => Err(refusal_with(*refusal, *demand)),
+        let answer = match &day_case {
+            Ok(accepted) => accepted.answer_with(*demand),
+            Err(refusal) => Err(DayCase::refusal_with(*refusal, *demand)),
         };
         written += put_answer(answer, &mut answers[written..]);
     }
-}
-
-/// For any case, any demands and any lent numbers: the count of answers, or 18.
-pub fn evaluate_day(case: Case, demands: &[u64], answers: &mut [u64]) -> Result<u64, Refusal>
-    ensures result { result ≡ day_answer (length demands.now) (length answers.old) }
-    ensures answers { answers.new ≡ day_content case demands.now answers.old }
-{
-    check_lent(demands.len(), answers.len())?;
-    put_day(case, demands, answers);
-    Ok(demands.len() as u64)
 }

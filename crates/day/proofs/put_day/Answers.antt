@@ -6,35 +6,35 @@ use Rattle.text.proofs.BufferLaws.{nothing}
 use Rattle.road.specs.declared.Case.{Case}
 use Rattle.road.specs.Cases.{with_demand}
 use Rattle.answer.specs.Answers.{answer_to}
-use Rattle.day.specs.declared.shared.Shared.{Shared}
+use Rattle.day.specs.declared.day_case.DayCase.{DayCase}
 use Rattle.day.specs.Days.{day_figures}
-use Rattle.day.specs.Shared.{SharedBy}
+use Rattle.day.specs.DayCase.{FoundOf}
 use Rattle.day.proofs.DayLaws.{answer_figures-length, lent-room, next-answer}
-use Rattle.day.proofs.SharedLaws.{refused-with}
+use Rattle.day.proofs.DayCaseLaws.{refused-with}
 use Rattle.day.proofs.put_day.Goals.{in-Ok, in-Err}
 use Rattle.day.proofs.put_day.Goals as goal
 
--- what is shared, by what it is told to be
-told : (case : Case) (found known : Result Shared Refusal) → SharedBy case found → found ≡ known → SharedBy case known
-told case found known s e = subst (SharedBy case) e s
+-- what is found, by which of the two it is
+found-as : (case : Case) (found known : Result DayCase Refusal) → FoundOf case found → found ≡ known → FoundOf case known
+found-as case found known f e = subst (FoundOf case) e f
 
 pub loop-demand-preserved : goal.loop-demand-preserved
 loop-demand-preserved c =
     let case = c.args.case in
     let l = c.loop-demand in
     let demand = get_or c.args.demands.now l.demand-index 0 in
-    let same : c.match-shared.answer ≡ answer_to (with_demand case demand) =
-    elim c.match-shared.branch [
+    let same : c.match-day_case.answer ≡ answer_to (with_demand case demand) =
+    elim c.match-day_case.branch [
       | in-Ok w ↦
-          let own = told case _ (Ok _) c.of-shared.ensures w.in-Ok.is in
+          let own = found-as case _ (Ok _) c.of-day_case.ensures w.in-Ok.is in
           w.answer-is ∙ w.answer_with-answer.ensures ∙ ap (λ k. answer_to (with_demand k demand)) own
       | in-Err w ↦
-          let own = told case _ (Err _) c.of-shared.ensures w.in-Err.is in
+          let own = found-as case _ (Err _) c.of-day_case.ensures w.in-Err.is in
           w.answer-is ∙ refused-with (with_demand case demand) _ _ own w.refusal_with.ensures
     ] in
     let wrote = c.put_answer-written.ensures in (
       next-answer case c.args.demands.now l.demand-index c.loop-demand-test.true l.invariant.0 (rw same at wrote),
-      omega (arith, wrote.count, answer_figures-length c.match-shared.answer),
+      omega (arith, wrote.count, answer_figures-length c.match-day_case.answer),
     )
 
 pub loop-demand-init : goal.loop-demand-init

@@ -1,10 +1,10 @@
--- `day::shared::Shared::of` meets its contract: what refuses the case with no demand, or its volumes with none.
+-- `day::day_case::DayCase::of` meets its contract: what refuses the case with no demand, or its volumes with none.
 use Rattle.std.proofs.Common.{sym, ap, ◌∙◌}
 use Rattle.std.proofs.lemmas.Result.{err_from_is_err_and}
 use Rattle.road.specs.Cases.{with_demand}
 use Rattle.method.specs.Checked.{checked}
-use Rattle.day.proofs.SharedLaws.{refused-number}
-use Rattle.day.proofs.shared.Shared.of.Goals as goal
+use Rattle.day.proofs.DayCaseLaws.{refused-number}
+use Rattle.day.proofs.day_case.DayCase.of.Goals as goal
 
 pub returns-in_err-curve : goal.returns-in_err-curve
 returns-in_err-curve c =

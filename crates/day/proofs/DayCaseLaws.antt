@@ -1,4 +1,4 @@
--- What the demands on a case share (specs/Shared).
+-- The answer with a demand, by what is found of the case with none (specs/DayCase).
 use Rattle.std.proofs.Common.{◌≡◌, ap, lit≤, sym, ◌∙◌, ◌≤◌, ◌<◌, min, Ok, Err, arith}
 use Rattle.std.proofs.lemmas.Bool.{lt-ltb, le-ltb}
 use Rattle.std.proofs.Math.Nat.{le_trans}
@@ -15,7 +15,7 @@ use Rattle.method.specs.Checked.{case_curve, checked}
 use Rattle.method.proofs.RefusalLaws.{refusal-le, refusal-within, refusal-above}
 use Rattle.answer.specs.declared.evaluate.Grade.{Grade}
 use Rattle.answer.specs.Answers.{graded, answer_to}
-use Rattle.day.specs.Refused.{number_with}
+use Rattle.day.specs.DayCase.{number_with}
 
 -- the number of a case that was checked and refused
 pub refused-number : (case : Case) (r : Refusal) → checked case ≡ Err r → number r ≡ refusal case
@@ -24,15 +24,15 @@ refused-number case r e =
 
 module _ (case : Case) where
   module _ (a : Accepted (with_demand case 0)) where
-    -- accepted-within, accepted-above: a case that is accepted with no demand: with one up to the greatest it
-    -- gets its grade, with a greater one 7
+    -- a case that is accepted with no demand gets its grade with one up to the greatest
     pub accepted-within : (grade : Grade) → grade ≡ graded case → case.demand ≤ greatest_demand → Ok grade ≡ answer_to case
     accepted-within grade e h = ok_unless-ok (refusal case) grade (graded case) (refusal-within case h ∙ a) e
 
+    -- and 7 with a greater one
     pub accepted-above : greatest_demand < case.demand → Err Refusal.DemandTooLarge ≡ answer_to case
     accepted-above h = ok_unless-err Refusal.DemandTooLarge (refusal case) (graded case) (sym (rw a at (refusal-above case h)))
 
-  -- one that is not: with any demand it gets the same refusal, or 7 where that comes before it
+  -- one that is not gets the same refusal with any demand, or 7 where that comes before it
   pub refused-with : (r s : Refusal) → number r ≡ refusal (with_demand case 0) → number s ≡ number_with (number r) case.demand
       → Err s ≡ answer_to case
   refused-with r s e f = ok_unless-err s (refusal case) (graded case) (f ∙ by (dec_le case.demand greatest_demand))
