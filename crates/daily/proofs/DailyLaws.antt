@@ -1,14 +1,16 @@
 -- The answer by its refusals (specs/Daily), and the daily service volumes by those in the engine's answer.
-use Rattle.std.proofs.Common.{◌≡◌, refl, sym, ap, ◌∙◌, ◌↔◌, ℕ, zero, suc, ◌≤◌, ◌<◌, [], ◌++◌, T, leb, Result, Ok, Err, arith, rules, le_trans, lit≤}
-use Rattle.std.proofs.Common.{⊎_elim, eq-zero-or-pos}
+use Rattle.std.proofs.Common.{◌≡◌, refl, sym, ap, subst, ◌∙◌, ◌↔◌, ℕ, zero, suc, ◌+◌, ◌≤◌, ◌<◌, List, [], ◌∷◌, ◌++◌, T, leb, Result, Ok, Err}
+use Rattle.std.proofs.Common.{⊎_elim, eq-zero-or-pos, arith, rules, le_refl, le_trans, leb→le, lit≤, get_or}
 use native.Mathlib.Decide.{dec_le}
+use Rattle.numbers.specs.Bounds.{AllAtMost}
 use Rattle.numbers.proofs.BoolLaws.{leb-test}
-use Rattle.numbers.proofs.SearchLaws.{greatest-le, greatest-cong}
+use Rattle.numbers.proofs.SearchLaws.{greatest-cong}
+use Rattle.numbers.proofs.TableLaws.{every_up_to-at}
 use Rattle.refusals.specs.declared.Refusal.{Refusal}
 use Rattle.refusals.specs.Refusals.{first_refusal}
 use Rattle.refusals.specs.Numbers.{number, refusal_number, refusal_of}
 use Rattle.refusals.proofs.RefusalLaws.{numbered, first_refusal-none, first_refusal-join, unless_refused-none, unless_refused-some}
-use Rattle.refusals.proofs.NumberLaws.{number-above, number-refusal_of, refusal_of-number, ok_unless-found, first_refusal-err}
+use Rattle.refusals.proofs.NumberLaws.{number-above, number-refusal_of, refusal_of-number, first_refusal-err}
 use Rattle.road.specs.declared.Case.{Case}
 use Rattle.road.specs.Cases.{with_demand}
 use Rattle.road.specs.Refusals.{greatest_demand}
@@ -17,16 +19,19 @@ use Rattle.method.specs.Refusals.{refusals, refusal, Accepted}
 use Rattle.method.proofs.RefusalLaws.{accepted-fields, refusal-le}
 use Rattle.answer.specs.declared.evaluate.Volumes.{Volumes}
 use Rattle.answer.specs.declared.evaluate.Grade.{Grade}
-use Rattle.answer.specs.Volumes.{meets, service_volume, service_volumes}
+use Rattle.answer.specs.Volumes.{meets}
+use Rattle.answer.specs.Answers as answers
 use Rattle.answer.specs.Answers.{graded, answer_to}
+use Rattle.answer.specs.Laws.{figure_ends}
 use Rattle.answer.specs.Promises as engine
 use Rattle.answer.specs.Promises.{Meets, volume_in}
 use Rattle.answer.proofs.AnswerLaws.{answer_to-accepted, answer_to-number, Meets-iff}
+use Rattle.answer.proofs.Laws.{figures-within-ends}
 use Rattle.answer.proofs.Promises.{meets-up-to-the-service-volume}
 use Rattle.daily.specs.declared.Shares.{Shares}
 use Rattle.daily.specs.declared.DailyGrade.{DailyGrade}
 use Rattle.daily.specs.Daily.{greatest_daily_traffic, traffic_refusals, TrafficFits, hourly_demand, hourly_case, daily_volume}
-use Rattle.daily.specs.Daily.{daily_volumes, with_volumes, daily_answer, daily_figures}
+use Rattle.daily.specs.Daily.{volumes_by, daily_volumes, with_volumes, daily_answer, daily_figures}
 use Rattle.daily.specs.Within.{traffic_within, VolumesFit, volumes_within}
 use Rattle.daily.specs.Promises.{AcceptedTraffic, letter_in, MeetsByDay}
 use Rattle.daily.proofs.WithinLaws.{fits-ends}
@@ -87,10 +92,11 @@ module _ (case : Case) (shares : Shares) (daily : ℕ) where
   pub number-le : refusal_number (daily_answer case shares daily) ≤ 21
   number-le = omega (arith, in-order, refused-le)
 
-  -- accepted-parts, accepted-of: what is accepted: neither 20 nor 21 nor the engine refuses it
+  -- what is accepted: neither 20 nor 21 nor the engine refuses it
   pub accepted-parts : AcceptedTraffic case shares daily → TrafficFits shares daily × Accepted hourly
   accepted-parts z = first_refusal-join (traffic_refusals shares daily) (refusals hourly) traffic-numbered (sym in-order ∙ z)
 
+  -- and the converse
   pub accepted-of : TrafficFits shares daily → Accepted hourly → AcceptedTraffic case shares daily
   accepted-of fits a = in-order ∙ number-fits fits ∙ a
 
@@ -117,7 +123,7 @@ pub refused-values : (a : Result DailyGrade Refusal) → 0 < refusal_number a �
 refused-values (Ok daily) p = absurd (omega arith)
 refused-values (Err r) p = refl
 
--- ---- letters and volumes by number
+-- ---- letters by number
 -- what holds of 1 to 5 by number
 pub by-letter : (P : ℕ → Type 0) → P 1 → P 2 → P 3 → P 4 → P 5 → (n : ℕ) → 1 ≤ n → n ≤ 5 → P n
 by-letter P a b c d e zero h k = absurd (omega arith)
@@ -128,22 +134,39 @@ by-letter P a b c d e (suc (suc (suc (suc zero)))) h k = d
 by-letter P a b c d e (suc (suc (suc (suc (suc zero))))) h k = e
 by-letter P a b c d e (suc (suc (suc (suc (suc (suc n)))))) h k = absurd (omega arith)
 
--- no service volume is above the greatest demand
-pub volumes-fit : (c : Case) → VolumesFit (service_volumes c)
-unfolding service_volume
-volumes-fit c =
-    let fits : (n : ℕ) → service_volume c n ≤ greatest_demand =
-    λ n. greatest-le (λ demand. meets (with_demand c demand) n) greatest_demand in
-    record { fits-a = fits 1; fits-b = fits 2; fits-c = fits 3; fits-d = fits 4; fits-e = fits 5 }
+-- volumes are equal where those of each letter are
+volumes_by-cong : (f g : ℕ → ℕ) → ((n : ℕ) → 1 ≤ n → n ≤ 5 → f n ≡ g n) → volumes_by f ≡ volumes_by g
+volumes_by-cong f g same =
+    rw (same 1 (lit≤ tt) (lit≤ tt), same 2 (lit≤ tt) (lit≤ tt), same 3 (lit≤ tt) (lit≤ tt), same 4 (lit≤ tt) (lit≤ tt), same 5 (lit≤ tt) (lit≤ tt))
+
+-- ---- the engine's volumes are within their ends, by FiguresWithinEnds
+module _ (c : Case) (grade : Grade) (e : Ok grade ≡ answer_to c) where
+  -- what has a grade is accepted
+  graded-accepted : Accepted c
+  graded-accepted = sym (ap refusal_number e ∙ answer_to-number c)
+
+  -- the volumes of a grade that the engine answers
+  pub graded-fits : VolumesFit grade.volumes
+  graded-fits =
+      let figures = subst (λ answer. AllAtMost (answers.grade_figures answer) figure_ends) (sym e) (figures-within-ends c graded-accepted) in
+      figures.1.1.1.1.1.1
+
+-- numbers that are at most others place by place, at one place
+at-place : (ms ns : List ℕ) → AllAtMost ms ns → (i : ℕ) → get_or ms i 0 ≤ get_or ns i 0
+at-place [] [] h i = le_refl _
+at-place [] (n ∷ ns) h i = absurd h
+at-place (m ∷ ms) [] h i = absurd h
+at-place (m ∷ ms) (n ∷ ns) h zero = h.0
+at-place (m ∷ ms) (n ∷ ns) h (suc i) = at-place ms ns h.1 i
+
+-- of the ends of figures those of density and of the volumes are at most the greatest demand
+end-le : (n : ℕ) → n ≤ 5 → get_or figure_ends (5 + n) 0 ≤ greatest_demand
+end-le n k = leb→le _ greatest_demand (every_up_to-at (λ i. leb (get_or figure_ends (5 + i) 0) greatest_demand) 5 tt n k)
 
 -- the service volumes in the engine's answer to an accepted case
 module _ (c : Case) (a : Accepted c) where
-  volume-le : (n : ℕ) → 1 ≤ n → n ≤ 5 → volume_in (answer_to c) n ≤ greatest_demand
-  unfolding graded
-  volume-le n h k =
-      let fit = volumes-fit c in
-      rw (answer_to-accepted c a)
-      (by-letter (λ i. volume_in (Ok (graded c)) i ≤ greatest_demand) fit.fits-a fit.fits-b fit.fits-c fit.fits-d fit.fits-e n h k)
+  volume-le : (n : ℕ) → n ≤ 5 → volume_in (answer_to c) n ≤ greatest_demand
+  volume-le n k = le_trans (at-place _ figure_ends (figures-within-ends c a) (5 + n)) (end-le n k)
 
   -- a demand of any size meets a letter exactly when it is at most the service volume in the engine's answer
   pub meets-iff : (n : ℕ) → 1 ≤ n → n ≤ 5 → (demand : ℕ) → Meets (with_demand c demand) n ↔ (demand ≤ volume_in (answer_to c) n)
@@ -156,16 +179,16 @@ module _ (c : Case) (a : Accepted c) where
       go (yes l) = meets-up-to-the-service-volume c a n h k demand l
       go (no l) = (
         λ m. absurd (l (within (sym (answer_to-number (with_demand c demand)) ∙ m.0))),
-        λ m. absurd (l (le_trans m (volume-le n h k))),
+        λ m. absurd (l (le_trans m (volume-le n k))),
       )
 
 -- ---- daily service volumes
-module _ (case : Case) (shares : Shares) (asked : ℕ) (a : Accepted (hourly_case case shares asked)) where
+module _ (case : Case) (shares : Shares) (asked : ℕ) where
   -- a daily service volume is the greatest daily traffic within the service volume in the engine's answer
-  pub daily_volume-eq : (n : ℕ) → 1 ≤ n → n ≤ 5
+  pub daily_volume-eq : Accepted (hourly_case case shares asked) → (n : ℕ) → 1 ≤ n → n ≤ 5
       → daily_volume case shares n ≡ traffic_within shares (volume_in (answer_to (hourly_case case shares asked)) n)
   unfolding daily_volume traffic_within
-  daily_volume-eq n h k =
+  daily_volume-eq a n h k =
       let volume : ℕ = volume_in (answer_to (hourly_case case shares asked)) n in
       greatest-cong (λ daily. meets (hourly_case case shares daily) n) (λ daily. leb (hourly_demand shares daily) volume) greatest_daily_traffic
       (λ daily most.
@@ -174,42 +197,27 @@ module _ (case : Case) (shares : Shares) (asked : ℕ) (a : Accepted (hourly_cas
       sym (leb-test (hourly_demand shares daily) volume (meets (hourly_case case shares daily) n)
       (λ l. met.0 (within.1 l), λ t. within.0 (met.1 t))))
 
-  -- the five of them
-  pub volumes-eq : volumes_within shares (service_volumes (hourly_case case shares asked)) ≡ daily_volumes case shares
-  unfolding graded
-  volumes-eq =
-      let c = hourly_case case shares asked in
-      let same : (n : ℕ) → 1 ≤ n → n ≤ 5 → traffic_within shares (volume_in (Ok (graded c)) n) ≡ daily_volume case shares n =
-      λ n h k. sym (rw (answer_to-accepted c a) at (daily_volume-eq n h k)) in
-      rw (
-        same 1 (omega arith) (omega arith),
-        same 2 (omega arith) (omega arith),
-        same 3 (omega arith) (omega arith),
-        same 4 (omega arith) (omega arith),
-        same 5 (omega arith) (omega arith),
-      ) refl
+  -- the five of them, by the grade of the hour
+  pub volumes-eq : (grade : Grade) → Ok grade ≡ answer_to (hourly_case case shares asked)
+      → volumes_within shares grade.volumes ≡ daily_volumes case shares
+  volumes-eq grade e =
+      let a = graded-accepted (hourly_case case shares asked) grade e in
+      volumes_by-cong (λ n. traffic_within shares (volume_in (Ok grade) n)) (daily_volume case shares)
+      (λ n h k. sym (rw (sym e) at (daily_volume-eq a n h k)))
 
 -- ---- what is answered
--- the service volumes of a grade that the engine answers
-pub graded-fits : (c : Case) (grade : Grade) → Ok grade ≡ answer_to c → VolumesFit grade.volumes
-unfolding graded
-graded-fits c grade e = rw (ok_unless-found (refusal c) (graded c) grade (sym e)).1 (volumes-fit c)
-
 module _ (case : Case) (shares : Shares) (daily : ℕ) where
-  -- answer-stopped, answer-graded: what is answered where 20 or 21 refuses, and where the engine has a grade
+  -- where 20 or 21 refuses
   pub answer-stopped : (r : Refusal) → number r ≡ first_refusal (traffic_refusals shares daily) → Err r ≡ daily_answer case shares daily
   answer-stopped r e =
       sym (stopped case shares daily (omega (arith, e, number-above r)) ∙ ap (λ n. Err (refusal_of n)) (sym e) ∙ ap Err (refusal_of-number r))
 
-  module _ (fits : TrafficFits shares daily) where
-    pub answer-graded : (grade : Grade) → Ok grade ≡ answer_to (hourly case shares daily)
-        → Ok (record { grade = grade; volumes = volumes_within shares grade.volumes }) ≡ daily_answer case shares daily
-    unfolding graded
-    answer-graded grade e =
-        let (a, own) = ok_unless-found (refusal (hourly case shares daily)) (graded (hourly case shares daily)) grade (sym e) in
-        let volumes : volumes_within shares grade.volumes ≡ daily_volumes case shares = rw (own) (volumes-eq case shares daily a) in
-        sym (fitting case shares daily fits ∙ ap (λ a. with_volumes a (daily_volumes case shares)) (sym e)
-        ∙ ap (λ vs. Ok (record { grade = grade; volumes = vs })) (sym volumes))
+  -- where the engine has a grade
+  pub answer-graded : TrafficFits shares daily → (grade : Grade) → Ok grade ≡ answer_to (hourly case shares daily)
+      → Ok (record { grade = grade; volumes = volumes_within shares grade.volumes }) ≡ daily_answer case shares daily
+  answer-graded fits grade e =
+      sym (fitting case shares daily fits ∙ ap (λ a. with_volumes a (daily_volumes case shares)) (sym e)
+      ∙ ap (λ vs. Ok (record { grade = grade; volumes = vs })) (sym (volumes-eq case shares daily grade e)))
 
 -- what a grade of the engine's asks and gives, for tactics
 pub ruleset by_engine = (fits-ends, graded-fits, answer-graded)

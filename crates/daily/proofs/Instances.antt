@@ -28,17 +28,17 @@ use Rattle.daily.specs.declared.DailyGrade.{DailyGrade}
 use Rattle.daily.specs.Daily.{shares_of, shares_unfit, traffic_refusals, hourly_demand, hourly_case, daily_answer}
 use Rattle.daily.specs.Daily.{daily_figures}
 use Rattle.daily.specs.Promises.{AcceptedTraffic, letter_in, daily_volume_in, MeetsByDay, by_the_day}
-use Rattle.daily.specs.Instances.{urban, rural, eight_lanes, told, letters_at, volumes_in, printed_figures, rural_figures, snow_figures}
+use Rattle.daily.specs.Instances.{urban, rural, eight_lanes, daily_answered, letters_at, volumes_in, printed_figures, rural_figures, snow_figures}
 use Rattle.daily.specs.Instances.{NoTrafficMeetsA, daily_instances}
 use Rattle.daily.proofs.DailyLaws.{accepted-of}
-use Rattle.daily.proofs.Promises.{figures-of-the-hour, meets-up-to-the-daily-volume}
+use Rattle.daily.proofs.PromiseLaws.{figures-of-the-hour, meets-up-to-the-daily-volume}
 
 -- ---- figures and letters by the promises
 -- the sixteen figures of an accepted case by the eleven of its hour
-told-by : (case : Case) (shares : Shares) (daily : ℕ) (figures : List ℕ) → AcceptedTraffic case shares daily
+answered-by : (case : Case) (shares : Shares) (daily : ℕ) (figures : List ℕ) → AcceptedTraffic case shares daily
     → answers.grade_figures (answer_to (hourly_case case shares daily)) ≡ figures
-    → told (daily_answer case shares daily) ≡ 0 ∷ (figures ++ map (by_the_day shares) (drop 6 figures))
-told-by case shares daily figures z e = rw (z, (figures-of-the-hour case shares daily z).0, e)
+    → daily_answered case shares daily ≡ 0 ∷ (figures ++ map (by_the_day shares) (drop 6 figures))
+answered-by case shares daily figures z e = rw (z, (figures-of-the-hour case shares daily z).0, e)
 
 -- a letter by the daily service volumes: at most its own, and above that of the next better one
 letter-by : (case : Case) (shares : Shares) (asked daily n : ℕ) → AcceptedTraffic case shares asked → 1 ≤ n → suc n ≤ 5
@@ -60,24 +60,25 @@ accepted = (
   accepted-of (example_in_snow 0) urban 40404 refl snow-accepted.1,
 )
 
--- printed-accepted, printed-figures: the printed road with 40,404 a day
+-- the printed road with 40,404 a day is accepted
 pub printed-accepted : AcceptedTraffic example urban 40404
 printed-accepted = accepted.0
 
-all-told : (told (daily_answer example urban 40404) ≡ 0 ∷ printed_figures)
-    × (told (daily_answer example rural 33057) ≡ 0 ∷ rural_figures) × (told (daily_answer (example_in_snow 0) urban 40404) ≡ 0 ∷ snow_figures)
+all-answered : (daily_answered example urban 40404 ≡ 0 ∷ printed_figures)
+    × (daily_answered example rural 33057 ≡ 0 ∷ rural_figures) × (daily_answered (example_in_snow 0) urban 40404 ≡ 0 ∷ snow_figures)
 unfolding div_up hourly_demand
-all-told = (
-  told-by example urban 40404 _ printed-accepted example-figures,
-  told-by example rural 33057 _ accepted.1 example-figures,
-  told-by (example_in_snow 0) urban 40404 _ accepted.2 (ap (drop 1) example-in-snow),
+all-answered = (
+  answered-by example urban 40404 _ printed-accepted example-figures,
+  answered-by example rural 33057 _ accepted.1 example-figures,
+  answered-by (example_in_snow 0) urban 40404 _ accepted.2 (ap (drop 1) example-in-snow),
 )
 
+-- and has these figures
 pub printed-figures : daily_figures (daily_answer example urban 40404) ≡ printed_figures
-printed-figures = ap (drop 1) all-told.0
+printed-figures = ap (drop 1) all-answered.0
 
 rural-figures : daily_figures (daily_answer example rural 33057) ≡ rural_figures
-rural-figures = ap (drop 1) all-told.1
+rural-figures = ap (drop 1) all-answered.1
 
 letters : (letters_at example urban (53373 ∷ 53374 ∷ []) ≡ 3 ∷ 4 ∷ []) × (letters_at example rural (53373 ∷ []) ≡ 4 ∷ [])
 letters =
@@ -155,7 +156,7 @@ worked-out = (
 pub instances-shown : Shown daily_instances
 unfolding daily_instances
 instances-shown =
-    let t = all-told in
+    let t = all-answered in
     let l = letters in
     let w = worked-out in
     (t.0, (t.1, (t.2, (l.0, (l.1, (w.0, (w.1, (w.2, (w.3, (w.4, tt))))))))))

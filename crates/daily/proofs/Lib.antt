@@ -6,6 +6,6 @@ pub mod WithinLaws
 -- the answer by its refusals, and the daily service volumes by the engine's
 pub mod DailyLaws
 -- what a reader of an answer is promised
-pub mod Promises
+pub mod PromiseLaws
 -- instances shown by the promises
 pub mod Instances

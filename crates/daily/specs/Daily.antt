@@ -1,5 +1,5 @@
--- Daily volumes for the yearly table (document 02, T-06): a case whose own demand is not read, the shares K and D in thousandths, and
--- daily traffic. Letter numbers: A is 1.
+-- Daily volumes for the yearly table (document 02, T-06): a case whose own demand is not read, the shares K
+-- and D in thousandths, and daily traffic. Letter numbers: A is 1.
 use Rattle.std.specs.Prelude.{ℕ, ◌*◌, ◌≤◌, ◌≡◌, Bool, ◌||◌, List, [], ◌∷◌, ◌++◌, nat_lt, Result, Ok, Err}
 use Rattle.numbers.specs.Division.{div_up}
 use Rattle.numbers.specs.Search.{greatest}
@@ -28,7 +28,9 @@ shares_of k d = record { peak = k; direction = d }
 -- both are from 1 to 1,000
 -- "thousandths from 1 to 1,000"
 abbrev pub SharesInRange : Shares → Type 0
-SharesInRange shares = (1 ≤ shares.peak) × (shares.peak ≤ 1000) × (1 ≤ shares.direction) × (shares.direction ≤ 1000)
+SharesInRange shares =
+    (1 ≤ shares.peak) × (shares.peak ≤ 1000)
+    × (1 ≤ shares.direction) × (shares.direction ≤ 1000)
 
 -- shares that 20 refuses
 -- "K or D out of range"
@@ -38,7 +40,10 @@ shares_unfit shares = outside 1 1000 shares.peak || outside 1 1000 shares.direct
 -- 20 and 21
 -- "20 .. before 1; 21 .. right after 20"
 unfoldable pub traffic_refusals : Shares → ℕ → List Condition
-traffic_refusals shares daily = refuses 20 (shares_unfit shares) ∷ refuses 21 (nat_lt greatest_daily_traffic daily) ∷ []
+traffic_refusals shares daily =
+    refuses 20 (shares_unfit shares)
+    ∷ refuses 21 (nat_lt greatest_daily_traffic daily)
+    ∷ []
 
 -- neither refuses them
 abbrev pub TrafficFits : Shares → ℕ → Type 0
@@ -55,21 +60,18 @@ abbrev pub hourly_case : Case → Shares → ℕ → Case
 hourly_case case shares daily = with_demand case (hourly_demand shares daily)
 
 -- the daily service volume of letter number n
--- "The daily service volume of a letter is the greatest daily traffic from 0 to 4,000,000,000 whose hourly demand meets it"; one that 7
--- refuses meets nothing
+-- "The daily service volume of a letter is the greatest daily traffic from 0 to 4,000,000,000 whose hourly
+-- demand meets it"; one that 7 refuses meets nothing
 unfoldable pub daily_volume : Case → Shares → ℕ → ℕ
 daily_volume case shares n = greatest (λ daily. meets (hourly_case case shares daily) n) greatest_daily_traffic
 
--- those of A to E
+-- volumes of A to E, by their letters' numbers
+abbrev pub volumes_by : (ℕ → ℕ) → Volumes
+volumes_by volume = record { a = volume 1; b = volume 2; c = volume 3; d = volume 4; e = volume 5 }
+
+-- the daily service volumes of A to E
 abbrev pub daily_volumes : Case → Shares → Volumes
-daily_volumes case shares =
-    record {
-      a = daily_volume case shares 1;
-      b = daily_volume case shares 2;
-      c = daily_volume case shares 3;
-      d = daily_volume case shares 4;
-      e = daily_volume case shares 5;
-    }
+daily_volumes case shares = volumes_by (daily_volume case shares)
 
 -- the engine's answer with daily service volumes behind it
 -- "It answers the engine's answer for that demand and the five daily service volumes"
@@ -90,5 +92,8 @@ figure_count = 16
 
 -- the eleven figures of the engine's answer, then the daily service volumes A to E; of a refusal no value
 abbrev pub daily_figures : Result DailyGrade Refusal → List ℕ
-daily_figures (Ok d) = answers.grade_figures (Ok d.grade) ++ (d.volumes.a ∷ d.volumes.b ∷ d.volumes.c ∷ d.volumes.d ∷ d.volumes.e ∷ [])
+daily_figures (Ok daily) =
+    let volumes = daily.volumes in
+    answers.grade_figures (Ok daily.grade)
+    ++ (volumes.a ∷ volumes.b ∷ volumes.c ∷ volumes.d ∷ volumes.e ∷ [])
 daily_figures (Err r) = []

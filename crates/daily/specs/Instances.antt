@@ -1,4 +1,4 @@
--- Instances of the promises, with every hypothesis met; proofs/Computed and proofs/Instances show them.
+-- Instances of the promises, with every hypothesis met; the functions of src/promises.rt ensure each.
 use Rattle.std.specs.Prelude.{List, [], ◌∷◌, ◌++◌, map, ℕ, suc, Result}
 use Rattle.refusals.specs.declared.Refusal.{Refusal}
 use Rattle.refusals.specs.Numbers.{refusal_number}
@@ -17,10 +17,11 @@ use Rattle.daily.specs.declared.DailyGrade.{DailyGrade}
 use Rattle.daily.specs.Daily.{shares_of, hourly_demand, daily_answer, daily_figures}
 use Rattle.daily.specs.Promises.{letter_in, daily_volume_in, MeetsByDay}
 
--- urban, rural: K and D of source document 001 for urban and for rural roads
+-- K and D of source document 001 for urban roads
 abbrev pub urban : Shares
 urban = shares_of 90 550
 
+-- and for rural ones
 abbrev pub rural : Shares
 rural = shares_of 110 550
 
@@ -36,15 +37,20 @@ narrow = two_lanes (given Kind.Freeway 75000 99) 0
 abbrev pub peaked : Case
 peaked = loaded (given Kind.Freeway 75000 120) 2 1000000 1 0 Terrain.Level clear
 
--- the number of an answer's refusal, 0 for none, and its values
-abbrev pub told : Result DailyGrade Refusal → List ℕ
-told a = refusal_number a ∷ daily_figures a
+-- the number of the answer's refusal, 0 for none, and its figures
+abbrev pub daily_answered : Case → Shares → ℕ → List ℕ
+daily_answered case shares daily =
+    refusal_number (daily_answer case shares daily) ∷ daily_figures (daily_answer case shares daily)
 
--- the letters of a case with some daily traffics
+-- the numbers of the refusals of a case with some daily traffics, 0 for none
+abbrev pub numbers_at : Case → Shares → List ℕ → List ℕ
+numbers_at case shares dailies = map (λ daily. refusal_number (daily_answer case shares daily)) dailies
+
+-- its letters
 abbrev pub letters_at : Case → Shares → List ℕ → List ℕ
 letters_at case shares dailies = map (λ daily. letter_in (daily_answer case shares daily)) dailies
 
--- its daily service volumes A to E
+-- the daily service volumes A to E in an answer
 abbrev pub volumes_in : Result DailyGrade Refusal → List ℕ
 volumes_in a = map (daily_volume_in a) (1 ∷ 2 ∷ 3 ∷ 4 ∷ 5 ∷ [])
 
@@ -52,66 +58,77 @@ volumes_in a = map (daily_volume_in a) (1 ∷ 2 ∷ 3 ∷ 4 ∷ 5 ∷ [])
 abbrev pub hour_figures : List ℕ
 hour_figures = 3 ∷ 60782 ∷ 230782 ∷ 1196 ∷ 60782 ∷ 197 ∷ 1117 ∷ 1829 ∷ 2642 ∷ 3360 ∷ 3858 ∷ []
 
--- printed_figures, rural_figures: with them its daily service volumes on an urban and on a rural road
+-- and with them its daily service volumes on an urban road
 abbrev pub printed_figures : List ℕ
 printed_figures = hour_figures ++ (22565 ∷ 36949 ∷ 53373 ∷ 67878 ∷ 77939 ∷ [])
 
+-- and on a rural one
 abbrev pub rural_figures : List ℕ
 rural_figures = hour_figures ++ (18462 ∷ 30231 ∷ 43669 ∷ 55537 ∷ 63768 ∷ [])
 
 -- all sixteen on an urban road in snow
 abbrev pub snow_figures : List ℕ
 snow_figures =
-    3 ∷ 52272 ∷ 173372 ∷ 1196 ∷ 52222 ∷ 230 ∷ 960 ∷ 1572 ∷ 2221 ∷ 2636 ∷ 2898 ∷ 19393 ∷ 31757 ∷ 44868 ∷ 53252 ∷ 58545 ∷ []
+    3 ∷ 52272 ∷ 173372 ∷ 1196 ∷ 52222 ∷ 230 ∷ 960 ∷ 1572 ∷ 2221 ∷ 2636 ∷ 2898
+    ∷ 19393 ∷ 31757 ∷ 44868 ∷ 53252 ∷ 58545 ∷ []
 
 -- the printed road meets A with no traffic
 abbrev pub NoTrafficMeetsA : Type 0
 NoTrafficMeetsA = MeetsByDay example urban 0 1
 
--- hourly_instances, refusal_instances, daily_instances: what is worked out, and what is to be shown
--- Rounded up once: 12 × 0.0495 = 0.594, 20 × 0.0495 = 0.99, 21 × 0.0495 = 1.0395; exactly 1 at 1,000,000 with K = D = 1.
+-- ---- what is worked out, and what is to be shown
+-- Hourly demands, rounded up once: 12 × 0.0495 = 0.594, 20 × 0.0495 = 0.99, 21 × 0.0495 = 1.0395; exactly 1
+-- at 1,000,000 with K = D = 1.
 unfoldable pub hourly_instances : List Fact
 hourly_instances =
-    fact (map (hourly_demand urban) (0 ∷ 12 ∷ 20 ∷ 21 ∷ 40404 ∷ 53373 ∷ 53374 ∷ [])) (0 ∷ 1 ∷ 1 ∷ 2 ∷ 2000 ∷ 2642 ∷ 2643 ∷ [])
-    ∷ fact (map (hourly_demand (shares_of 1 1)) (1 ∷ 1000000 ∷ 1000001 ∷ 4000000000 ∷ [])) (1 ∷ 1 ∷ 2 ∷ 4000 ∷ [])
+    fact (map (hourly_demand urban) (0 ∷ 12 ∷ 20 ∷ 21 ∷ 40404 ∷ 53373 ∷ 53374 ∷ []))
+    (0 ∷ 1 ∷ 1 ∷ 2 ∷ 2000 ∷ 2642 ∷ 2643 ∷ [])
+    ∷ fact (map (hourly_demand (shares_of 1 1)) (1 ∷ 1000000 ∷ 1000001 ∷ 4000000000 ∷ []))
+    (1 ∷ 1 ∷ 2 ∷ 4000 ∷ [])
     ∷ fact (map (hourly_demand (shares_of 1000 1000)) (1 ∷ 4000000000 ∷ [])) (1 ∷ 4000000000 ∷ [])
     ∷ []
 
--- 20 before 21 before 1: a share of 0 and one of 1,001 with a daily traffic and a case that are refused too, and the others by themselves;
--- 4,000,000,001 and 2^64 - 1; then a case that breaks 1 to 10 and 19. 7 in its own place: an hourly demand of 4,000,000,000 on a road that
--- 2 refuses, and with a peak-hour factor of 1, which 8 refuses where 7 does not, up to 999,999; one more than the greatest demand on an
--- accepted road. 19.
+-- The order of the refusals. 20 before 21 before 1: a share of 0 and one of 1,001 with a daily traffic and a
+-- case that are refused too, and the others by themselves; 4,000,000,001 and 2^64 - 1; then a case that
+-- breaks 1 to 10 and 19. 7 in its own place: an hourly demand of 4,000,000,000 on a road that 2 refuses, and
+-- with a peak-hour factor of 1, which 8 refuses where 7 does not, up to 999,999; one more than the greatest
+-- demand on an accepted road. 19.
 unfoldable pub refusal_instances : List Fact
 refusal_instances =
-    fact (told (daily_answer refused_by_all (shares_of 0 550) 5000000000)) (20 ∷ [])
-    ∷ fact (told (daily_answer refused_by_all (shares_of 90 1001) 5000000000)) (20 ∷ [])
-    ∷ fact (told (daily_answer example (shares_of 1001 550) 0)) (20 ∷ [])
-    ∷ fact (told (daily_answer example (shares_of 90 0) 0)) (20 ∷ [])
-    ∷ fact (told (daily_answer refused_by_all urban 4000000001)) (21 ∷ [])
-    ∷ fact (told (daily_answer example urban 18446744073709551615)) (21 ∷ [])
-    ∷ fact (told (daily_answer refused_by_all urban 4000000000)) (1 ∷ [])
-    ∷ fact (told (daily_answer narrow (shares_of 1000 1000) 4000000000)) (2 ∷ [])
-    ∷ fact (told (daily_answer peaked (shares_of 1000 1000) 4000000000)) (7 ∷ [])
-    ∷ fact (map (λ daily. refusal_number (daily_answer peaked (shares_of 1000 1000) daily)) (5 ∷ 100000 ∷ 999999 ∷ 1000000 ∷ []))
+    fact (daily_answered refused_by_all (shares_of 0 550) 5000000000) (20 ∷ [])
+    ∷ fact (daily_answered refused_by_all (shares_of 90 1001) 5000000000) (20 ∷ [])
+    ∷ fact (daily_answered example (shares_of 1001 550) 0) (20 ∷ [])
+    ∷ fact (daily_answered example (shares_of 90 0) 0) (20 ∷ [])
+    ∷ fact (daily_answered refused_by_all urban 4000000001) (21 ∷ [])
+    ∷ fact (daily_answered example urban 18446744073709551615) (21 ∷ [])
+    ∷ fact (daily_answered refused_by_all urban 4000000000) (1 ∷ [])
+    ∷ fact (daily_answered narrow (shares_of 1000 1000) 4000000000) (2 ∷ [])
+    ∷ fact (daily_answered peaked (shares_of 1000 1000) 4000000000) (7 ∷ [])
+    ∷ fact (numbers_at peaked (shares_of 1000 1000) (5 ∷ 100000 ∷ 999999 ∷ 1000000 ∷ []))
     (8 ∷ 8 ∷ 8 ∷ 7 ∷ [])
-    ∷ fact (told (daily_answer example (shares_of 1000 1000) (suc greatest_demand))) (7 ∷ [])
-    ∷ fact (told (daily_answer refused_by19 urban 0)) (19 ∷ [])
+    ∷ fact (daily_answered example (shares_of 1000 1000) (suc greatest_demand)) (7 ∷ [])
+    ∷ fact (daily_answered refused_by19 urban 0) (19 ∷ [])
     ∷ []
 
--- The printed road with 40,404 a day, urban, in clear weather and in snow, and with 33,057, rural; its letters with 53,373 and 53,374 a
--- day, urban, and with 53,373, rural; 8 lanes at 75,000 with hourly demands at the end of E, past it, of six digits, and with the
--- greatest; a multilane highway with 2,160 an hour, which is B, and 2,161; the daily service volumes of the 8 lanes with K = D = 2, 1 and
--- 1,000.
+-- Answers, letters and daily service volumes. The printed road with 40,404 a day, urban, in clear weather and
+-- in snow, and with 33,057, rural; its letters with 53,373 and 53,374 a day, urban, and with 53,373, rural;
+-- 8 lanes at 75,000 with hourly demands at the end of E, past it, of six digits, and with the greatest; a
+-- multilane highway with 2,160 an hour, which is B, and 2,161; the daily service volumes of the 8 lanes with
+-- K = D = 2, 1 and 1,000.
 unfoldable pub daily_instances : List Fact
 daily_instances =
-    fact (told (daily_answer example urban 40404)) (0 ∷ printed_figures)
-    ∷ fact (told (daily_answer example rural 33057)) (0 ∷ rural_figures)
-    ∷ fact (told (daily_answer (example_in_snow 0) urban 40404)) (0 ∷ snow_figures)
+    fact (daily_answered example urban 40404) (0 ∷ printed_figures)
+    ∷ fact (daily_answered example rural 33057) (0 ∷ rural_figures)
+    ∷ fact (daily_answered (example_in_snow 0) urban 40404) (0 ∷ snow_figures)
     ∷ fact (letters_at example urban (53373 ∷ 53374 ∷ [])) (3 ∷ 4 ∷ [])
     ∷ fact (letters_at example rural (53373 ∷ [])) (4 ∷ [])
-    ∷ fact (letters_at eight_lanes (shares_of 1000 1000) (19200 ∷ 19201 ∷ 100000 ∷ greatest_demand ∷ [])) (5 ∷ 6 ∷ 6 ∷ 6 ∷ [])
+    ∷ fact (letters_at eight_lanes (shares_of 1000 1000) (19200 ∷ 19201 ∷ 100000 ∷ greatest_demand ∷ []))
+    (5 ∷ 6 ∷ 6 ∷ 6 ∷ [])
     ∷ fact (letters_at (multilane_with 0) (shares_of 90 1000) (24000 ∷ 24001 ∷ [])) (2 ∷ 3 ∷ [])
-    ∷ fact (volumes_in (daily_answer eight_lanes (shares_of 2 2) 0)) (1650000000 ∷ 2656000000 ∷ 3552000000 ∷ 4000000000 ∷ 4000000000 ∷ [])
-    ∷ fact (volumes_in (daily_answer eight_lanes (shares_of 1 1) 0)) (4000000000 ∷ 4000000000 ∷ 4000000000 ∷ 4000000000 ∷ 4000000000 ∷ [])
-    ∷ fact (volumes_in (daily_answer eight_lanes (shares_of 1000 1000) 0)) (6600 ∷ 10624 ∷ 14208 ∷ 17040 ∷ 19200 ∷ [])
+    ∷ fact (volumes_in (daily_answer eight_lanes (shares_of 2 2) 0))
+    (1650000000 ∷ 2656000000 ∷ 3552000000 ∷ 4000000000 ∷ 4000000000 ∷ [])
+    ∷ fact (volumes_in (daily_answer eight_lanes (shares_of 1 1) 0))
+    (4000000000 ∷ 4000000000 ∷ 4000000000 ∷ 4000000000 ∷ 4000000000 ∷ [])
+    ∷ fact (volumes_in (daily_answer eight_lanes (shares_of 1000 1000) 0))
+    (6600 ∷ 10624 ∷ 14208 ∷ 17040 ∷ 19200 ∷ [])
     ∷ []

@@ -1,5 +1,5 @@
--- What a reader of an answer is promised (document 02, T-06), over the definitions that the contract of `evaluate_daily` cites;
--- proofs/Promises proves each.
+-- What a reader of an answer is promised (document 02, T-06), over the definitions that the contract of
+-- `evaluate_daily` cites; the functions of src/promises.rt ensure each.
 use Rattle.std.specs.Prelude.{◌≡◌, ◌↔◌, ◌++◌, map, ℕ, ◌+◌, ◌*◌, ◌/◌, ◌≤◌, ◌<◌, min, length, drop, get_or, Result}
 use Rattle.refusals.specs.declared.Refusal.{Refusal}
 use Rattle.refusals.specs.Refusals.{first_refusal}
@@ -18,41 +18,45 @@ use Rattle.daily.specs.Daily.{figure_count, daily_figures}
 abbrev pub AcceptedTraffic : Case → Shares → ℕ → Type 0
 AcceptedTraffic case shares daily = refusal_number (daily_answer case shares daily) ≡ 0
 
--- letter_in a, daily_volume_in a n: the letter's number, and the daily service volume of letter number n from
--- 1 to 5, in an answer
--- of the sixteen figures the first is the letter, and the last five are the daily service volumes A to E
+-- the letter's number in an answer, the first of its sixteen figures
 abbrev pub letter_in : Result DailyGrade Refusal → ℕ
 letter_in answer = get_or (daily_figures answer) 0 0
 
+-- the daily service volume of letter number n, from 1 to 5, in an answer: they are the last five of its figures
 abbrev pub daily_volume_in : Result DailyGrade Refusal → ℕ → ℕ
 daily_volume_in answer n = get_or (daily_figures answer) (10 + n) 0
 
 -- the answer has letter number n or a better one; what is refused meets nothing
 abbrev pub MeetsByDay : Case → Shares → ℕ → ℕ → Type 0
-MeetsByDay case shares daily n = AcceptedTraffic case shares daily × (letter_in (daily_answer case shares daily) ≤ n)
+MeetsByDay case shares daily n =
+    AcceptedTraffic case shares daily × (letter_in (daily_answer case shares daily) ≤ n)
 
 -- a daily traffic meets a letter exactly when it is at most the daily service volume in the answer
--- The planner's corollary: one answer on a road tells for every daily traffic and every letter, A to E, whether it is met. Above
--- 4,000,000,000 none is, and no daily service volume is greater.
+-- The planner's corollary: one answer on a road tells for every daily traffic and every letter, A to E,
+-- whether it is met. Above 4,000,000,000 none is, and no daily service volume is greater.
 abbrev pub MeetsUpToTheDailyVolume : Type 0
 MeetsUpToTheDailyVolume =
-    (case : Case) (shares : Shares) (asked : ℕ) → AcceptedTraffic case shares asked → (n : ℕ) → 1 ≤ n → n ≤ 5
-    → (daily : ℕ) → MeetsByDay case shares daily n ↔ (daily ≤ daily_volume_in (daily_answer case shares asked) n)
+    (case : Case) (shares : Shares) (asked : ℕ) → AcceptedTraffic case shares asked
+    → (n : ℕ) → 1 ≤ n → n ≤ 5
+    → (daily : ℕ)
+    → MeetsByDay case shares daily n ↔ (daily ≤ daily_volume_in (daily_answer case shares asked) n)
 
 -- more daily traffic, or a larger share, never gets a better letter
 abbrev pub NoBetterWithMoreTraffic : Type 0
 NoBetterWithMoreTraffic =
-    (case : Case) (less more : Shares) (daily greater : ℕ) → AcceptedTraffic case less daily → AcceptedTraffic case more greater
+    (case : Case) (less more : Shares) (daily greater : ℕ)
+    → AcceptedTraffic case less daily
+    → AcceptedTraffic case more greater
     → daily ≤ greater → less.peak ≤ more.peak → less.direction ≤ more.direction
     → letter_in (daily_answer case less daily) ≤ letter_in (daily_answer case more greater)
 
--- a service volume by the day, by division
--- a service volume in vehicles a day: rounded down, and at most 4,000,000,000
+-- a service volume in vehicles a day, by division: rounded down, and at most 4,000,000,000
 abbrev pub by_the_day : Shares → ℕ → ℕ
-by_the_day shares volume = min (volume * 1000000 / (shares.peak * shares.direction)) greatest_daily_traffic
+by_the_day shares volume =
+    min (volume * 1000000 / (shares.peak * shares.direction)) greatest_daily_traffic
 
--- the sixteen figures, by the eleven of the engine's answer for the hourly demand
--- the eleven figures of the engine's answer, and the last five of them once more, by the day
+-- the sixteen figures are the eleven of the engine's answer for the hourly demand, and the last five of them
+-- once more, by the day
 abbrev pub FiguresOfTheHour : Type 0
 FiguresOfTheHour =
     (case : Case) (shares : Shares) (daily : ℕ) → AcceptedTraffic case shares daily
@@ -77,7 +81,8 @@ abbrev pub RefusedInOrder : Type 0
 RefusedInOrder =
     (case : Case) (shares : Shares) (daily : ℕ)
     → refusal_number (daily_answer case shares daily)
-    ≡ first_refusal (traffic_refusals shares daily ++ refusals (with_demand case (hourly_demand shares daily)))
+    ≡ first_refusal
+    (traffic_refusals shares daily ++ refusals (with_demand case (hourly_demand shares daily)))
 
 -- 20 exactly by a share out of range, 21 exactly by the traffic, else what the engine says
 abbrev pub RefusedExactly : Type 0

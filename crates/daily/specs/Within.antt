@@ -1,23 +1,23 @@
--- The daily traffic that a service volume lets pass. It is no part of the request: proofs/DailyLaws shows that a daily service volume is
--- it, of the service volume in the engine's answer, and proofs/WithinLaws that a division finds it.
-use Rattle.std.specs.Prelude.{ℕ, ◌≤◌, nat_le}
+-- The daily traffic that a service volume lets pass. It is no part of the request: proofs/DailyLaws shows
+-- that a daily service volume is it, of the service volume in the engine's answer, and proofs/WithinLaws that
+-- a division finds it.
+use Rattle.std.specs.Prelude.{ℕ, [], ◌∷◌, nat_le, drop}
+use Rattle.numbers.specs.Bounds.{AllAtMost}
 use Rattle.numbers.specs.Search.{greatest}
-use Rattle.road.specs.Refusals.{greatest_demand}
 use Rattle.answer.specs.declared.evaluate.Volumes.{Volumes}
+use Rattle.answer.specs.Laws.{figure_ends}
 use Rattle.daily.specs.declared.Shares.{Shares}
 use Rattle.daily.specs.Daily.{greatest_daily_traffic, hourly_demand}
 
 -- the greatest daily traffic whose hourly demand is at most a volume
 unfoldable pub traffic_within : Shares → ℕ → ℕ
-traffic_within shares volume = greatest (λ daily. nat_le (hourly_demand shares daily) volume) greatest_daily_traffic
+traffic_within shares volume =
+    greatest (λ daily. nat_le (hourly_demand shares daily) volume) greatest_daily_traffic
 
--- none of the service volumes A to E is above the greatest demand
-pub record VolumesFit (volumes : Volumes) : Type 0 where
-  pub fits-a : volumes.a ≤ greatest_demand
-  pub fits-b : volumes.b ≤ greatest_demand
-  pub fits-c : volumes.c ≤ greatest_demand
-  pub fits-d : volumes.d ≤ greatest_demand
-  pub fits-e : volumes.e ≤ greatest_demand
+-- the service volumes A to E are within the ends that FiguresWithinEnds gives
+abbrev pub VolumesFit : Volumes → Type 0
+VolumesFit volumes =
+    AllAtMost (volumes.a ∷ volumes.b ∷ volumes.c ∷ volumes.d ∷ volumes.e ∷ []) (drop 6 figure_ends)
 
 -- traffic_within of each of them
 abbrev pub volumes_within : Shares → Volumes → Volumes

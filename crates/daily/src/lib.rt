@@ -1,6 +1,9 @@
-//! Daily: the answer to a case with the hourly demand of a daily traffic in the place of its own, and its daily service volumes.
+//! The answer to a case with the hourly demand of a daily traffic in the place of its own, and the daily service
+//! volumes that go with it.
 
 #![tactic(auto)]
+
+pub mod promises;
 
 ghost use Rattle.std.specs.Prelude.{◌≡◌, ◌≤◌, length};
 ghost use Rattle.refusals.specs.Refusals.{first_refusal};
@@ -17,31 +20,35 @@ use refusals::Refusal;
 use road::Case;
 use text::buffer;
 
-/// The greatest daily traffic that 21 lets pass.
+/// The greatest daily traffic that 21 lets pass, vehicles a day.
 pub const GREATEST_DAILY_TRAFFIC: u64 = 4_000_000_000;
 
 /// What one is in millionths, the unit of K × D.
 const MILLION: u64 = 1_000_000;
 
-/// How many numbers an answer has.
+/// How many numbers an answer is: eleven figures and five daily service volumes.
 pub const FIGURE_COUNT: usize = 16;
 
-/// K and D in thousandths: the peak hour's share of the daily traffic, and the direction's share of the peak hour.
+/// The shares K and D, both in thousandths.
 #[derive(Clone, Copy, PartialEq, Eq)]
 pub struct Shares {
+    /// K: the peak hour's share of the daily traffic
     pub peak: u64,
+    /// D: the direction's share of the peak hour
     pub direction: u64,
 }
 
-/// A grade with daily service volumes; put_figures: its sixteen numbers, at the start of lent numbers.
+/// What a case gets with a daily traffic.
 #[derive(Clone, Copy, PartialEq, Eq)]
 pub struct DailyGrade {
+    /// with the hourly demand
     pub grade: Grade,
+    /// daily service volumes, vehicles a day
     pub volumes: Volumes,
 }
 
 impl Shares {
-    /// 20 and 21.
+    /// Asks 20, of shares that are not from 1 to 1,000, and then 21, of a daily traffic above 4,000,000,000.
     #[tactic(auto, unfolding(crate::specs::Daily::shares_unfit, crate::specs::Daily::traffic_refusals))]
     fn check_traffic(self, daily_traffic: u64) -> Result<(), Refusal>
         ensures { refusal_number result ≡ first_refusal (traffic_refusals self daily_traffic) }
@@ -56,7 +63,7 @@ impl Shares {
         Ok(())
     }
 
-    /// Rounded up once, behind both shares.
+    /// The hourly demand of a daily traffic, vehicles per hour: rounded up once, behind both shares.
     #[tactic(auto, using(crate::proofs::WithinLaws::rounded_up), unfolding(crate::specs::Daily::hourly_demand))]
     fn hourly_demand(self, daily_traffic: u64) -> u64
         requires { TrafficFits self daily_traffic }
@@ -74,7 +81,8 @@ impl Shares {
         (volume * MILLION / (self.peak * self.direction)).min(GREATEST_DAILY_TRAFFIC)
     }
 
-    /// No search: what the engine promises of its service volumes carries over to the daily traffic.
+    /// The same of each service volume. No search: what the engine promises of its volumes carries over to the
+    /// daily traffic.
     fn volumes_within(self, volumes: Volumes) -> Volumes
         requires { SharesInRange self × VolumesFit volumes }
         ensures { result ≡ volumes_within self volumes }
@@ -90,6 +98,8 @@ impl Shares {
 }
 
 impl DailyGrade {
+    /// Puts its sixteen numbers: the eleven figures of its grade, the letter by its number, and the daily service
+    /// volumes A to E. Answers how many they are.
     pub fn put_figures(&self, out: &mut [u64]) -> usize
         requires { figure_count ≤ length out.old }
         ensures { Wrote (daily_figures (Ok self.now)) out.old out.new result }
@@ -100,7 +110,8 @@ impl DailyGrade {
     }
 }
 
-/// Nothing is multiplied before 20 and 21 are asked.
+/// What the case gets with a daily traffic in vehicles a day, or the first refusal: 20 of the shares, 21 of the
+/// daily traffic, and those of the case with the hourly demand. The case's own demand is not read.
 #[tactic(auto, using(crate::proofs::DailyLaws::by_engine))]
 pub fn evaluate_daily(case: Case, shares: Shares, daily_traffic: u64) -> Result<DailyGrade, Refusal>
     ensures { result ≡ daily_answer case shares daily_traffic }

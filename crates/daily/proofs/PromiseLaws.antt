@@ -36,10 +36,7 @@ figures-of-the-hour case shares daily z =
     let engine = answer_to-accepted (hourly_case case shares daily) a in
     let day : (volume : ℕ) → traffic_within shares volume ≡ by_the_day shares volume =
     λ volume. traffic_within-eq shares volume (fits-ends shares daily fits).0 in
-    rw (sym (answer-graded case shares daily fits grade (sym engine)), engine) (
-      rw (day grade.volumes.a, day grade.volumes.b, day grade.volumes.c, day grade.volumes.d, day grade.volumes.e) refl,
-      refl,
-    )
+    rw (sym (answer-graded case shares daily fits grade (sym engine)), engine) (simp day, refl)
 
 module _ (case : Case) (shares : Shares) (asked : ℕ) (z : AcceptedTraffic case shares asked) where
   abbrev volume : ℕ → ℕ
