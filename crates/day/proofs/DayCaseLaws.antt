@@ -1,26 +1,19 @@
 -- The answer with a demand, by what is found of the case with none (specs/DayCase).
-use Rattle.std.proofs.Common.{◌≡◌, ap, lit≤, sym, ◌∙◌, ◌≤◌, ◌<◌, min, Ok, Err, arith}
+use Rattle.std.proofs.Common.{◌≡◌, sym, ◌∙◌, ◌≤◌, ◌<◌, min, Ok, Err, arith}
 use Rattle.std.proofs.lemmas.Bool.{lt-ltb, le-ltb}
-use Rattle.std.proofs.Math.Nat.{le_trans}
 use native.Mathlib.Decide.{dec_le}
 use Rattle.refusals.specs.declared.Refusal.{Refusal}
-use Rattle.refusals.specs.Numbers.{number, refusal_number}
+use Rattle.refusals.specs.Numbers.{number}
 use Rattle.refusals.proofs.RefusalLaws.{unless_refused-some}
-use Rattle.refusals.proofs.NumberLaws.{number-above, refusal_number-ok_unless, ok_unless-ok, ok_unless-err}
+use Rattle.refusals.proofs.NumberLaws.{number-above, ok_unless-ok, ok_unless-err}
 use Rattle.road.specs.declared.Case.{Case}
 use Rattle.road.specs.Cases.{with_demand}
 use Rattle.road.specs.Refusals.{greatest_demand}
 use Rattle.method.specs.Refusals.{refusal, Accepted}
-use Rattle.method.specs.Checked.{case_curve, checked}
-use Rattle.method.proofs.RefusalLaws.{refusal-le, refusal-within, refusal-above}
+use Rattle.method.proofs.RefusalLaws.{refusal-within, refusal-above}
 use Rattle.answer.specs.declared.evaluate.Grade.{Grade}
 use Rattle.answer.specs.Answers.{graded, answer_to}
 use Rattle.day.specs.DayCase.{number_with}
-
--- the number of a case that was checked and refused
-pub refused-number : (case : Case) (r : Refusal) → checked case ≡ Err r → number r ≡ refusal case
-refused-number case r e =
-    sym (ap refusal_number e) ∙ refusal_number-ok_unless (refusal case) (case_curve case) (le_trans (refusal-le case) (lit≤ tt))
 
 module _ (case : Case) where
   module _ (a : Accepted (with_demand case 0)) where

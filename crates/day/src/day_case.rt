@@ -8,8 +8,7 @@ ghost use Rattle.answer.specs.Answers.{answer_to};
 
 use answer::evaluate;
 use answer::evaluate::{Grade, Volumes};
-use method::assess::AcceptedCase;
-use method::checked;
+use method::accepted::AcceptedCase;
 use refusals::Refusal;
 use road::Case;
 use road::refusal::GREATEST_DEMAND;
@@ -29,9 +28,7 @@ impl DayCase {
     pub(crate) fn of(case: Case) -> Result<DayCase, Refusal>
         ensures { FoundOf case result }
     {
-        let undemanded = case.with_demand(0);
-        let curve = checked::check(&undemanded)?;
-        let accepted = AcceptedCase::new(undemanded, curve);
+        let accepted = AcceptedCase::check(case.with_demand(0))?;
         let volumes = evaluate::service_volumes(&accepted);
         Ok(DayCase { accepted, volumes })
     }

@@ -19,32 +19,32 @@ use Rattle.answer.specs.Promises.{letter_in}
 use Rattle.answer.specs.Boundary.{example_in_snow}
 use Rattle.answer.specs.Instances.{multilane_with}
 use Rattle.answer.proofs.Boundary.{example-speeds, example-figures}
-use Rattle.forecast.specs.Forecasts.{forecast_of, range_refusals, forecast_refusals, forecast_answer}
+use Rattle.forecast.specs.Forecasts.{forecast_of, range_refusals, forecast_refusals}
 use Rattle.forecast.specs.Promises.{AcceptedForecast, case_with}
-use Rattle.forecast.specs.Instances.{told, level_freeway, wide, LetterBetween, TargetKept, TargetMissed, forecast_instances}
-use Rattle.forecast.proofs.Promises.{every-letter-between, shown-at-the-ends, met-throughout}
+use Rattle.forecast.specs.Instances.{forecast_answered, level_freeway, wide, LetterBetween, TargetKept, TargetMissed, forecast_instances}
+use Rattle.forecast.proofs.PromiseLaws.{every-letter-between, shown-at-the-ends, met-throughout}
 
 -- the letters at the ends tell the eight figures
-told-by : (case : Case) (demand_low demand_high share_low share_high factor_low factor_high best worst : ℕ)
+answered-by : (case : Case) (demand_low demand_high share_low share_high factor_low factor_high best worst : ℕ)
     → AcceptedForecast case (forecast_of demand_low demand_high share_low share_high factor_low factor_high)
     → letter_in (answer_to (case_with case demand_low share_low factor_high)) ≡ best
     → letter_in (answer_to (case_with case demand_high share_high factor_low)) ≡ worst
-    → told (forecast_answer case (forecast_of demand_low demand_high share_low share_high factor_low factor_high))
+    → forecast_answered case (forecast_of demand_low demand_high share_low share_high factor_low factor_high)
     ≡ 0 ∷ best ∷ demand_low ∷ share_low ∷ factor_high ∷ worst ∷ demand_high ∷ share_high ∷ factor_low ∷ []
-told-by case demand_low demand_high share_low share_high factor_low factor_high best worst z b w =
+answered-by case demand_low demand_high share_low share_high factor_low factor_high best worst z b w =
     rw (z, shown-at-the-ends case demand_low demand_high share_low share_high factor_low factor_high z, b, w)
 
 -- of given speeds
-given-told : (told (forecast_answer (multilane_with 0) (forecast_of 2160 2161 0 0 1000 1000))
+given-answered : (forecast_answered (multilane_with 0) (forecast_of 2160 2161 0 0 1000 1000)
     ≡ 0 ∷ 2 ∷ 2160 ∷ 0 ∷ 1000 ∷ 3 ∷ 2161 ∷ 0 ∷ 1000 ∷ [])
-    × (told (forecast_answer level_freeway (forecast_of 825 826 1000 1000 1000 1000))
+    × (forecast_answered level_freeway (forecast_of 825 826 1000 1000 1000 1000)
     ≡ 0 ∷ 1 ∷ 825 ∷ 1000 ∷ 1000 ∷ 2 ∷ 826 ∷ 1000 ∷ 1000 ∷ [])
 unfolding div_up uncapped_by free_flow_speed_of weather_unfit road_refusals load_refusals field_refusals adjusted_speed speed_refusals refusals capacity
     breakpoint adjusted_capacity adjusted_breakpoint curve_under curve_of heavy_factor_of flow_rate_of fall_share_by speed shown_speed density shown_density
     density_limit density_letter letter_at performance measures graded range_refusals forecast_refusals
-given-told = (
-  told-by (multilane_with 0) 2160 2161 0 0 1000 1000 2 3 refl refl refl,
-  told-by level_freeway 825 826 1000 1000 1000 1000 1 2 refl refl refl,
+given-answered = (
+  answered-by (multilane_with 0) 2160 2161 0 0 1000 1000 2 3 refl refl refl,
+  answered-by level_freeway 825 826 1000 1000 1000 1000 1 2 refl refl refl,
 )
 
 -- the printed line's road has F = 60,782
@@ -54,20 +54,20 @@ unfolding div_up weather_unfit road_refusals load_refusals field_refusals adjust
     density_limit density_letter letter_at performance measures graded range_refusals forecast_refusals forecast_instances
 instances-shown =
     let f = example-speeds.0 in (
-      told-by example 2642 2643 50 50 920 920 3 4 (simp f) (simp f) (simp f),
+      answered-by example 2642 2643 50 50 920 920 3 4 (simp f) (simp f) (simp f),
       (
-        told-by example 2642 2642 50 50 919 920 3 4 (simp f) (simp f) (simp f),
+        answered-by example 2642 2642 50 50 919 920 3 4 (simp f) (simp f) (simp f),
         (
-          told-by example 2642 2642 50 51 920 920 3 4 (simp f) (simp f) (simp f),
+          answered-by example 2642 2642 50 51 920 920 3 4 (simp f) (simp f) (simp f),
           (
-            told-by example 1000 4000 0 100 850 950 1 6 (simp f) (simp f) (simp f),
+            answered-by example 1000 4000 0 100 850 950 1 6 (simp f) (simp f) (simp f),
             (
-              told-by example 2000 2000 50 50 920 920 3 3 (simp f) (simp f) (simp f),
+              answered-by example 2000 2000 50 50 920 920 3 3 (simp f) (simp f) (simp f),
               (
-                told-by example 0 2642 50 50 920 920 1 3 (simp f) (simp f) (simp f),
+                answered-by example 0 2642 50 50 920 920 1 3 (simp f) (simp f) (simp f),
                 (
-                  told-by example 2643 4000 50 50 920 920 4 6 (simp f) (simp f) (simp f),
-                  (told-by (example_in_snow 0) 2221 2222 50 50 920 920 3 4 (simp f) (simp f) (simp f), (given-told.0, (given-told.1, tt))),
+                  answered-by example 2643 4000 50 50 920 920 4 6 (simp f) (simp f) (simp f),
+                  (answered-by (example_in_snow 0) 2221 2222 50 50 920 920 3 4 (simp f) (simp f) (simp f), (given-answered.0, (given-answered.1, tt))),
                 ),
               ),
             ),
@@ -77,24 +77,24 @@ instances-shown =
     )
 
 -- its parts by name
-parts : (told (forecast_answer example wide) ≡ 0 ∷ 1 ∷ 1000 ∷ 0 ∷ 950 ∷ 6 ∷ 4000 ∷ 100 ∷ 850 ∷ [])
-    × (told (forecast_answer example (forecast_of 0 2642 50 50 920 920)) ≡ 0 ∷ 1 ∷ 0 ∷ 50 ∷ 920 ∷ 3 ∷ 2642 ∷ 50 ∷ 920 ∷ [])
-    × (told (forecast_answer example (forecast_of 2643 4000 50 50 920 920)) ≡ 0 ∷ 4 ∷ 2643 ∷ 50 ∷ 920 ∷ 6 ∷ 4000 ∷ 50 ∷ 920 ∷ [])
+parts : (forecast_answered example wide ≡ 0 ∷ 1 ∷ 1000 ∷ 0 ∷ 950 ∷ 6 ∷ 4000 ∷ 100 ∷ 850 ∷ [])
+    × (forecast_answered example (forecast_of 0 2642 50 50 920 920) ≡ 0 ∷ 1 ∷ 0 ∷ 50 ∷ 920 ∷ 3 ∷ 2642 ∷ 50 ∷ 920 ∷ [])
+    × (forecast_answered example (forecast_of 2643 4000 50 50 920 920) ≡ 0 ∷ 4 ∷ 2643 ∷ 50 ∷ 920 ∷ 6 ∷ 4000 ∷ 50 ∷ 920 ∷ [])
 unfolding forecast_instances
 parts = let behind = instances-shown.1.1.1 in (behind.0, behind.1.1.0, behind.1.1.1.0)
 
 -- the eight figures of the printed line's road within three ranges
-pub wide-told : told (forecast_answer example wide) ≡ 0 ∷ 1 ∷ 1000 ∷ 0 ∷ 950 ∷ 6 ∷ 4000 ∷ 100 ∷ 850 ∷ []
-wide-told = parts.0
+pub wide-answered : forecast_answered example wide ≡ 0 ∷ 1 ∷ 1000 ∷ 0 ∷ 950 ∷ 6 ∷ 4000 ∷ 100 ∷ 850 ∷ []
+wide-answered = parts.0
 
 -- three ranges, and the printed line's own load within them
 pub letter-between : LetterBetween
 letter-between =
-    let (_, above, below) = every-letter-between example wide (ap (λ ns. get_or ns 0 0) wide-told) 2000 50 920
+    let (_, above, below) = every-letter-between example wide (ap (λ ns. get_or ns 0 0) wide-answered) 2000 50 920
     (omega arith, omega arith) (omega arith, omega arith) (omega arith, omega arith) in (
-      ap (λ ns. get_or ns 1 0) wide-told,
+      ap (λ ns. get_or ns 1 0) wide-answered,
       ap (λ ns. get_or ns 0 0) example-figures,
-      ap (λ ns. get_or ns 5 0) wide-told,
+      ap (λ ns. get_or ns 5 0) wide-answered,
       above,
       below,
     )

@@ -1,13 +1,13 @@
 -- Refusals 22 and 7 to 9 of the ends of a forecast (specs/Forecasts range_refusals).
 use Rattle.std.proofs.Common.{◌≡◌, refl, sym, ap, ◌∙◌, Bool, true, false, cond, ◌||◌, true≢false, ◌↔◌, List, [], ◌∷◌, ◌++◌, ℕ, ◌≤◌}
 use Rattle.std.proofs.Common.{ltb-false, le-ltb, T, ltb}
-use Rattle.refusals.specs.Refusals.{Condition, refuses, first_refusal, by_turns, lesser_refusal, outside}
-use Rattle.refusals.proofs.RefusalLaws.{numbered, first_refusal-by_turns, none-met, none-of, within, inside}
+use Rattle.refusals.specs.Refusals.{Condition, refuses, first_refusal, outside}
+use Rattle.refusals.proofs.RefusalLaws.{numbered, none-met, none-of, within, inside}
 use Rattle.road.specs.declared.Case.{Case}
 use Rattle.road.specs.Refusals.{greatest_demand, load_refusals}
 use Rattle.forecast.specs.declared.Range.{Range}
 use Rattle.forecast.specs.declared.Forecast.{Forecast}
-use Rattle.forecast.specs.Forecasts.{with_combination, best_combination, worst_combination, reversed, range_refusals}
+use Rattle.forecast.specs.Forecasts.{reversed, range_refusals}
 use Rattle.forecast.specs.Promises.{Ordered, BothAtMost, DemandPasses, FactorPasses, SharePasses}
 
 -- ---- two tests with one number
@@ -30,21 +30,23 @@ none-above : (most : ℕ) (range : Range) → (either-above most range ≡ false
 none-above most range = neither _ _ (at-most most range.low) (at-most most range.high)
 
 module _ (forecast : Forecast) where
-  -- some-reversed, over-demand, unfit-factor, over-share: a range that 22 refuses; an end that 7, 8 or 9
-  -- refuses
+  -- a range that 22 refuses
   abbrev pub some-reversed : Bool
   some-reversed = reversed forecast.demand || (reversed forecast.heavy_share || reversed forecast.peak_hour_factor)
 
+  -- an end that 7 refuses
   abbrev pub over-demand : Bool
   over-demand = either-above greatest_demand forecast.demand
 
+  -- one that 8 refuses
   abbrev pub unfit-factor : Bool
   unfit-factor = outside 250 1000 forecast.peak_hour_factor.high || outside 250 1000 forecast.peak_hour_factor.low
 
+  -- one that 9 refuses
   abbrev pub over-share : Bool
   over-share = either-above 1000 forecast.heavy_share
 
-  -- none-reversed, demand-passes, factor-passes, share-passes: there is none, by the ends
+  -- ---- there is none, by the ends
   pub none-reversed : (some-reversed ≡ false) ↔ Ordered forecast
   none-reversed =
       let r = neither (reversed forecast.demand) _ (at-most forecast.demand.high forecast.demand.low)
@@ -72,12 +74,6 @@ module _ (forecast : Forecast) where
   tests = refuses 22 some-reversed ∷ refuses 7 over-demand ∷ refuses 8 unfit-factor ∷ refuses 9 over-share ∷ []
 
 -- ---- the list
-loads-by_turns : (c d : Case)
-    → first_refusal (by_turns (load_refusals c) (load_refusals d))
-    ≡ lesser_refusal (first_refusal (load_refusals c)) (first_refusal (load_refusals d))
-unfolding load_refusals
-loads-by_turns c d = first_refusal-by_turns (load_refusals c) (load_refusals d) tt
-
 module _ (case : Case) (forecast : Forecast) where
   -- every number is above 0
   pub range-numbered : T (numbered (range_refusals case forecast))
@@ -122,12 +118,3 @@ module _ (case : Case) (forecast : Forecast) where
               ((demand-passes forecast).1 demand, ((factor-passes forecast).1 factor, ((share-passes forecast).1 share, tt))),
             ),
       )
-
-  -- where no range is reversed
-  pub range-ends : reversed forecast.demand ≡ false → reversed forecast.heavy_share ≡ false → reversed forecast.peak_hour_factor ≡ false
-      → first_refusal (range_refusals case forecast)
-      ≡ lesser_refusal (first_refusal (load_refusals (with_combination case (best_combination forecast))))
-      (first_refusal (load_refusals (with_combination case (worst_combination forecast))))
-  unfolding range_refusals
-  range-ends v s h =
-      rw (v, s, h) (loads-by_turns (with_combination case (best_combination forecast)) (with_combination case (worst_combination forecast)))

@@ -5,16 +5,15 @@ use Rattle.refusals.specs.Numbers.{refusal_number}
 use Rattle.refusals.specs.Refusals.{Condition, refuses, first_refusal}
 use Rattle.refusals.proofs.RefusalLaws.{numbered, first_refusal-none, first_refusal-some, up_to, first_refusal-le, at_least, first_refusal-ge}
 use Rattle.road.specs.declared.Case.{Case}
-use Rattle.road.specs.Refusals.{road_refusals, section_refusals, load_refusals, field_refusals, SectionFits}
+use Rattle.road.specs.Refusals.{road_refusals, section_refusals, load_refusals, SectionFits}
 use Rattle.road.proofs.RefusalLaws.{section-numbered, load-numbered, loads-exactly}
-use Rattle.method.specs.Refusals.{speed_refusals, refusals, refusal}
-use Rattle.method.proofs.RefusalLaws.{with-of}
+use Rattle.method.specs.Refusals.{speed_refusals, refusal}
 use Rattle.forecast.specs.declared.Forecast.{Forecast}
-use Rattle.forecast.specs.Forecasts.{range_refusals, forecast_answer}
+use Rattle.forecast.specs.Forecasts.{range_refusals, forecast_refusals, forecast_answer}
 use Rattle.forecast.specs.Promises.{Ordered, DemandPasses, FactorPasses, SharePasses, RefusedExactly}
 use Rattle.forecast.proofs.RangeLaws.{some-reversed, over-demand, unfit-factor, over-share}
 use Rattle.forecast.proofs.RangeLaws.{none-reversed, demand-passes, factor-passes, share-passes, range-tests}
-use Rattle.forecast.proofs.ForecastLaws.{best_case, last_refusals, forecast-number, forecast-joined, plain-joined}
+use Rattle.forecast.proofs.ForecastLaws.{best_case, last_refusals, forecast-number, plain-joined}
 
 -- two lists that begin alike with numbers up to 6, and go on with greater ones, agree on these
 small-alike : (rs xs ys : List Condition) → T (up_to 6 rs) → T (numbered rs) → T (at_least 7 xs) → T (at_least 7 ys) → (n : ℕ) → 1 ≤ n → n ≤ 6
@@ -32,7 +31,8 @@ module _ (case : Case) (forecast : Forecast) where
   rest = last_refusals case
 
   joined : number ≡ first_refusal (section_refusals case ++ (range_refusals case forecast ++ rest))
-  joined = forecast-number case forecast ∙ forecast-joined case forecast
+  unfolding forecast_refusals
+  joined = forecast-number case forecast
 
   -- 1 to 6 come first, whatever the ends are
   first : (n : ℕ) → 1 ≤ n → n ≤ 6 → (number ≡ n) ↔ (refusal case ≡ n)
@@ -92,10 +92,11 @@ module _ (case : Case) (forecast : Forecast) where
 
   plain-rest : SectionFits case → DemandPasses forecast → FactorPasses forecast → SharePasses forecast
       → refusal (best_case case forecast) ≡ first_refusal rest
-  unfolding field_refusals refusals
   plain-rest section v h s =
-      let low = best_case case forecast in
-      with-of (load_refusals low) low (load-numbered low) section ((loads-exactly low).1 (v.0, h.1, h.2.1, s.0))
+      let best = best_case case forecast in
+      plain-joined best
+      ∙ first_refusal-none (section_refusals case) _ (section-numbered case) section
+      ∙ first_refusal-none (load_refusals best) rest (load-numbered best) ((loads-exactly best).1 (v.0, h.1, h.2.1, s.0))
 
   abbrev ExactlyByLoads : Type 0
   ExactlyByLoads =

@@ -1,12 +1,14 @@
--- The two combinations that the code looks at. It is no part of the request: proofs/ForecastLaws shows that the letters at these ends are
--- the best and the worst.
+-- What the code works out of an accepted case. It is no part of the request: proofs/EndsLaws shows that at
+-- the two ends of a forecast it is the best and the worst outcome.
 use Rattle.road.specs.declared.Case.{Case}
 use Rattle.method.specs.Assess.{measures}
-use Rattle.forecast.specs.declared.Combination.{Combination}
 use Rattle.forecast.specs.declared.Outcome.{Outcome}
-use Rattle.forecast.specs.Forecasts.{with_combination}
+use Rattle.forecast.specs.Forecasts.{combination_of}
 
--- the letter that the case gets with the combination
-abbrev pub outcome_of : Case → Combination → Outcome
-outcome_of case combination =
-    record { letter = (measures (with_combination case combination)).performance.letter; combination = combination }
+-- the letter that the case gets, and its own demand, share and factor
+abbrev pub outcome_of : Case → Outcome
+outcome_of case =
+    record {
+      letter = (measures case).performance.letter;
+      combination = combination_of case.demand case.heavy_share case.peak_hour_factor;
+    }

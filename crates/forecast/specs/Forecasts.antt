@@ -1,6 +1,6 @@
--- Forecasts known within ranges (document 02, T-07): a case whose own demand, heavy share and peak-hour factor are not read, and a low and
--- a high end of each. Letter numbers: A is 1.
-use Rattle.std.specs.Prelude.{ℕ, ◌≤◌, Bool, if◌then◌else◌, not, ◌||◌, List, [], ◌∷◌, nat_le, nat_lt, Result, Ok, Err}
+-- Forecasts known within ranges (document 02, T-07): a case whose own demand, heavy share and peak-hour
+-- factor are not read, and a low and a high end of each. Letter numbers: A is 1.
+use Rattle.std.specs.Prelude.{ℕ, ◌≤◌, Bool, if◌then◌else◌, not, ◌||◌, List, [], ◌∷◌, ◌++◌, nat_le, nat_lt, Result, Ok, Err}
 use Rattle.numbers.specs.Search.{least}
 use Rattle.numbers.specs.Table.{every_up_to}
 use Rattle.refusals.specs.declared.Refusal.{Refusal}
@@ -9,22 +9,23 @@ use Rattle.refusals.specs.Numbers.{ok_unless}
 use Rattle.curve.specs.declared.service.Letter.{Letter}
 use Rattle.curve.specs.Service.{letter_number}
 use Rattle.road.specs.declared.Case.{Case}
-use Rattle.road.specs.Cases.{loaded}
-use Rattle.road.specs.Refusals.{load_refusals}
-use Rattle.method.specs.Refusals.{refusals_with}
+use Rattle.road.specs.Cases.{with_load}
+use Rattle.road.specs.Refusals.{section_refusals, load_refusals, weather_refusals}
+use Rattle.method.specs.Refusals.{speed_refusals}
 use Rattle.answer.specs.Volumes.{meets}
 use Rattle.forecast.specs.declared.Range.{Range}
 use Rattle.forecast.specs.declared.Forecast.{Forecast}
 use Rattle.forecast.specs.declared.Combination.{Combination}
+use Rattle.forecast.specs.declared.Outcome.{Outcome}
 use Rattle.forecast.specs.declared.Outcomes.{Outcomes}
 
--- the range with these ends
+-- the range with a low and a high end
 abbrev pub range_of : (low high : ℕ) → Range
 range_of low high = record { low = low; high = high }
 
--- the forecast with these ends
 -- "Forecasters give demand, heavy share and peak factor each as a low and a high end"
-abbrev pub forecast_of : (demand_low demand_high share_low share_high factor_low factor_high : ℕ) → Forecast
+abbrev pub forecast_of : (demand_low demand_high share_low share_high factor_low factor_high : ℕ)
+    → Forecast
 forecast_of demand_low demand_high share_low share_high factor_low factor_high =
     record {
       demand = range_of demand_low demand_high;
@@ -32,19 +33,19 @@ forecast_of demand_low demand_high share_low share_high factor_low factor_high =
       peak_hour_factor = range_of factor_low factor_high;
     }
 
--- the combination of these numbers
+-- the combination of a demand, a heavy share and a peak-hour factor
 abbrev pub combination_of : (demand share factor : ℕ) → Combination
-combination_of demand share factor = record { demand = demand; heavy_share = share; peak_hour_factor = factor }
+combination_of demand share factor =
+    record { demand = demand; heavy_share = share; peak_hour_factor = factor }
 
--- n is from the low end to the high end
+-- n is from the low to the high end
 abbrev pub Within : Range → ℕ → Type 0
 Within range n = (range.low ≤ n) × (n ≤ range.high)
 
--- the case with a combination in the place of its own
+-- the case with a combination in the place of its own demand, share and factor
 abbrev pub with_combination : Case → Combination → Case
 with_combination case combination =
-    loaded case.road case.lanes combination.demand combination.peak_hour_factor combination.heavy_share
-    case.terrain case.weather
+    with_load case combination.demand combination.peak_hour_factor combination.heavy_share
 
 -- ---- "over all whole combinations within the ends"
 -- every whole number within the ends passes p
@@ -62,15 +63,18 @@ every_combination forecast p =
 unfoldable pub some_combination : Forecast → (Combination → Bool) → Bool
 some_combination forecast p = not (every_combination forecast (λ combination. not (p combination)))
 
--- best_letter, worst_letter case forecast: the best and the worst letter over all whole combinations within
--- the ends, by number
--- "the best .. letter over all whole combinations within the ends": the least number, below 7, of a letter that some combination meets
+-- the number of the best letter
+-- "the best .. letter over all whole combinations within the ends": the least number, below 7, of a letter
+-- that some combination meets
 unfoldable pub best_letter : Case → Forecast → ℕ
-best_letter case forecast = least (λ n. some_combination forecast (λ combination. meets (with_combination case combination) n)) 7
+best_letter case forecast =
+    least (λ n. some_combination forecast (λ combination. meets (with_combination case combination) n)) 7
 
--- "the worst": of a letter that every combination meets
+-- the number of the worst letter
+-- "the worst": the least number, below 7, of a letter that every combination meets
 unfoldable pub worst_letter : Case → Forecast → ℕ
-worst_letter case forecast = least (λ n. every_combination forecast (λ combination. meets (with_combination case combination) n)) 7
+worst_letter case forecast =
+    least (λ n. every_combination forecast (λ combination. meets (with_combination case combination) n)) 7
 
 -- the letter of a number
 unfoldable pub letter_of : ℕ → Letter
@@ -81,23 +85,23 @@ letter_of n =
     else if nat_le n 4 then Letter.D
     else if nat_le n 5 then Letter.E else Letter.F
 
--- best_combination, worst_combination forecast: the combinations that are shown with them
--- "the best is shown at low demand, low share and high peak factor, the worst at the opposite ends"
+-- "the best is shown at low demand, low share and high peak factor"
 abbrev pub best_combination : Forecast → Combination
 best_combination forecast =
     combination_of forecast.demand.low forecast.heavy_share.low forecast.peak_hour_factor.high
 
+-- "the worst at the opposite ends"
 abbrev pub worst_combination : Forecast → Combination
 worst_combination forecast =
     combination_of forecast.demand.high forecast.heavy_share.high forecast.peak_hour_factor.low
 
--- a range that 22 refuses
 -- "a low end above its high end"
 abbrev pub reversed : Range → Bool
 reversed range = nat_lt range.high range.low
 
 -- 22, and 7 to 9 of both ends
--- "22 .. before 7", "Checks 7 to 9 hold for both ends": each of them looks at both ends before the next is asked
+-- "22 .. before 7", "Checks 7 to 9 hold for both ends": each of them looks at both ends before the next is
+-- asked
 unfoldable pub range_refusals : Case → Forecast → List Condition
 range_refusals case forecast =
     refuses 22 (reversed forecast.demand)
@@ -108,28 +112,43 @@ range_refusals case forecast =
 
 -- 1 to 6, these, 19 and 10
 unfoldable pub forecast_refusals : Case → Forecast → List Condition
-forecast_refusals case forecast = refusals_with (range_refusals case forecast) case
+forecast_refusals case forecast =
+    section_refusals case
+    ++ (range_refusals case forecast
+    ++ (weather_refusals case
+    ++ speed_refusals case.road case.weather case.lanes))
 
--- the best letter and the worst, each with its combination, or the first that refuses
+-- the best and the worst letter, each with its combination
+abbrev pub outcomes : Case → Forecast → Outcomes
+outcomes case forecast =
+    record {
+      best = record {
+        letter = letter_of (best_letter case forecast);
+        combination = best_combination forecast;
+      };
+      worst = record {
+        letter = letter_of (worst_letter case forecast);
+        combination = worst_combination forecast;
+      };
+    }
+
+-- these, or the first that refuses
 -- "Answer the best and the worst letter .., and a combination that gets each"
 abbrev pub forecast_answer : Case → Forecast → Result Outcomes Refusal
 forecast_answer case forecast =
-    ok_unless (first_refusal (forecast_refusals case forecast))
-    (record {
-      best = record { letter = letter_of (best_letter case forecast); combination = best_combination forecast };
-      worst = record { letter = letter_of (worst_letter case forecast); combination = worst_combination forecast };
-    })
+    ok_unless (first_refusal (forecast_refusals case forecast)) (outcomes case forecast)
 
--- how many numbers an answer has
--- two letters, each with a combination
+-- how many numbers an answer is: two letters, each with a combination
 abbrev pub figure_count : ℕ
 figure_count = 8
 
--- best letter, its demand, share and factor; worst letter, its demand, share and factor; of a refusal no
--- value
+-- the four of an outcome: its letter's number, its demand, share and factor
+abbrev pub figures_of : Outcome → List ℕ
+figures_of outcome =
+    letter_number outcome.letter ∷ outcome.combination.demand ∷ outcome.combination.heavy_share
+    ∷ outcome.combination.peak_hour_factor ∷ []
+
+-- those of the best and of the worst; of a refusal no value
 abbrev pub outcome_figures : Result Outcomes Refusal → List ℕ
-outcome_figures (Ok o) =
-    letter_number o.best.letter ∷ o.best.combination.demand ∷ o.best.combination.heavy_share ∷ o.best.combination.peak_hour_factor
-    ∷ letter_number o.worst.letter ∷ o.worst.combination.demand ∷ o.worst.combination.heavy_share
-    ∷ o.worst.combination.peak_hour_factor ∷ []
+outcome_figures (Ok outcomes) = figures_of outcomes.best ++ figures_of outcomes.worst
 outcome_figures (Err r) = []

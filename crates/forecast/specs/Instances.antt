@@ -1,6 +1,5 @@
--- Instances of the promises, with every hypothesis met; proofs/Computed and proofs/Instances show them.
-use Rattle.std.specs.Prelude.{◌≡◌, List, [], ◌∷◌, map, ℕ, ◌≤◌, Result}
-use Rattle.refusals.specs.declared.Refusal.{Refusal}
+-- Instances of the promises, with every hypothesis met; the functions of src/promises.rt ensure each.
+use Rattle.std.specs.Prelude.{◌≡◌, List, [], ◌∷◌, map, ℕ, ◌≤◌}
 use Rattle.refusals.specs.Numbers.{refusal_number}
 use Rattle.refusals.specs.Facts.{Fact, fact}
 use Rattle.curve.specs.declared.kind.Kind.TheVariants as Kind
@@ -12,13 +11,13 @@ use Rattle.answer.specs.Promises.{letter_in, Meets}
 use Rattle.answer.specs.Boundary.{example_in_snow, refused_by19}
 use Rattle.answer.specs.Instances.{multilane_with}
 use Rattle.forecast.specs.declared.Forecast.{Forecast}
-use Rattle.forecast.specs.declared.Outcomes.{Outcomes}
 use Rattle.forecast.specs.Forecasts.{forecast_of, best_letter, worst_letter, forecast_answer, outcome_figures}
 use Rattle.forecast.specs.Promises.{best_letter_in, worst_letter_in, case_with, EveryInside}
 
--- the number of an answer's refusal, 0 for none, and its values
-abbrev pub told : Result Outcomes Refusal → List ℕ
-told a = refusal_number a ∷ outcome_figures a
+-- the number of the answer's refusal, 0 for none, and its figures
+abbrev pub forecast_answered : Case → Forecast → List ℕ
+forecast_answered case forecast =
+    refusal_number (forecast_answer case forecast) ∷ outcome_figures (forecast_answer case forecast)
 
 -- the best and the worst letter
 abbrev pub letters_of : Case → Forecast → List ℕ
@@ -27,6 +26,10 @@ letters_of case forecast = best_letter case forecast ∷ worst_letter case forec
 -- the numbers of the refusals of a case with some forecasts, 0 for none
 abbrev pub numbers_of : Case → List Forecast → List ℕ
 numbers_of case forecasts = map (λ forecast. refusal_number (forecast_answer case forecast)) forecasts
+
+-- and of some cases with a forecast
+abbrev pub numbers_with : Forecast → List Case → List ℕ
+numbers_with forecast cases = map (λ case. refusal_number (forecast_answer case forecast)) cases
 
 -- F G 75000 120 60 60 D 0 2 V H P L
 abbrev pub level_freeway : Case
@@ -69,19 +72,25 @@ LetterBetween =
     (best_letter_in answer ≡ 1) × (inside ≡ 3) × (worst_letter_in answer ≡ 6)
     × (best_letter_in answer ≤ inside) × (inside ≤ worst_letter_in answer)
 
--- TargetKept, TargetMissed: on the same road C is met with every demand from 0 to 2,642, and with none from
--- 2,643 to 4,000
-abbrev pub TargetKept : Type 0
-TargetKept = EveryInside (forecast_of 0 2642 50 50 920 920) (λ demand share factor. Meets (case_with example demand share factor) 3)
+-- the printed line's road with the demand between these ends, its own share and its own factor
+abbrev pub demands : (low high : ℕ) → Forecast
+demands low high = forecast_of low high 50 50 920 920
 
+-- C is met with every demand from 0 to 2,642
+abbrev pub TargetKept : Type 0
+TargetKept =
+    EveryInside (demands 0 2642) (λ demand share factor. Meets (case_with example demand share factor) 3)
+
+-- and with none from 2,643 to 4,000
 abbrev pub TargetMissed : Type 0
 TargetMissed =
-    EveryInside (forecast_of 2643 4000 50 50 920 920) (λ demand share factor. Meets (case_with example demand share factor) 3 → ⊥)
+    EveryInside (demands 2643 4000)
+    (λ demand share factor. Meets (case_with example demand share factor) 3 → ⊥)
 
--- computed_instances, refusal_instances, forecast_instances: what is worked out, and what is to be shown
--- The definitions themselves, with no law: a demand of 1,650 to 1,652, a share of 0 to 1 and a factor of 999 to 1,000 get A at best and B
--- at worst; 1,650 with 0 and 1,000, a flow rate of 825, the last of A, gets A, and so does 825 with heavy vehicles only, as the terrain is
--- level; 1,652 with 1 and 999 gets B.
+-- ---- what is worked out, and what is to be shown
+-- The definitions themselves, with no law: a demand of 1,650 to 1,652, a share of 0 to 1 and a factor of 999
+-- to 1,000 get A at best and B at worst; 1,650 with 0 and 1,000, a flow rate of 825, the last of A, gets A,
+-- and so does 825 with heavy vehicles only, as the terrain is level; 1,652 with 1 and 999 gets B.
 unfoldable pub computed_instances : List Fact
 computed_instances =
     fact (letters_of level_freeway (forecast_of 1650 1652 0 1 999 1000)) (1 ∷ 2 ∷ [])
@@ -90,48 +99,65 @@ computed_instances =
     ∷ fact (letters_of level_freeway (forecast_of 1652 1652 1 1 999 999)) (2 ∷ 2 ∷ [])
     ∷ []
 
--- The order. 1 to 6 before 22: a case that breaks all, one of width 99 and one of ten lanes, with every range reversed. 22 before 7 to 9,
--- by each range alone, with ends that these refuse. 7 before 8 and 9: demand to 1,000,000 with factor to 1,001, and more. 8 before 9: share
--- to 1,001 with factor to 1,001, and from 249. Each end alone, one past its limit. The limits themselves; 19 and 10, behind 7 to 9. All six
--- numbers at 2^64 - 1, which 7 refuses.
+-- The order. 1 to 6 before 22: a case that breaks all, one of width 99 and one of ten lanes, with every range
+-- reversed. 22 before 7 to 9, by each range alone, with ends that these refuse. 7 before 8 and 9: demand to
+-- 1,000,000 with factor to 1,001, and more. 8 before 9: share to 1,001 with factor to 1,001, and from 249.
+-- Each end alone, one past its limit. The limits themselves; 19 and 10, behind 7 to 9. All six numbers at
+-- 2^64 - 1, which 7 refuses.
 unfoldable pub refusal_instances : List Fact
 refusal_instances =
-    fact (map (λ case. refusal_number (forecast_answer case reversed_thrice)) (refused_by_all ∷ narrow ∷ ten_lanes ∷ [])) (1 ∷ 2 ∷ 6 ∷ [])
+    fact (numbers_with reversed_thrice (refused_by_all ∷ narrow ∷ ten_lanes ∷ [])) (1 ∷ 2 ∷ 6 ∷ [])
     ∷ fact
     (numbers_of level_freeway
-    (forecast_of 2000001 2000000 0 0 1001 1001 ∷ forecast_of 0 1000000 1002 1001 249 249 ∷ forecast_of 0 0 0 1001 1002 1001 ∷ []))
+    (forecast_of 2000001 2000000 0 0 1001 1001
+    ∷ forecast_of 0 1000000 1002 1001 249 249
+    ∷ forecast_of 0 0 0 1001 1002 1001 ∷ []))
     (22 ∷ 22 ∷ 22 ∷ [])
-    ∷ fact (numbers_of level_freeway (forecast_of 0 1000000 0 0 900 1001 ∷ forecast_of 1000000 1000000 1001 1001 249 249 ∷ [])) (7 ∷ 7 ∷ [])
-    ∷ fact (numbers_of level_freeway (forecast_of 0 0 0 1001 900 1001 ∷ forecast_of 0 0 0 1001 249 1000 ∷ [])) (8 ∷ 8 ∷ [])
     ∷ fact
     (numbers_of level_freeway
-    (forecast_of 0 1000000 0 0 900 900 ∷ forecast_of 0 0 0 0 249 1000 ∷ forecast_of 0 0 0 0 250 1001
-    ∷ forecast_of 0 0 0 1001 900 900 ∷ []))
-    (7 ∷ 8 ∷ 8 ∷ 9 ∷ [])
-    ∷ fact (map (λ case. refusal_number (forecast_answer case fit)) (level_freeway ∷ refused_by19 ∷ slow ∷ [])) (0 ∷ 19 ∷ 10 ∷ [])
+    (forecast_of 0 1000000 0 0 900 1001 ∷ forecast_of 1000000 1000000 1001 1001 249 249 ∷ []))
+    (7 ∷ 7 ∷ [])
     ∷ fact
-    (numbers_of refused_by19 (forecast_of 0 1000000 0 0 900 900 ∷ forecast_of 0 0 0 0 249 900 ∷ forecast_of 0 0 0 1001 900 900 ∷ []))
+    (numbers_of level_freeway (forecast_of 0 0 0 1001 900 1001 ∷ forecast_of 0 0 0 1001 249 1000 ∷ []))
+    (8 ∷ 8 ∷ [])
+    ∷ fact
+    (numbers_of level_freeway
+    (forecast_of 0 1000000 0 0 900 900 ∷ forecast_of 0 0 0 0 249 1000
+    ∷ forecast_of 0 0 0 0 250 1001 ∷ forecast_of 0 0 0 1001 900 900 ∷ []))
+    (7 ∷ 8 ∷ 8 ∷ 9 ∷ [])
+    ∷ fact (numbers_with fit (level_freeway ∷ refused_by19 ∷ slow ∷ [])) (0 ∷ 19 ∷ 10 ∷ [])
+    ∷ fact
+    (numbers_of refused_by19
+    (forecast_of 0 1000000 0 0 900 900 ∷ forecast_of 0 0 0 0 249 900 ∷ forecast_of 0 0 0 1001 900 900 ∷ []))
     (7 ∷ 8 ∷ 9 ∷ [])
     ∷ fact (numbers_of slow (forecast_of 0 0 0 1001 900 900 ∷ [])) (9 ∷ [])
-    ∷ fact (told (forecast_answer level_freeway farthest)) (7 ∷ [])
+    ∷ fact (forecast_answered level_freeway farthest) (7 ∷ [])
     ∷ []
 
--- The printed line's road: demand 2,642 to 2,643, share and factor as they are; demand 2,642 with factor 919 to 920, and with share 50 to
--- 51; three ranges; equal ends; demand up to the service volume of C, and past it. In snow, on a multilane highway, and on level terrain
--- with heavy vehicles only, at the end of a service volume and one past it.
+-- The printed line's road: demand 2,642 to 2,643, share and factor as they are; demand 2,642 with factor 919
+-- to 920, and with share 50 to 51; three ranges; equal ends; demand up to the service volume of C, and past
+-- it. In snow, on a multilane highway, and on level terrain with heavy vehicles only, at the end of a service
+-- volume and one past it.
 unfoldable pub forecast_instances : List Fact
 forecast_instances =
-    fact (told (forecast_answer example (forecast_of 2642 2643 50 50 920 920))) (0 ∷ 3 ∷ 2642 ∷ 50 ∷ 920 ∷ 4 ∷ 2643 ∷ 50 ∷ 920 ∷ [])
-    ∷ fact (told (forecast_answer example (forecast_of 2642 2642 50 50 919 920))) (0 ∷ 3 ∷ 2642 ∷ 50 ∷ 920 ∷ 4 ∷ 2642 ∷ 50 ∷ 919 ∷ [])
-    ∷ fact (told (forecast_answer example (forecast_of 2642 2642 50 51 920 920))) (0 ∷ 3 ∷ 2642 ∷ 50 ∷ 920 ∷ 4 ∷ 2642 ∷ 51 ∷ 920 ∷ [])
-    ∷ fact (told (forecast_answer example wide)) (0 ∷ 1 ∷ 1000 ∷ 0 ∷ 950 ∷ 6 ∷ 4000 ∷ 100 ∷ 850 ∷ [])
-    ∷ fact (told (forecast_answer example (forecast_of 2000 2000 50 50 920 920))) (0 ∷ 3 ∷ 2000 ∷ 50 ∷ 920 ∷ 3 ∷ 2000 ∷ 50 ∷ 920 ∷ [])
-    ∷ fact (told (forecast_answer example (forecast_of 0 2642 50 50 920 920))) (0 ∷ 1 ∷ 0 ∷ 50 ∷ 920 ∷ 3 ∷ 2642 ∷ 50 ∷ 920 ∷ [])
-    ∷ fact (told (forecast_answer example (forecast_of 2643 4000 50 50 920 920))) (0 ∷ 4 ∷ 2643 ∷ 50 ∷ 920 ∷ 6 ∷ 4000 ∷ 50 ∷ 920 ∷ [])
-    ∷ fact (told (forecast_answer (example_in_snow 0) (forecast_of 2221 2222 50 50 920 920)))
+    fact (forecast_answered example (demands 2642 2643))
+    (0 ∷ 3 ∷ 2642 ∷ 50 ∷ 920 ∷ 4 ∷ 2643 ∷ 50 ∷ 920 ∷ [])
+    ∷ fact (forecast_answered example (forecast_of 2642 2642 50 50 919 920))
+    (0 ∷ 3 ∷ 2642 ∷ 50 ∷ 920 ∷ 4 ∷ 2642 ∷ 50 ∷ 919 ∷ [])
+    ∷ fact (forecast_answered example (forecast_of 2642 2642 50 51 920 920))
+    (0 ∷ 3 ∷ 2642 ∷ 50 ∷ 920 ∷ 4 ∷ 2642 ∷ 51 ∷ 920 ∷ [])
+    ∷ fact (forecast_answered example wide)
+    (0 ∷ 1 ∷ 1000 ∷ 0 ∷ 950 ∷ 6 ∷ 4000 ∷ 100 ∷ 850 ∷ [])
+    ∷ fact (forecast_answered example (demands 2000 2000))
+    (0 ∷ 3 ∷ 2000 ∷ 50 ∷ 920 ∷ 3 ∷ 2000 ∷ 50 ∷ 920 ∷ [])
+    ∷ fact (forecast_answered example (demands 0 2642))
+    (0 ∷ 1 ∷ 0 ∷ 50 ∷ 920 ∷ 3 ∷ 2642 ∷ 50 ∷ 920 ∷ [])
+    ∷ fact (forecast_answered example (demands 2643 4000))
+    (0 ∷ 4 ∷ 2643 ∷ 50 ∷ 920 ∷ 6 ∷ 4000 ∷ 50 ∷ 920 ∷ [])
+    ∷ fact (forecast_answered (example_in_snow 0) (demands 2221 2222))
     (0 ∷ 3 ∷ 2221 ∷ 50 ∷ 920 ∷ 4 ∷ 2222 ∷ 50 ∷ 920 ∷ [])
-    ∷ fact (told (forecast_answer (multilane_with 0) (forecast_of 2160 2161 0 0 1000 1000)))
+    ∷ fact (forecast_answered (multilane_with 0) (forecast_of 2160 2161 0 0 1000 1000))
     (0 ∷ 2 ∷ 2160 ∷ 0 ∷ 1000 ∷ 3 ∷ 2161 ∷ 0 ∷ 1000 ∷ [])
-    ∷ fact (told (forecast_answer level_freeway (forecast_of 825 826 1000 1000 1000 1000)))
+    ∷ fact (forecast_answered level_freeway (forecast_of 825 826 1000 1000 1000 1000))
     (0 ∷ 1 ∷ 825 ∷ 1000 ∷ 1000 ∷ 2 ∷ 826 ∷ 1000 ∷ 1000 ∷ [])
     ∷ []

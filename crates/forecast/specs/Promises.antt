@@ -1,11 +1,11 @@
--- What a reader of an answer is promised (document 02, T-07), over the definitions that the contract of `evaluate_forecast` cites and the
--- engine's own; proofs/Promises proves each but the last, and proofs/RefusedExactly that.
+-- What a reader of an answer is promised (document 02, T-07), over the definitions that the contract of
+-- `evaluate_forecast` cites and the engine's own; the functions of src/promises.rt ensure each.
 use Rattle.std.specs.Prelude.{◌≡◌, ◌↔◌, [], ◌∷◌, map, ℕ, ◌≤◌, ◌<◌, get_or, Result}
 use Rattle.refusals.specs.declared.Refusal.{Refusal}
 use Rattle.refusals.specs.Refusals.{first_refusal}
 use Rattle.refusals.specs.Numbers.{refusal_number}
 use Rattle.road.specs.declared.Case.{Case}
-use Rattle.road.specs.Cases.{loaded}
+use Rattle.road.specs.Cases.{with_load}
 use Rattle.road.specs.Refusals.{greatest_demand, SectionFits}
 use Rattle.method.specs.Refusals.{refusal, Accepted}
 use Rattle.answer.specs.Answers.{answer_to}
@@ -19,21 +19,20 @@ use Rattle.forecast.specs.Forecasts.{forecast_of, Within, forecast_refusals, for
 abbrev pub AcceptedForecast : Case → Forecast → Type 0
 AcceptedForecast case forecast = refusal_number (forecast_answer case forecast) ≡ 0
 
--- best_letter_in a, worst_letter_in a: the numbers of the two letters in an answer
--- of the eight figures the first is the best letter, and the fifth the worst
+-- the number of the best letter in an answer, the first of its eight figures
 abbrev pub best_letter_in : Result Outcomes Refusal → ℕ
 best_letter_in answer = get_or (outcome_figures answer) 0 0
 
+-- and of the worst, the fifth
 abbrev pub worst_letter_in : Result Outcomes Refusal → ℕ
 worst_letter_in answer = get_or (outcome_figures answer) 4 0
 
--- the case with these three in the place of its own, all other fields kept
--- from the fields, and not by this crate's own with_combination
+-- the case with these three in the place of its own, by the base definition and not by this crate's own
+-- with_combination
 abbrev pub case_with : Case → (demand share factor : ℕ) → Case
-case_with case demand share factor = loaded case.road case.lanes demand factor share case.terrain case.weather
+case_with case demand share factor = with_load case demand factor share
 
 -- P holds of every whole combination within the ends
--- what holds of every whole combination within the ends
 abbrev pub EveryInside : Forecast → ((demand share factor : ℕ) → Type 0) → Type 0
 EveryInside forecast P =
     (demand share factor : ℕ) → Within forecast.demand demand → Within forecast.heavy_share share
@@ -57,27 +56,29 @@ ShownAtTheEnds =
     → let forecast = forecast_of demand_low demand_high share_low share_high factor_low factor_high in
     AcceptedForecast case forecast
     → outcome_figures (forecast_answer case forecast)
-    ≡ letter_in (answer_to (case_with case demand_low share_low factor_high)) ∷ demand_low ∷ share_low ∷ factor_high
-    ∷ letter_in (answer_to (case_with case demand_high share_high factor_low)) ∷ demand_high ∷ share_high ∷ factor_low
+    ≡ letter_in (answer_to (case_with case demand_low share_low factor_high))
+    ∷ demand_low ∷ share_low ∷ factor_high
+    ∷ letter_in (answer_to (case_with case demand_high share_high factor_low))
+    ∷ demand_high ∷ share_high ∷ factor_low
     ∷ []
 
 -- a letter is met by every combination exactly when the worst meets it, and by none exactly when the best
 -- does not
--- The planner's corollary: the two letters tell of a target, A to E, whether it is kept whatever comes, and whether it is missed whatever
--- comes.
+-- The planner's corollary: the two letters tell of a target, A to E, whether it is kept whatever comes, and
+-- whether it is missed whatever comes.
 abbrev pub MetThroughout : Type 0
 MetThroughout =
     (case : Case) (forecast : Forecast) → AcceptedForecast case forecast → (n : ℕ)
-    → ((worst_letter_in (forecast_answer case forecast) ≤ n) ↔ EveryInside forecast (λ demand share factor.
-    Meets (case_with case demand share factor) n))
-    × ((n < best_letter_in (forecast_answer case forecast)) ↔ EveryInside forecast (λ demand share factor.
-    Meets (case_with case demand share factor) n → ⊥))
+    → ((worst_letter_in (forecast_answer case forecast) ≤ n)
+    ↔ EveryInside forecast (λ demand share factor. Meets (case_with case demand share factor) n))
+    × ((n < best_letter_in (forecast_answer case forecast))
+    ↔ EveryInside forecast (λ demand share factor. Meets (case_with case demand share factor) n → ⊥))
 
 -- the case's own demand, share and factor as both ends
 abbrev pub own_ends : Case → Forecast
 own_ends case =
-    forecast_of case.demand case.demand case.heavy_share case.heavy_share case.peak_hour_factor
-    case.peak_hour_factor
+    forecast_of case.demand case.demand case.heavy_share case.heavy_share
+    case.peak_hour_factor case.peak_hour_factor
 
 -- equal ends give the plain letter twice, or the refusal of the plain case
 -- "Equal ends give the plain letter twice": of the case itself, which by OwnLoadIsNotRead may carry any load
@@ -95,7 +96,8 @@ EqualEnds =
 -- cases that agree in road, lanes, terrain and weather get one answer
 abbrev pub OwnLoadIsNotRead : Type 0
 OwnLoadIsNotRead =
-    (c d : Case) → c.road ≡ d.road → c.lanes ≡ d.lanes → c.terrain ≡ d.terrain → c.weather ≡ d.weather
+    (c d : Case)
+    → c.road ≡ d.road → c.lanes ≡ d.lanes → c.terrain ≡ d.terrain → c.weather ≡ d.weather
     → (forecast : Forecast) → forecast_answer c forecast ≡ forecast_answer d forecast
 
 -- no low end is above its high end
@@ -110,7 +112,8 @@ abbrev pub AcceptedExactly : Type 0
 AcceptedExactly =
     (case : Case) (forecast : Forecast)
     → AcceptedForecast case forecast
-    ↔ (Ordered forecast × EveryInside forecast (λ demand share factor. Accepted (case_with case demand share factor)))
+    ↔ (Ordered forecast
+    × EveryInside forecast (λ demand share factor. Accepted (case_with case demand share factor)))
 
 -- the list has these numbers, in this order
 -- 22 for each range, 7 to 9 for each end, and 10 before the weather's factor and after it
@@ -122,19 +125,21 @@ RefusalsInOrder =
     ≡ 1 ∷ 2 ∷ 3 ∷ 4 ∷ 5 ∷ 6 ∷ 22 ∷ 22 ∷ 22 ∷ 7 ∷ 7 ∷ 8 ∷ 8 ∷ 9 ∷ 9 ∷ 19 ∷ 10 ∷ 10 ∷ [])
 
 -- no end is above a number
--- no end is above a number
 abbrev pub BothAtMost : ℕ → Range → Type 0
 BothAtMost most range = (range.low ≤ most) × (range.high ≤ most)
 
--- DemandPasses, FactorPasses, SharePasses forecast: what 7, 8 and 9 let pass
+-- 7 lets both ends of the demand pass
 -- "Checks 7 to 9 hold for both ends"
 abbrev pub DemandPasses : Forecast → Type 0
 DemandPasses forecast = BothAtMost greatest_demand forecast.demand
 
+-- 8 both ends of the peak-hour factor
 abbrev pub FactorPasses : Forecast → Type 0
 FactorPasses forecast =
-    let range = forecast.peak_hour_factor in (250 ≤ range.low) × (250 ≤ range.high) × BothAtMost 1000 range
+    let range = forecast.peak_hour_factor in
+    (250 ≤ range.low) × (250 ≤ range.high) × BothAtMost 1000 range
 
+-- and 9 both ends of the heavy share
 abbrev pub SharePasses : Forecast → Type 0
 SharePasses forecast = BothAtMost 1000 forecast.heavy_share
 
@@ -144,11 +149,11 @@ abbrev pub RefusedExactly : Type 0
 RefusedExactly =
     (case : Case) (forecast : Forecast)
     → let number = refusal_number (forecast_answer case forecast) in
+    let best = case_with case forecast.demand.low forecast.heavy_share.low forecast.peak_hour_factor.high in
     ((n : ℕ) → 1 ≤ n → n ≤ 6 → (number ≡ n) ↔ (refusal case ≡ n))
     × ((number ≡ 22) ↔ (SectionFits case × (Ordered forecast → ⊥)))
     × (SectionFits case → Ordered forecast
     → ((number ≡ 7) ↔ (DemandPasses forecast → ⊥))
     × ((number ≡ 8) ↔ (DemandPasses forecast × (FactorPasses forecast → ⊥)))
     × ((number ≡ 9) ↔ (DemandPasses forecast × FactorPasses forecast × (SharePasses forecast → ⊥)))
-    × (DemandPasses forecast → FactorPasses forecast → SharePasses forecast
-    → number ≡ refusal (case_with case forecast.demand.low forecast.heavy_share.low forecast.peak_hour_factor.high)))
+    × (DemandPasses forecast → FactorPasses forecast → SharePasses forecast → number ≡ refusal best))

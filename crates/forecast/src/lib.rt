@@ -1,37 +1,41 @@
-//! Forecast: the best and the worst letter of a case whose demand, heavy share and peak-hour factor are known within ranges.
+//! The best and the worst letter of a case whose demand, heavy share and peak-hour factor are known within
+//! ranges.
 
 #![tactic(auto)]
 
-ghost use Rattle.std.specs.Prelude.{◌≡◌, ◌≤◌, length};
+pub mod promises;
+
+ghost use Rattle.std.specs.Prelude.{◌≡◌, ◌≤◌, length, IfOk};
 ghost use Rattle.refusals.specs.Refusals.{first_refusal};
 ghost use Rattle.refusals.specs.Numbers.{refusal_number};
 ghost use Rattle.text.specs.Buffer.{Wrote};
-ghost use Rattle.method.specs.Checked.{checked};
-ghost use Rattle.forecast.specs.Forecasts.{with_combination, reversed, best_combination, worst_combination, range_refusals};
-ghost use Rattle.forecast.specs.Forecasts.{forecast_answer, figure_count, outcome_figures};
+ghost use Rattle.road.specs.declared.Case.{Case};
+ghost use Rattle.forecast.specs.Forecasts.{with_combination, reversed, best_combination, worst_combination};
+ghost use Rattle.forecast.specs.Forecasts.{range_refusals, forecast_refusals, forecast_answer};
+ghost use Rattle.forecast.specs.Forecasts.{figure_count, outcome_figures};
 ghost use Rattle.forecast.specs.Ends.{outcome_of};
 
-use refusals::Refusal;
-use curve::Curve;
 use curve::service::Letter;
-use method::assess::AcceptedCase;
-use method::checked;
+use method::accepted::AcceptedCase;
+use refusals::Refusal;
 use road::Case;
+use road::refusal::{FitCase, GREATEST_DEMAND};
 use text::buffer;
 
-/// How many numbers an answer has.
+/// How many numbers an answer is: two letters, each with a demand, a heavy share and a peak-hour factor.
 pub const FIGURE_COUNT: usize = 8;
 
-/// A low and a high end.
+/// Every whole number from the low to the high end.
 #[derive(Clone, Copy, PartialEq, Eq)]
 pub struct Range {
     pub low: u64,
     pub high: u64,
 }
 
-/// The ranges of demand, heavy share and peak-hour factor.
+/// What a forecast knows of a case.
 #[derive(Clone, Copy, PartialEq, Eq)]
 pub struct Forecast {
+    /// vehicles per hour
     pub demand: Range,
     /// thousandths
     pub heavy_share: Range,
@@ -39,11 +43,14 @@ pub struct Forecast {
     pub peak_hour_factor: Range,
 }
 
-/// One number of each.
+/// One number of each range.
 #[derive(Clone, Copy, PartialEq, Eq)]
 pub struct Combination {
+    /// vehicles per hour
     pub demand: u64,
+    /// thousandths
     pub heavy_share: u64,
+    /// thousandths
     pub peak_hour_factor: u64,
 }
 
@@ -54,22 +61,11 @@ pub struct Outcome {
     pub combination: Combination,
 }
 
-/// The best outcome and the worst; values: their eight figures, the letter by its number; put_figures: these at the start of lent numbers.
+/// What a case gets at best and at worst.
 #[derive(Clone, Copy, PartialEq, Eq)]
 pub struct Outcomes {
     pub best: Outcome,
     pub worst: Outcome,
-}
-
-fn with_combination(case: Case, combination: Combination) -> Case
-    ensures { result ≡ with_combination case combination }
-{
-    Case {
-        demand: combination.demand,
-        heavy_share: combination.heavy_share,
-        peak_hour_factor: combination.peak_hour_factor,
-        ..case
-    }
 }
 
 impl Range {
@@ -81,6 +77,7 @@ impl Range {
 }
 
 impl Forecast {
+    /// Low demand, low share and high factor.
     fn best(self) -> Combination
         ensures { result ≡ best_combination self }
     {
@@ -91,6 +88,7 @@ impl Forecast {
         }
     }
 
+    /// The opposite ends.
     fn worst(self) -> Combination
         ensures { result ≡ worst_combination self }
     {
@@ -101,38 +99,70 @@ impl Forecast {
         }
     }
 
-    /// 22, then 7 to 9, each of both ends before the next.
-    #[tactic(auto, unfolding(crate::specs::Forecasts::range_refusals))]
-    fn check_ranges(self, case: Case) -> Result<(), Refusal>
-        ensures { refusal_number result ≡ first_refusal (range_refusals case self) }
+    /// Asks 22 of the ranges, and then 7, 8 and 9, each of both ends of its range.
+    #[tactic(auto, unfolding(crate::specs::Forecasts::range_refusals, road::specs::Refusals::load_refusals))]
+    fn check_ranges(self) -> Result<(), Refusal>
+        ensures { (case : Case) → refusal_number result ≡ first_refusal (range_refusals case self) }
     {
-        if self.demand.is_reversed()
-            || self.heavy_share.is_reversed()
-            || self.peak_hour_factor.is_reversed()
-        {
+        let Forecast {
+            demand,
+            heavy_share,
+            peak_hour_factor,
+        } = self;
+        if demand.is_reversed() || heavy_share.is_reversed() || peak_hour_factor.is_reversed() {
             return Err(Refusal::EndsReversed);
         }
-        let best = with_combination(case, self.best()).check_load();
-        let worst = with_combination(case, self.worst()).check_load();
-        refusals::lesser_refusal(best, worst)
+        if GREATEST_DEMAND < demand.high {
+            return Err(Refusal::DemandTooLarge);
+        }
+        if peak_hour_factor.low < 250 || 1_000 < peak_hour_factor.high {
+            return Err(Refusal::FactorOutOfRange);
+        }
+        if 1_000 < heavy_share.high {
+            return Err(Refusal::ShareTooLarge);
+        }
+        Ok(())
+    }
+
+    /// The case at its best, or the first refusal: 1 to 6, 22, 7 to 9 of both ends, 19, 10.
+    #[tactic(auto, using(crate::proofs::ForecastLaws::in_their_order), unfolding(crate::specs::Forecasts::forecast_refusals))]
+    fn check(self, case: Case) -> Result<AcceptedCase, Refusal>
+        ensures refusal { refusal_number result ≡ first_refusal (forecast_refusals case self) }
+        ensures kept { IfOk result (λ best. best.case ≡ with_combination case (best_combination self)) }
+    {
+        case.check_section()?;
+        self.check_ranges()?;
+        case.check_weather()?;
+        AcceptedCase::of(FitCase {
+            case: with_combination(case, self.best()),
+        })
     }
 }
 
 impl Outcome {
-    /// From the curve of the case, which no combination changes.
-    fn new(case: Case, combination: Combination, curve: Curve) -> Outcome
-        requires { checked (with_combination case combination) ≡ Ok curve }
-        ensures { result ≡ outcome_of case combination }
+    /// What an accepted case gets, and its own load.
+    fn of(accepted: &AcceptedCase) -> Outcome
+        ensures { result ≡ outcome_of accepted.now.case }
     {
-        let measures = AcceptedCase::new(with_combination(case, combination), curve).measures();
+        let Case {
+            demand,
+            heavy_share,
+            peak_hour_factor,
+            ..
+        } = accepted.case;
         Outcome {
-            letter: measures.performance.letter,
-            combination,
+            letter: accepted.measures().performance.letter,
+            combination: Combination {
+                demand,
+                heavy_share,
+                peak_hour_factor,
+            },
         }
     }
 }
 
 impl Outcomes {
+    /// The eight figures, letters by their numbers.
     pub fn figures(&self) -> [u64; FIGURE_COUNT]
         ensures { result ≡ outcome_figures (Ok self.now) }
     {
@@ -149,6 +179,7 @@ impl Outcomes {
         ]
     }
 
+    /// Puts the eight figures at the start of lent numbers; answers how many they are.
     pub fn put_figures(&self, out: &mut [u64]) -> usize
         requires { figure_count ≤ length out.old }
         ensures { Wrote (outcome_figures (Ok self.now)) out.old out.new result }
@@ -157,14 +188,32 @@ impl Outcomes {
     }
 }
 
-/// Two combinations are looked at: what the engine promises of more load carries over to all within the ends.
-#[tactic(auto, using(crate::proofs::ForecastLaws::checked_ends))]
+fn with_combination(case: Case, combination: Combination) -> Case
+    ensures { result ≡ with_combination case combination }
+{
+    case.with_load(
+        combination.demand,
+        combination.peak_hour_factor,
+        combination.heavy_share,
+    )
+}
+
+/// The best and the worst letter over all whole combinations within the ranges, each with a combination that
+/// gets it, or the first refusal: 1 to 6, 22 of a low end above its high end, 7 to 9 of both ends, 19, 10. The
+/// case's own demand, share and factor are not read. Two combinations are looked at, on one curve: what the
+/// engine promises of more load carries over to all.
 pub fn evaluate_forecast(case: Case, forecast: Forecast) -> Result<Outcomes, Refusal>
     ensures { result ≡ forecast_answer case forecast }
 {
-    let curve = checked::check_with(&case, forecast.check_ranges(case))?;
+    let best = forecast.check(case)?;
+    let Combination {
+        demand,
+        heavy_share,
+        peak_hour_factor,
+    } = forecast.worst();
+    let worst = best.with_load(demand, peak_hour_factor, heavy_share);
     Ok(Outcomes {
-        best: Outcome::new(case, forecast.best(), curve),
-        worst: Outcome::new(case, forecast.worst(), curve),
+        best: Outcome::of(&best),
+        worst: Outcome::of(&worst),
     })
 }

@@ -1,14 +1,15 @@
 -- The promises of specs/Promises, proved. NoBetterUnderMoreLoad, demand 3's part 1, carries those about letters.
 -- proofs/RefusedExactly has the last one.
-use Rattle.std.proofs.Common.{◌≡◌, refl, sym, ap, ◌∙◌, T, cond, ⊎_elim, eq-zero-or-pos, List, [], ◌∷◌, ◌++◌, ℕ, arith, le_refl, le_trans}
-use Rattle.std.proofs.Common.{lt_of_not-le, le-ltb, get_or}
+use Rattle.std.proofs.Common.{◌≡◌, refl, sym, ap, ◌∙◌, T, cond, ⊎_elim, eq-zero-or-pos, List, [], ◌∷◌, ◌++◌, ℕ, arith, le_trans}
+use Rattle.std.proofs.Common.{lt_of_not-le, get_or}
+use Rattle.std.proofs.lemmas.Bool.Decides.{nat_tests}
 use Rattle.refusals.specs.Refusals.{Condition, first_refusal}
-use Rattle.refusals.proofs.RefusalLaws.{numbered, first_refusal-none, first_refusal-some, lesser_refusal-same}
+use Rattle.refusals.proofs.RefusalLaws.{numbered, first_refusal-none, first_refusal-some}
 use Rattle.road.specs.declared.Case.{Case}
-use Rattle.road.specs.Refusals.{road_refusals, section_refusals, load_refusals, weather_refusals, field_refusals}
-use Rattle.road.proofs.RefusalLaws.{load-numbered, loads-exactly}
-use Rattle.method.specs.Refusals.{speed_refusals, refusals, Accepted}
-use Rattle.method.proofs.RefusalLaws.{with-accepted, with-of}
+use Rattle.road.specs.Refusals.{road_refusals, section_refusals, load_refusals}
+use Rattle.road.proofs.RefusalLaws.{load-numbered, loads-exactly, fields-parts}
+use Rattle.method.specs.Refusals.{speed_refusals, Accepted}
+use Rattle.method.proofs.RefusalLaws.{accepted-fields, refusals-fields}
 use Rattle.answer.specs.Answers.{answer_to}
 use Rattle.answer.specs.Promises.{letter_in, Meets}
 use Rattle.answer.proofs.AnswerLaws.{answer_to-number}
@@ -18,11 +19,10 @@ use Rattle.forecast.specs.Forecasts.{forecast_answer, outcome_figures}
 use Rattle.forecast.specs.Promises.{AcceptedForecast, best_letter_in, worst_letter_in, case_with, EveryLetterBetween}
 use Rattle.forecast.specs.Promises.{ShownAtTheEnds, MetThroughout, EqualEnds, OwnLoadIsNotRead, AcceptedExactly}
 use Rattle.forecast.specs.Promises.{own_ends, RefusalsInOrder}
-use Rattle.forecast.proofs.RangeLaws.{range-numbered, range-exactly, range-ends}
-use Rattle.forecast.proofs.ForecastLaws.{letter-accepted, best_case, worst_case, at-best, at-worst, last_refusals, plain-joined}
-use Rattle.forecast.proofs.ForecastLaws.{forecast-joined, forecast-number}
-use Rattle.forecast.proofs.ForecastLaws.{accepted-ordered, inside-accepted, best-accepted, worst-accepted, ends-between}
-use Rattle.forecast.proofs.ForecastLaws.{answer-accepted}
+use Rattle.forecast.proofs.RangeLaws.{range-numbered, range-exactly}
+use Rattle.forecast.proofs.ForecastLaws.{best_case, worst_case, at-best, at-worst, last_refusals, plain-joined, forecast-number}
+use Rattle.forecast.proofs.ForecastLaws.{accepted-of, accepted-ordered, inside-accepted, best-accepted, worst-accepted}
+use Rattle.forecast.proofs.EndsLaws.{letter-accepted, ends-between, answer-accepted}
 
 pub own-load-is-not-read : OwnLoadIsNotRead
 unfolding best_letter worst_letter range_refusals forecast_refusals
@@ -85,10 +85,8 @@ met-throughout case forecast z n = (
 -- ---- equal ends
 -- 22 refuses none, and the two ends are one
 equal-range : (case : Case) → first_refusal (range_refusals case (own_ends case)) ≡ first_refusal (load_refusals case)
-equal-range case =
-    range-ends case (own_ends case) (le-ltb case.demand case.demand (le_refl _)) (le-ltb case.heavy_share case.heavy_share (le_refl _))
-    (le-ltb case.peak_hour_factor case.peak_hour_factor (le_refl _))
-    ∙ lesser_refusal-same (first_refusal (load_refusals case))
+unfolding load_refusals range_refusals
+equal-range case = grind (arith, nat_tests)
 
 -- lists that refuse alike do so within a longer list
 refuse-alike : (rs xs ys ss : List Condition) → T (numbered xs) → T (numbered ys) → first_refusal xs ≡ first_refusal ys
@@ -99,10 +97,10 @@ refuse-alike [] xs ys ss t u e =
 refuse-alike (r ∷ rs) xs ys ss t u e = ap (cond r.met r.number) (refuse-alike rs xs ys ss t u e)
 
 pub equal-ends : EqualEnds
+unfolding forecast_refusals
 equal-ends case =
     let own = own_ends case in (
       forecast-number case own
-          ∙ forecast-joined case own
           ∙ refuse-alike (section_refusals case) (range_refusals case own) (load_refusals case) (last_refusals case) (range-numbered case own)
           (load-numbered case) (equal-range case)
           ∙ sym (plain-joined case)
@@ -112,22 +110,19 @@ equal-ends case =
 
 -- ---- refusals
 pub accepted-exactly : AcceptedExactly
-unfolding field_refusals refusals forecast_refusals
 accepted-exactly case forecast = (
   λ z. (accepted-ordered case forecast z, inside-accepted case forecast z),
   λ (ordered, all).
       let AcceptedAt : (demand share factor : ℕ) → Type 0 = λ demand share factor. Accepted (case_with case demand share factor) in
-      let low = best_case case forecast in
-      let high = worst_case case forecast in
-      let (section, light, weather, speed) =
-      with-accepted (load_refusals low) low (load-numbered low) (at-best forecast ordered AcceptedAt all) in
-      let heavy = (with-accepted (load_refusals high) high (load-numbered high) (at-worst forecast ordered AcceptedAt all)).1 in
-      let (demand-low, least-high, most-high, share-low) = (loads-exactly low).0 light in
-      let (demand-high, least-low, most-low, share-high) = (loads-exactly high).0 heavy in
-      forecast-number case forecast
-      ∙ with-of (range_refusals case forecast) case (range-numbered case forecast) section
+      let best = at-best forecast ordered AcceptedAt all in
+      let fits = accepted-fields (best_case case forecast) best in
+      let (section, light, weather) = fields-parts (best_case case forecast) fits in
+      let heavy = (fields-parts (worst_case case forecast)
+      (accepted-fields (worst_case case forecast) (at-worst forecast ordered AcceptedAt all))).1 in
+      let (demand-low, least-high, most-high, share-low) = (loads-exactly (best_case case forecast)).0 light in
+      let (demand-high, least-low, most-low, share-high) = (loads-exactly (worst_case case forecast)).0 heavy in
+      accepted-of case forecast section
       ((range-exactly case forecast).1
       (ordered, (demand-low, demand-high), (least-low, least-high, (most-low, most-high)), (share-low, share-high)))
-      ∙ first_refusal-none (weather_refusals case) (speed_refusals case.road case.weather case.lanes) tt weather
-      ∙ speed,
+      weather (sym (refusals-fields (best_case case forecast) fits) ∙ best),
 )
