@@ -1,6 +1,6 @@
 -- Exactly when each number refuses a forecast (specs/Promises RefusedExactly), proved.
-use Rattle.std.proofs.Common.{◌≡◌, refl, sym, ◌∙◌, Bool, true, false, cond, true≢false, ◌↔◌, ⊎_elim, List, ◌∷◌, ◌++◌, ℕ, ◌≤◌, ◌<◌, arith}
-use Rattle.std.proofs.Common.{eq-zero-or-pos, T}
+use Rattle.std.proofs.Common.{◌≡◌, refl, sym, ◌∙◌, Bool, true, false, cond, true≢false, ◌↔◌, ⊎_elim, List, ◌∷◌, ◌++◌, ℕ, suc, ◌≤◌, ◌<◌, arith}
+use Rattle.std.proofs.Common.{eq-zero-or-pos, subst, lit<, T}
 use Rattle.refusals.specs.Numbers.{refusal_number}
 use Rattle.refusals.specs.Refusals.{Condition, refuses, first_refusal}
 use Rattle.refusals.proofs.RefusalLaws.{numbered, first_refusal-none, first_refusal-some, up_to, first_refusal-le, at_least, first_refusal-ge}
@@ -23,6 +23,28 @@ small-alike rs xs ys u t a b n h k e =
     (λ z. absurd (let is = sym (first_refusal-none rs xs t z) ∙ e in omega (arith, first_refusal-ge 7 xs a (omega (arith, is)), is)))
     (λ p. first_refusal-some rs ys p ∙ sym (first_refusal-some rs xs p) ∙ e) (eq-zero-or-pos (first_refusal rs))
 
+-- a list whose numbers are all above n does not find n
+above : (n : ℕ) (rs : List Condition) → T (at_least (suc n) rs) → 0 < n → first_refusal rs ≡ n → ⊥
+above n rs t p e = omega (arith, first_refusal-ge (suc n) rs t (omega (arith, e)), e)
+
+-- a number n with a test b before what comes later, P being what passes the test
+module _ (b : Bool) (n later : ℕ) {P : Type 0} (passes : (b ≡ false) ↔ P) where
+  -- where n does not come later, it is found exactly where P does not hold
+  exactly-here : (later ≡ n → ⊥) → (cond b n later ≡ n) ↔ (P → ⊥)
+  exactly-here other = go b passes
+    where
+      go : (v : Bool) → (v ≡ false) ↔ P → (cond v n later ≡ n) ↔ (P → ⊥)
+      go true p = (λ _ x. true≢false (p.1 x), λ _. refl)
+      go false p = (λ e. absurd (other e), λ none. absurd (none (p.0 refl)))
+
+  -- another number is found exactly where P holds and it comes later
+  exactly-later : (m : ℕ) → (n ≡ m → ⊥) → (cond b n later ≡ m) ↔ (P × (later ≡ m))
+  exactly-later m other = go b passes
+    where
+      go : (v : Bool) → (v ≡ false) ↔ P → (cond v n later ≡ m) ↔ (P × (later ≡ m))
+      go true p = (λ e. absurd (other e), λ (x, _). absurd (true≢false (p.1 x)))
+      go false p = (λ e. (p.0 refl, e), λ (_, e). e)
+
 module _ (case : Case) (forecast : Forecast) where
   abbrev number : ℕ
   number = refusal_number (forecast_answer case forecast)
@@ -34,7 +56,7 @@ module _ (case : Case) (forecast : Forecast) where
   unfolding forecast_refusals
   joined = forecast-number case forecast
 
-  -- 1 to 6 come first, whatever the ends are
+  -- ---- 1 to 6 come first, whatever the ends are
   first : (n : ℕ) → 1 ≤ n → n ≤ 6 → (number ≡ n) ↔ (refusal case ≡ n)
   unfolding road_refusals load_refusals speed_refusals range_refusals
   first n h k = (
@@ -48,11 +70,6 @@ module _ (case : Case) (forecast : Forecast) where
         (sym (plain-joined case) ∙ e),
   )
 
-  -- where 1 to 6 do not refuse, the ends decide, and then 19 and 10
-  behind : SectionFits case → number ≡ first_refusal (range_refusals case forecast ++ rest)
-  behind section =
-      joined ∙ first_refusal-none (section_refusals case) (range_refusals case forecast ++ rest) (section-numbered case) section
-
   -- a number above 6 is none of them
   beyond : 6 < number → SectionFits case
   unfolding road_refusals
@@ -65,85 +82,80 @@ module _ (case : Case) (forecast : Forecast) where
       )))
       (eq-zero-or-pos (first_refusal (section_refusals case)))
 
-  -- ---- 22
-  by-tests : SectionFits case
-      → number
-      ≡ cond (some-reversed forecast) 22
-      (cond (over-demand forecast) 7 (cond (unfit-factor forecast) 8 (cond (over-share forecast) 9 (first_refusal rest))))
-  by-tests section = behind section ∙ range-tests case forecast rest
+  -- ---- 22, 7, 8 and 9, each with its test, and then 19 and 10
+  abbrev from-9 : List Condition
+  from-9 = refuses 9 (over-share forecast) ∷ rest
 
-  -- 7 to 9, 19 and 10
-  loads-le : (v h s : Bool) → cond v 7 (cond h 8 (cond s 9 (first_refusal rest))) ≤ 19
+  abbrev from-8 : List Condition
+  from-8 = refuses 8 (unfit-factor forecast) ∷ from-9
+
+  abbrev from-7 : List Condition
+  from-7 = refuses 7 (over-demand forecast) ∷ from-8
+
+  by-tests : SectionFits case → number ≡ first_refusal (refuses 22 (some-reversed forecast) ∷ from-7)
+  by-tests section =
+      joined
+      ∙ first_refusal-none (section_refusals case) (range_refusals case forecast ++ rest) (section-numbered case) section
+      ∙ range-tests case forecast rest
+
+  exactly-22 : (number ≡ 22) ↔ (SectionFits case × (Ordered forecast → ⊥))
   unfolding speed_refusals
-  loads-le v h s = first_refusal-le 19 (refuses 7 v ∷ refuses 8 h ∷ refuses 9 s ∷ rest) tt
-
-  exactly-22 : (b : Bool) (later : ℕ) → later ≤ 19 → (SectionFits case → number ≡ cond b 22 later) → (b ≡ false) ↔ Ordered forecast
-      → (number ≡ 22) ↔ (SectionFits case × (Ordered forecast → ⊥))
-  exactly-22 true later most is ordered = (λ e. (beyond (omega arith), λ o. true≢false (ordered.1 o)), λ (section, _). is section)
-  exactly-22 false later most is ordered = (
-    λ e. absurd (omega (arith, is (beyond (omega arith)))),
-    λ (_, reverses). absurd (reverses (ordered.0 refl)),
-  )
-
-  -- ---- 7 to 9
-  rest-ge : 0 < first_refusal rest → 10 ≤ first_refusal rest
-  unfolding speed_refusals
-  rest-ge p = first_refusal-ge 10 rest tt p
-
-  plain-rest : SectionFits case → DemandPasses forecast → FactorPasses forecast → SharePasses forecast
-      → refusal (best_case case forecast) ≡ first_refusal rest
-  plain-rest section v h s =
-      let best = best_case case forecast in
-      plain-joined best
-      ∙ first_refusal-none (section_refusals case) _ (section-numbered case) section
-      ∙ first_refusal-none (load_refusals best) rest (load-numbered best) ((loads-exactly best).1 (v.0, h.1, h.2.1, s.0))
-
-  abbrev ExactlyByLoads : Type 0
-  ExactlyByLoads =
-      ((number ≡ 7) ↔ (DemandPasses forecast → ⊥)) × ((number ≡ 8) ↔ (DemandPasses forecast × (FactorPasses forecast → ⊥)))
-      × ((number ≡ 9) ↔ (DemandPasses forecast × FactorPasses forecast × (SharePasses forecast → ⊥)))
-      × (DemandPasses forecast → FactorPasses forecast → SharePasses forecast → number ≡ refusal (best_case case forecast))
-
-  exactly-loads : SectionFits case → (v h s : Bool) → number ≡ cond v 7 (cond h 8 (cond s 9 (first_refusal rest)))
-      → (v ≡ false) ↔ DemandPasses forecast → (h ≡ false) ↔ FactorPasses forecast → (s ≡ false) ↔ SharePasses forecast
-      → ExactlyByLoads
-  exactly-loads section true h s is dv df ds =
-      let out : DemandPasses forecast → ⊥ = λ d. true≢false (dv.1 d) in (
-        (λ _. out, λ _. is),
-        (λ e. absurd (omega arith), λ (d, _). absurd (out d)),
-        (λ e. absurd (omega arith), λ (d, _, _). absurd (out d)),
-        λ d. absurd (out d),
+  exactly-22 =
+      let here = exactly-here (some-reversed forecast) 22 (first_refusal from-7) (none-reversed forecast)
+      (λ e. omega (arith, e, first_refusal-le 19 from-7 tt)) in (
+        λ e. let section = beyond (omega (arith, e)) in (section, here.0 (sym (by-tests section) ∙ e)),
+        λ (section, reverses). by-tests section ∙ here.1 reverses,
       )
-  exactly-loads section false true s is dv df ds =
-      let out : FactorPasses forecast → ⊥ = λ f. true≢false (df.1 f) in (
-        (λ e. absurd (omega arith), λ other. absurd (other (dv.0 refl))),
-        (λ _. (dv.0 refl, out), λ _. is),
-        (λ e. absurd (omega arith), λ (_, f, _). absurd (out f)),
-        λ _ f. absurd (out f),
-      )
-  exactly-loads section false false true is dv df ds =
-      let out : SharePasses forecast → ⊥ = λ p. true≢false (ds.1 p) in (
-        (λ e. absurd (omega arith), λ other. absurd (other (dv.0 refl))),
-        (λ e. absurd (omega arith), λ (_, other). absurd (other (df.0 refl))),
-        (λ _. (dv.0 refl, df.0 refl, out), λ _. is),
-        λ _ _ p. absurd (out p),
-      )
-  exactly-loads section false false false is dv df ds =
-      let past : (n : ℕ) → number ≡ n → 0 < n → 10 ≤ n = λ n e p. omega (arith, rest-ge (omega (arith, is, e)), is, e) in (
-        (λ e. absurd (omega (arith, past 7 e (omega arith))), λ other. absurd (other (dv.0 refl))),
-        (λ e. absurd (omega (arith, past 8 e (omega arith))), λ (_, other). absurd (other (df.0 refl))),
-        (λ e. absurd (omega (arith, past 9 e (omega arith))), λ (_, _, other). absurd (other (ds.0 refl))),
-        λ v f p. is ∙ sym (plain-rest section v f p),
-      )
+
+  module _ (section : SectionFits case) (ordered : Ordered forecast) where
+    by-loads : number ≡ first_refusal from-7
+    by-loads = by-tests section ∙ rw ((none-reversed forecast).1 ordered)
+
+    exactly-7 : (first_refusal from-7 ≡ 7) ↔ (DemandPasses forecast → ⊥)
+    unfolding speed_refusals
+    exactly-7 = exactly-here (over-demand forecast) 7 (first_refusal from-8) (demand-passes forecast) (above 7 from-8 tt (lit< tt))
+
+    behind-7 : (m : ℕ) → 7 < m → (first_refusal from-7 ≡ m) ↔ (DemandPasses forecast × (first_refusal from-8 ≡ m))
+    behind-7 m h = exactly-later (over-demand forecast) 7 (first_refusal from-8) (demand-passes forecast) m (λ e. omega (arith, e))
+
+    exactly-8 : (first_refusal from-7 ≡ 8) ↔ (DemandPasses forecast × (FactorPasses forecast → ⊥))
+    unfolding speed_refusals
+    exactly-8 =
+        let behind = behind-7 8 (lit< tt) in
+        let here = exactly-here (unfit-factor forecast) 8 (first_refusal from-9) (factor-passes forecast) (above 8 from-9 tt (lit< tt)) in
+        (λ e. let (d, k) = behind.0 e in (d, here.0 k), λ (d, f). behind.1 (d, here.1 f))
+
+    exactly-9 : (first_refusal from-7 ≡ 9) ↔ (DemandPasses forecast × FactorPasses forecast × (SharePasses forecast → ⊥))
+    unfolding speed_refusals
+    exactly-9 =
+        let behind = behind-7 9 (lit< tt) in
+        let then = exactly-later (unfit-factor forecast) 8 (first_refusal from-9) (factor-passes forecast) 9 (λ e. omega (arith, e)) in
+        let here = exactly-here (over-share forecast) 9 (first_refusal rest) (share-passes forecast) (above 9 rest tt (lit< tt)) in (
+          λ e.
+              let (d, k) = behind.0 e in
+              let (f, l) = then.0 k in
+              (d, f, here.0 l),
+          λ (d, f, s). behind.1 (d, then.1 (f, here.1 s)),
+        )
+
+    -- where none of them refuses, what refuses the case at its best decides
+    none-of-them : DemandPasses forecast → FactorPasses forecast → SharePasses forecast → first_refusal from-7 ≡ refusal (best_case case forecast)
+    none-of-them d f s =
+        let best = best_case case forecast in
+        rw ((demand-passes forecast).1 d, (factor-passes forecast).1 f, (share-passes forecast).1 s)
+        (sym (
+        plain-joined best
+        ∙ first_refusal-none (section_refusals case) (load_refusals best ++ rest) (section-numbered case) section
+        ∙ first_refusal-none (load_refusals best) rest (load-numbered best) ((loads-exactly best).1 (d.0, f.1, f.2.1, s.0))))
+
+    abbrev ExactlyByLoads : ℕ → Type 0
+    ExactlyByLoads m =
+        ((m ≡ 7) ↔ (DemandPasses forecast → ⊥)) × ((m ≡ 8) ↔ (DemandPasses forecast × (FactorPasses forecast → ⊥)))
+        × ((m ≡ 9) ↔ (DemandPasses forecast × FactorPasses forecast × (SharePasses forecast → ⊥)))
+        × (DemandPasses forecast → FactorPasses forecast → SharePasses forecast → m ≡ refusal (best_case case forecast))
+
+    exactly-loads : ExactlyByLoads number
+    exactly-loads = subst ExactlyByLoads (sym by-loads) (exactly-7, exactly-8, exactly-9, none-of-them)
 
 pub refused-exactly : RefusedExactly
-refused-exactly case forecast = (
-  first case forecast,
-  exactly-22 case forecast (some-reversed forecast) _
-      (loads-le case forecast (over-demand forecast) (unfit-factor forecast) (over-share forecast))
-      (by-tests case forecast) (none-reversed forecast),
-  λ section ordered.
-      exactly-loads case forecast section (over-demand forecast) (unfit-factor forecast) (over-share forecast)
-      (by-tests case forecast section ∙ rw ((none-reversed forecast).1 ordered)) (demand-passes forecast) (factor-passes forecast)
-      (share-passes forecast),
-)
+refused-exactly case forecast = (first case forecast, exactly-22 case forecast, exactly-loads case forecast)
