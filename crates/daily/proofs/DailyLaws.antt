@@ -27,7 +27,7 @@ use Rattle.answer.specs.Promises as engine
 use Rattle.answer.specs.Promises.{Meets, volume_in}
 use Rattle.answer.proofs.AnswerLaws.{answer_to-accepted, answer_to-number, Meets-iff}
 use Rattle.answer.proofs.Laws.{figures-within-ends}
-use Rattle.answer.proofs.Promises.{meets-up-to-the-service-volume}
+use Rattle.answer.proofs.PromiseLaws.{meets-up-to-the-service-volume}
 use Rattle.daily.specs.declared.Shares.{Shares}
 use Rattle.daily.specs.declared.DailyGrade.{DailyGrade}
 use Rattle.daily.specs.Daily.{greatest_daily_traffic, traffic_refusals, TrafficFits, hourly_demand, hourly_case, daily_volume}

@@ -7,7 +7,7 @@ use Rattle.answer.specs.Answers as answers
 use Rattle.answer.specs.Answers.{graded, answer_to}
 use Rattle.answer.specs.Promises.{volume_in}
 use Rattle.answer.proofs.AnswerLaws.{answer_to-accepted, answer_to-number}
-use Rattle.answer.proofs.Promises.{no-better-under-more-load}
+use Rattle.answer.proofs.PromiseLaws.{no-better-under-more-load}
 use Rattle.daily.specs.declared.Shares.{Shares}
 use Rattle.daily.specs.Daily.{SharesInRange, shares_unfit, traffic_refusals, TrafficFits, hourly_demand, hourly_case}
 use Rattle.daily.specs.Daily.{daily_volume, daily_answer}

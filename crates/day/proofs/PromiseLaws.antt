@@ -30,7 +30,7 @@ use Rattle.answer.specs.declared.evaluate.Grade.{Grade}
 use Rattle.answer.specs.Answers.{answer_to}
 use Rattle.answer.specs.Promises.{letter_in}
 use Rattle.answer.proofs.AnswerLaws.{answer_to-number}
-use Rattle.answer.proofs.Promises.{no-better-under-more-load}
+use Rattle.answer.proofs.PromiseLaws.{no-better-under-more-load}
 use Rattle.day.specs.Days.{most_demands, figure_count, answer_figures, day_figures, lent_unfit, lent_refusals, LentFits, day_content}
 use Rattle.day.specs.Promises.{position, DayIsTheSingleCalls, PositionHoldsTheAnswer, FiguresTellTheAnswer, PastTheDemandsKept}
 use Rattle.day.specs.Promises.{number_at, letter_number_at, road_number, PositionNumbers, NoBetterWithMoreDemand}

@@ -17,7 +17,7 @@ use Rattle.answer.specs.Answers.{graded, answer_to}
 use Rattle.answer.specs.Volumes.{meets}
 use Rattle.answer.specs.Promises.{letter_in}
 use Rattle.answer.proofs.AnswerLaws.{answer_to-accepted, answer_to-number, Meets-iff}
-use Rattle.answer.proofs.Promises.{no-better-under-more-load}
+use Rattle.answer.proofs.PromiseLaws.{no-better-under-more-load}
 use Rattle.forecast.specs.declared.Forecast.{Forecast}
 use Rattle.forecast.specs.declared.Combination.{Combination}
 use Rattle.forecast.specs.Forecasts.{with_combination, every_combination, some_combination, best_letter, worst_letter, letter_of}
