@@ -1,4 +1,4 @@
--- The answer with a demand, by what is found of the case with none (specs/DayCase).
+-- The answer with a demand, by the case with none (specs/DayCase).
 use Rattle.std.proofs.Common.{◌≡◌, sym, ◌∙◌, ◌≤◌, ◌<◌, min, Ok, Err, arith}
 use Rattle.std.proofs.lemmas.Bool.{lt-ltb, le-ltb}
 use native.Mathlib.Decide.{dec_le}
@@ -13,7 +13,7 @@ use Rattle.method.specs.Refusals.{refusal, Accepted}
 use Rattle.method.proofs.RefusalLaws.{refusal-within, refusal-above}
 use Rattle.answer.specs.declared.evaluate.Grade.{Grade}
 use Rattle.answer.specs.Answers.{graded, answer_to}
-use Rattle.day.specs.DayCase.{number_with}
+use Rattle.day.specs.DayCase.{refusal_with}
 
 module _ (case : Case) where
   module _ (a : Accepted (with_demand case 0)) where
@@ -26,11 +26,11 @@ module _ (case : Case) where
     accepted-above h = ok_unless-err Refusal.DemandTooLarge (refusal case) (graded case) (sym (rw a at (refusal-above case h)))
 
   -- one that is not gets the same refusal with any demand, or 7 where that comes before it
-  pub refused-with : (r s : Refusal) → number r ≡ refusal (with_demand case 0) → number s ≡ number_with (number r) case.demand
+  pub refused-with : (r s : Refusal) → number r ≡ refusal (with_demand case 0) → number s ≡ refusal_with (number r) case.demand
       → Err s ≡ answer_to case
   refused-with r s e f = ok_unless-err s (refusal case) (graded case) (f ∙ by (dec_le case.demand greatest_demand))
     where
-      by : Dec (case.demand ≤ greatest_demand) → number_with (number r) case.demand ≡ refusal case
+      by : Dec (case.demand ≤ greatest_demand) → refusal_with (number r) case.demand ≡ refusal case
       by (yes h) = rw (le-ltb greatest_demand case.demand h) (e ∙ sym (refusal-within case h))
       by (no h) =
           let over : greatest_demand < case.demand = omega arith in

@@ -1,7 +1,7 @@
 -- A whole day in one call.
 -- the answers, refusal 18, and what the lent answers hold afterwards
 pub mod Days
--- what is worked out once for all demands
+-- the refusal with a demand, by the one with none
 pub mod DayCase
 -- what a reader of the lent answers is promised
 pub mod Promises

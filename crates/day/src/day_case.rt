@@ -1,10 +1,12 @@
 //! What a day works out once for all its demands.
 
-ghost use Rattle.std.specs.Prelude.{◌≡◌};
-ghost use Rattle.refusals.specs.Numbers.{number};
+ghost use Rattle.std.specs.Prelude.{◌≡◌, IfOk};
+ghost use Rattle.refusals.specs.Numbers.{number, refusal_number};
 ghost use Rattle.road.specs.Cases.{with_demand};
+ghost use Rattle.method.specs.Refusals.{refusal};
 ghost use Rattle.answer.specs.Volumes.{service_volumes};
 ghost use Rattle.answer.specs.Answers.{answer_to};
+ghost use Rattle.day.specs.DayCase.{refusal_with};
 
 use answer::evaluate;
 use answer::evaluate::{Grade, Volumes};
@@ -22,11 +24,10 @@ pub(crate) struct DayCase {
 }
 
 impl DayCase {
-    ghost use Rattle.day.specs.DayCase.{FoundOf, number_with};
-
-    /// The case with no demand, or what refuses it: one of 1 to 6, 8, 9, 19 and 10.
+    /// The case with no demand, or the first of 1 to 6, 8, 9, 19 and 10 that refuses it.
     pub(crate) fn of(case: Case) -> Result<DayCase, Refusal>
-        ensures { FoundOf case result }
+        ensures refusal { refusal_number result ≡ refusal (with_demand case 0) }
+        ensures kept { IfOk result (λ day_case. day_case.accepted.case ≡ with_demand case 0) }
     {
         let accepted = AcceptedCase::check(case.with_demand(0))?;
         let volumes = evaluate::service_volumes(&accepted);
@@ -45,7 +46,7 @@ impl DayCase {
 
     /// Of a case that is refused with no demand: its refusal with a demand, which is 7 where that comes first.
     pub(crate) fn refusal_with(refusal: Refusal, demand: u64) -> Refusal
-        ensures { number result ≡ number_with (number refusal) demand }
+        ensures { number result ≡ refusal_with (number refusal) demand }
     {
         if GREATEST_DEMAND < demand && Refusal::DemandTooLarge < refusal {
             return Refusal::DemandTooLarge;

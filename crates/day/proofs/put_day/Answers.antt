@@ -1,22 +1,14 @@
 -- `day::put_day` meets its contract: each turn writes the answer with one demand behind those before it.
-use Rattle.std.proofs.Common.{◌≡◌, ap, ◌∙◌, subst, Result, Ok, Err, get_or, arith}
+use Rattle.std.proofs.Common.{◌≡◌, ap, ◌∙◌, get_or, arith}
 use mathlib.Core.List.{flat_map}
-use Rattle.refusals.specs.declared.Refusal.{Refusal}
 use Rattle.text.proofs.BufferLaws.{nothing}
-use Rattle.road.specs.declared.Case.{Case}
 use Rattle.road.specs.Cases.{with_demand}
 use Rattle.answer.specs.Answers.{answer_to}
-use Rattle.day.specs.declared.day_case.DayCase.{DayCase}
 use Rattle.day.specs.Days.{day_figures}
-use Rattle.day.specs.DayCase.{FoundOf}
 use Rattle.day.proofs.DayLaws.{answer_figures-length, lent-room, next-answer}
 use Rattle.day.proofs.DayCaseLaws.{refused-with}
 use Rattle.day.proofs.put_day.Goals.{in-Ok, in-Err}
 use Rattle.day.proofs.put_day.Goals as goal
-
--- what is found, by which of the two it is
-found-as : (case : Case) (found known : Result DayCase Refusal) → FoundOf case found → found ≡ known → FoundOf case known
-found-as case found known f e = subst (FoundOf case) e f
 
 pub loop-demand-preserved : goal.loop-demand-preserved
 loop-demand-preserved c =
@@ -26,11 +18,11 @@ loop-demand-preserved c =
     let same : c.match-day_case.answer ≡ answer_to (with_demand case demand) =
     elim c.match-day_case.branch [
       | in-Ok w ↦
-          let own = found-as case _ (Ok _) c.of-day_case.ensures w.in-Ok.is in
-          w.answer-is ∙ w.answer_with-answer.ensures ∙ ap (λ k. answer_to (with_demand k demand)) own
+          let kept = rw w.in-Ok.is at c.of-day_case.ensures.kept in
+          w.answer-is ∙ w.answer_with-answer.ensures ∙ ap (λ k. answer_to (with_demand k demand)) kept
       | in-Err w ↦
-          let own = found-as case _ (Err _) c.of-day_case.ensures w.in-Err.is in
-          w.answer-is ∙ refused-with (with_demand case demand) _ _ own w.refusal_with.ensures
+          let refused = rw w.in-Err.is at c.of-day_case.ensures.refusal in
+          w.answer-is ∙ refused-with (with_demand case demand) _ _ refused w.refusal_with.ensures
     ] in
     let wrote = c.put_answer-written.ensures in (
       next-answer case c.args.demands.now l.demand-index c.loop-demand-test.true l.invariant.0 (rw same at wrote),
