@@ -16,8 +16,7 @@ use Rattle.answer.specs.Answers.{answer_to}
 use Rattle.daily.specs.declared.Shares.{Shares}
 use Rattle.daily.specs.declared.DailyGrade.{DailyGrade}
 
--- the greatest daily traffic that 21 lets pass
--- "daily traffic above 4,000,000,000"
+-- the greatest daily traffic that 21 lets pass: "daily traffic above 4,000,000,000"
 abbrev pub greatest_daily_traffic : ℕ
 greatest_daily_traffic = 4000000000
 
@@ -49,7 +48,6 @@ traffic_refusals shares daily =
 abbrev pub TrafficFits : Shares → ℕ → Type 0
 TrafficFits shares daily = first_refusal (traffic_refusals shares daily) ≡ 0
 
--- the hourly demand of a daily traffic
 -- "Hourly demand is daily traffic × K × D / 1,000,000, rounded up"
 unfoldable pub hourly_demand : Shares → ℕ → ℕ
 hourly_demand shares daily = div_up (daily * shares.peak * shares.direction) 1000000
@@ -59,11 +57,11 @@ hourly_demand shares daily = div_up (daily * shares.peak * shares.direction) 100
 abbrev pub hourly_case : Case → Shares → ℕ → Case
 hourly_case case shares daily = with_demand case (hourly_demand shares daily)
 
--- the daily service volume of letter number n
 -- "The daily service volume of a letter is the greatest daily traffic from 0 to 4,000,000,000 whose hourly
--- demand meets it"; one that 7 refuses meets nothing
+-- demand meets it", of letter number n; one that 7 refuses meets nothing
 unfoldable pub daily_volume : Case → Shares → ℕ → ℕ
-daily_volume case shares n = greatest (λ daily. meets (hourly_case case shares daily) n) greatest_daily_traffic
+daily_volume case shares n =
+    greatest (λ daily. meets (hourly_case case shares daily) n) greatest_daily_traffic
 
 -- volumes of A to E, by their letters' numbers
 abbrev pub volumes_by : (ℕ → ℕ) → Volumes
@@ -83,10 +81,10 @@ with_volumes (Err r) volumes = Err r
 abbrev pub daily_answer : Case → Shares → ℕ → Result DailyGrade Refusal
 daily_answer case shares daily =
     unless_refused (first_refusal (traffic_refusals shares daily))
-    (with_volumes (answer_to (hourly_case case shares daily)) (daily_volumes case shares)) (λ n. Err (refusal_of n))
+    (with_volumes (answer_to (hourly_case case shares daily)) (daily_volumes case shares))
+    (λ n. Err (refusal_of n))
 
--- how many numbers an answer has
--- the eleven figures of the engine's answer and five daily service volumes
+-- how many numbers an answer is: the eleven figures of the engine's answer and five daily service volumes
 abbrev pub figure_count : ℕ
 figure_count = 16
 

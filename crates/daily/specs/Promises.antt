@@ -22,7 +22,8 @@ AcceptedTraffic case shares daily = refusal_number (daily_answer case shares dai
 abbrev pub letter_in : Result DailyGrade Refusal → ℕ
 letter_in answer = get_or (daily_figures answer) 0 0
 
--- the daily service volume of letter number n, from 1 to 5, in an answer: they are the last five of its figures
+-- the daily service volume of letter number n, from 1 to 5, in an answer: they are the last five of its
+-- figures
 abbrev pub daily_volume_in : Result DailyGrade Refusal → ℕ → ℕ
 daily_volume_in answer n = get_or (daily_figures answer) (10 + n) 0
 

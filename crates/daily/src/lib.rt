@@ -1,5 +1,5 @@
-//! The answer to a case with the hourly demand of a daily traffic in the place of its own, and the daily service
-//! volumes that go with it.
+//! The answer to a case with the hourly demand of a daily traffic in the place of its own, and the daily
+//! service volumes that go with it.
 
 #![tactic(auto)]
 
@@ -81,8 +81,8 @@ impl Shares {
         (volume * MILLION / (self.peak * self.direction)).min(GREATEST_DAILY_TRAFFIC)
     }
 
-    /// The same of each service volume. No search: what the engine promises of its volumes carries over to the
-    /// daily traffic.
+    /// The same of each service volume. No search: what the engine promises of its volumes carries over to
+    /// the daily traffic.
     fn volumes_within(self, volumes: Volumes) -> Volumes
         requires { SharesInRange self × VolumesFit volumes }
         ensures { result ≡ volumes_within self volumes }
@@ -98,8 +98,8 @@ impl Shares {
 }
 
 impl DailyGrade {
-    /// Puts its sixteen numbers: the eleven figures of its grade, the letter by its number, and the daily service
-    /// volumes A to E. Answers how many they are.
+    /// Puts its sixteen numbers: the eleven figures of its grade, the letter by its number, and the daily
+    /// service volumes A to E. Answers how many they are.
     pub fn put_figures(&self, out: &mut [u64]) -> usize
         requires { figure_count ≤ length out.old }
         ensures { Wrote (daily_figures (Ok self.now)) out.old out.new result }
@@ -110,8 +110,8 @@ impl DailyGrade {
     }
 }
 
-/// What the case gets with a daily traffic in vehicles a day, or the first refusal: 20 of the shares, 21 of the
-/// daily traffic, and those of the case with the hourly demand. The case's own demand is not read.
+/// What the case gets with a daily traffic in vehicles a day, or the first refusal: 20 of the shares, 21 of
+/// the daily traffic, and those of the case with the hourly demand. The case's own demand is not read.
 #[tactic(auto, using(crate::proofs::DailyLaws::by_engine))]
 pub fn evaluate_daily(case: Case, shares: Shares, daily_traffic: u64) -> Result<DailyGrade, Refusal>
     ensures { result ≡ daily_answer case shares daily_traffic }

@@ -1,4 +1,5 @@
--- Instances of a day, with every hypothesis of its promises met; the functions of src/promises.rt ensure each.
+-- Instances of a day, with every hypothesis of its promises met; the functions of src/promises.rt ensure
+-- each.
 use Rattle.std.specs.Prelude.{◌≡◌, List, [], ◌∷◌, ◌++◌, ℕ, ◌≤◌, length, drop, replicate}
 use Rattle.refusals.specs.Facts.{Fact, fact}
 use Rattle.refusals.specs.Numbers.{refusal_number}
@@ -72,9 +73,9 @@ called n room = refusal_number (day_answer n room) ∷ count_figures (day_answer
 
 -- what is worked out, and what is to be shown
 -- Three demands on the printed road, of which 7 refuses the second; the same with one number too few; a road
--- that 8 refuses, one that 10 does, one that 6 does and one that 19 does, each with demands that 7 refuses and
--- one that it lets pass, and the first with 100,000 too; a day in snow; no demand, 1, 24 and 25 with room for
--- all, 3 with room for two and eleven numbers more, and for three.
+-- that 8 refuses, one that 10 does, one that 6 does and one that 19 does, each with demands that 7 refuses
+-- and one that it lets pass, and the first with 100,000 too; a day in snow; no demand, 1, 24 and 25 with
+-- room for all, 3 with room for two and eleven numbers more, and for three.
 unfoldable pub day_instances : List Fact
 day_instances =
     fact (nines_after example example_demands 38) example_day

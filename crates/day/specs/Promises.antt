@@ -1,5 +1,5 @@
--- What a reader of the lent answers is promised (document 02, T-01), over what the lent numbers hold after the
--- call of C, by its law `DayCallIsTheDay`; the functions of src/promises.rt ensure each.
+-- What a reader of the lent answers is promised (document 02, T-01), over what the lent numbers hold after
+-- the call of C, by its law `DayCallIsTheDay`; the functions of src/promises.rt ensure each.
 use Rattle.std.specs.Prelude.{◌≡◌, ◌↔◌, ◌⊎◌, List, ◌++◌, ℕ, ◌*◌, ◌≤◌, ◌<◌, length, take, drop, get_or, Result}
 use Rattle.road.specs.declared.Case.{Case}
 use Rattle.road.specs.Cases.{with_demand}

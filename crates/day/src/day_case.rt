@@ -44,7 +44,8 @@ impl DayCase {
         Ok(Grade::new(self.accepted.measures_at(demand), self.volumes))
     }
 
-    /// Of a case that is refused with no demand: its refusal with a demand, which is 7 where that comes first.
+    /// Of a case that is refused with no demand: its refusal with a demand, which is 7 where that comes
+    /// first.
     pub(crate) fn refusal_with(refusal: Refusal, demand: u64) -> Refusal
         ensures { number result ≡ refusal_with (number refusal) demand }
     {

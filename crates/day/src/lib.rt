@@ -10,7 +10,8 @@ ghost use Rattle.std.specs.Prelude.{◌≡◌, ◌∷◌, ◌≤◌, ◌<◌, le
 ghost use Rattle.refusals.specs.Refusals.{first_refusal};
 ghost use Rattle.refusals.specs.Numbers.{refusal_number};
 ghost use Rattle.text.specs.Buffer.{Wrote};
-ghost use Rattle.day.specs.Days.{figure_count, answer_figures, day_written, lent_unfit, lent_refusals, LentFits};
+ghost use Rattle.day.specs.Days.{figure_count, answer_figures, day_written};
+ghost use Rattle.day.specs.Days.{lent_unfit, lent_refusals, LentFits};
 
 use answer::evaluate::Grade;
 use day_case::DayCase;
@@ -62,9 +63,9 @@ fn put_answer(answer: Result<Grade, Refusal>, out: &mut [u64]) -> usize
     }
 }
 
-/// Puts the answer to the case with each demand in its position, twelve numbers each; numbers behind them stay
-/// as they are. The case's own demand is not read, and a demand that 7 refuses has 7 in its position alone.
-/// What `check_lent` refuses is not put.
+/// Puts the answer to the case with each demand in its position, twelve numbers each; numbers behind them
+/// stay as they are. The case's own demand is not read, and a demand that 7 refuses has 7 in its position
+/// alone. What `check_lent` refuses is not put.
 pub fn put_day(case: Case, demands: &[u64], answers: &mut [u64])
     requires { LentFits (length demands.now) (length answers.old) }
     ensures { answers.new ≡ day_written case demands.now answers.old }

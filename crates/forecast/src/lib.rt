@@ -199,9 +199,9 @@ fn with_combination(case: Case, combination: Combination) -> Case
 }
 
 /// The best and the worst letter over all whole combinations within the ranges, each with a combination that
-/// gets it, or the first refusal: 1 to 6, 22 of a low end above its high end, 7 to 9 of both ends, 19, 10. The
-/// case's own demand, share and factor are not read. Two combinations are looked at, on one curve: what the
-/// engine promises of more load carries over to all.
+/// gets it, or the first refusal: 1 to 6, 22 of a low end above its high end, 7 to 9 of both ends, 19, 10.
+/// The case's own demand, share and factor are not read. Two combinations are looked at, on one curve: what
+/// the engine promises of more load carries over to all.
 pub fn evaluate_forecast(case: Case, forecast: Forecast) -> Result<Outcomes, Refusal>
     ensures { result ≡ forecast_answer case forecast }
 {

@@ -6,17 +6,17 @@ ghost use Rattle.forecast.specs.Promises.{OwnLoadIsNotRead, AcceptedExactly, Ref
 ghost use Rattle.forecast.specs.Instances.{LetterBetween, TargetKept, TargetMissed};
 ghost use Rattle.forecast.specs.Instances.{computed_instances, refusal_instances, forecast_instances};
 
-/// Every whole combination within the ranges is accepted, its letter is between the best and the worst, and these
-/// are the engine's letters at the two ends. So the two letters tell of a target whether it is met whatever comes,
-/// and whether it is missed whatever comes.
+/// Every whole combination within the ranges is accepted, its letter is between the best and the worst, and
+/// these are the engine's letters at the two ends. So the two letters tell of a target whether it is met
+/// whatever comes, and whether it is missed whatever comes.
 pub fn best_and_worst()
     ensures every_letter_between { EveryLetterBetween }
     ensures shown_at_the_ends { ShownAtTheEnds }
     ensures met_throughout { MetThroughout }
 {}
 
-/// Equal ends give the plain letter twice or the plain case's refusal, and the load that the case carries is not
-/// read.
+/// Equal ends give the plain letter twice or the plain case's refusal, and the load that the case carries is
+/// not read.
 pub fn plain_cases()
     ensures equal_ends { EqualEnds }
     ensures own_load_is_not_read { OwnLoadIsNotRead }
