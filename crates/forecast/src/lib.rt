@@ -205,15 +205,20 @@ fn with_combination(case: Case, combination: Combination) -> Case
 pub fn evaluate_forecast(case: Case, forecast: Forecast) -> Result<Outcomes, Refusal>
     ensures { result ≡ forecast_answer case forecast }
 {
-    let best = forecast.check(case)?;
-    let Combination {
-        demand,
-        heavy_share,
-        peak_hour_factor,
-    } = forecast.worst();
-    let worst = best.with_load(demand, peak_hour_factor, heavy_share);
-    Ok(Outcomes {
-        best: Outcome::of(&best),
-        worst: Outcome::of(&worst),
-    })
+    // a match, since `?` would copy the accepted case
+    match forecast.check(case) {
+        Ok(best) => {
+            let Combination {
+                demand,
+                heavy_share,
+                peak_hour_factor,
+            } = forecast.worst();
+            let worst = best.with_load(demand, peak_hour_factor, heavy_share);
+            Ok(Outcomes {
+                best: Outcome::of(&best),
+                worst: Outcome::of(&worst),
+            })
+        }
+        Err(refusal) => Err(refusal),
+    }
 }
