@@ -142,13 +142,13 @@ volumes_by-cong f g same =
 -- ---- the engine's volumes are within their ends, by FiguresWithinEnds
 module _ (c : Case) (grade : Grade) (e : Ok grade ≡ answer_to c) where
   -- what has a grade is accepted
-  graded-accepted : Accepted c
-  graded-accepted = sym (ap refusal_number e ∙ answer_to-number c)
+  grade-accepted : Accepted c
+  grade-accepted = sym (ap refusal_number e ∙ answer_to-number c)
 
   -- the volumes of a grade that the engine answers
-  pub graded-fits : VolumesFit grade.volumes
-  graded-fits =
-      let figures = subst (λ answer. AllAtMost (answers.grade_figures answer) figure_ends) (sym e) (figures-within-ends c graded-accepted) in
+  pub grade-fits : VolumesFit grade.volumes
+  grade-fits =
+      let figures = subst (λ answer. AllAtMost (answers.grade_figures answer) figure_ends) (sym e) (figures-within-ends c grade-accepted) in
       figures.1.1.1.1.1.1
 
 -- numbers that are at most others place by place, at one place
@@ -201,7 +201,7 @@ module _ (case : Case) (shares : Shares) (asked : ℕ) where
   pub volumes-eq : (grade : Grade) → Ok grade ≡ answer_to (hourly_case case shares asked)
       → volumes_within shares grade.volumes ≡ daily_volumes case shares
   volumes-eq grade e =
-      let a = graded-accepted (hourly_case case shares asked) grade e in
+      let a = grade-accepted (hourly_case case shares asked) grade e in
       volumes_by-cong (λ n. traffic_within shares (volume_in (Ok grade) n)) (daily_volume case shares)
       (λ n h k. sym (rw (sym e) at (daily_volume-eq a n h k)))
 
@@ -220,4 +220,4 @@ module _ (case : Case) (shares : Shares) (daily : ℕ) where
       ∙ ap (λ vs. Ok (record { grade = grade; volumes = vs })) (sym (volumes-eq case shares daily grade e)))
 
 -- what a grade of the engine's asks and gives, for tactics
-pub ruleset by_engine = (fits-ends, graded-fits, answer-graded)
+pub ruleset by_engine = (fits-ends, grade-fits, answer-graded)

@@ -24,7 +24,7 @@ every_within-of range p all =
     go n high (no low) = rw (lt-ltb n range.low (omega arith)) tt
 
 module _ (forecast : Forecast) (p : Combination → Bool) where
-  -- every_combination-at, every_combination-of: every combination within the ends passes; the converse
+  -- every combination within the ends passes
   pub every_combination-at : T (every_combination forecast p)
       → EveryInside forecast (λ demand share factor. T (p (combination_of demand share factor)))
   unfolding every_combination
@@ -32,6 +32,7 @@ module _ (forecast : Forecast) (p : Combination → Bool) where
       every_within-at forecast.peak_hour_factor _
       (every_within-at forecast.heavy_share _ (every_within-at forecast.demand _ t demand v) share s) factor h
 
+  -- and the converse
   pub every_combination-of : EveryInside forecast (λ demand share factor. T (p (combination_of demand share factor)))
       → T (every_combination forecast p)
   unfolding every_combination
@@ -44,7 +45,7 @@ module _ (forecast : Forecast) (p : Combination → Bool) where
   abbrev fails : Combination → Bool
   fails combination = not (p combination)
 
-  -- some_combination-of, some_combination-none: a combination within the ends that passes; none that does
+  -- a combination within the ends that passes is some
   pub some_combination-of : EveryInside forecast (λ demand share factor.
       T (p (combination_of demand share factor)) → T (some_combination forecast p))
   unfolding some_combination
@@ -52,6 +53,7 @@ module _ (forecast : Forecast) (p : Combination → Bool) where
       not_T (every_combination forecast fails)
       (λ none. T_not (p (combination_of demand share factor)) (every_combination-at forecast fails none demand share factor v s h) t)
 
+  -- where none passes there is not some
   pub some_combination-none : EveryInside forecast (λ demand share factor. T (p (combination_of demand share factor)) → ⊥)
       → T (some_combination forecast p) → ⊥
   unfolding some_combination
