@@ -123,17 +123,6 @@ pub refused-values : (a : Result DailyGrade Refusal) → 0 < refusal_number a �
 refused-values (Ok daily) p = absurd (omega arith)
 refused-values (Err r) p = refl
 
--- ---- letters by number
--- what holds of 1 to 5 by number
-pub by-letter : (P : ℕ → Type 0) → P 1 → P 2 → P 3 → P 4 → P 5 → (n : ℕ) → 1 ≤ n → n ≤ 5 → P n
-by-letter P a b c d e zero h k = absurd (omega arith)
-by-letter P a b c d e (suc zero) h k = a
-by-letter P a b c d e (suc (suc zero)) h k = b
-by-letter P a b c d e (suc (suc (suc zero))) h k = c
-by-letter P a b c d e (suc (suc (suc (suc zero)))) h k = d
-by-letter P a b c d e (suc (suc (suc (suc (suc zero))))) h k = e
-by-letter P a b c d e (suc (suc (suc (suc (suc (suc n)))))) h k = absurd (omega arith)
-
 -- volumes are equal where those of each letter are
 volumes_by-cong : (f g : ℕ → ℕ) → ((n : ℕ) → 1 ≤ n → n ≤ 5 → f n ≡ g n) → volumes_by f ≡ volumes_by g
 volumes_by-cong f g same =

@@ -1,6 +1,7 @@
 -- The promises of specs/Promises, proved. MeetsUpToTheServiceVolume and NoBetterUnderMoreLoad, demand 3's parts 2 and 1, carry the two
 -- about letters.
 use Rattle.std.proofs.Common.{◌≡◌, refl, sym, ap, ◌∙◌, ◌↔◌, inr, ◌++◌, map, ℕ, ◌+◌, ◌≤◌, arith, rules, le_refl, drop, get_or, Ok}
+use Rattle.curve.proofs.ServiceLaws.{by-letter}
 use Rattle.road.specs.declared.Case.{Case}
 use Rattle.method.proofs.RefusalLaws.{refusal-le}
 use Rattle.answer.specs.Answers as answers
@@ -17,7 +18,7 @@ use Rattle.daily.specs.Promises.{NoBetterWithMoreTraffic, by_the_day, FiguresOfT
 use Rattle.daily.specs.Promises.{RefusedInOrder, RefusedExactly}
 use Rattle.daily.proofs.WithinLaws.{fits-ends, fits-of, hourly-le-iff, hourly-mono, within-iff, traffic_within-eq}
 use Rattle.daily.proofs.DailyLaws.{in-order, accepted-parts, letter-accepted, meets-hour, meets-iff}
-use Rattle.daily.proofs.DailyLaws.{answer-graded, by-letter}
+use Rattle.daily.proofs.DailyLaws.{answer-graded}
 
 pub rounded-up-once : RoundedUpOnce
 rounded-up-once = hourly-le-iff

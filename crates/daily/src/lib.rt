@@ -16,12 +16,13 @@ ghost use Rattle.daily.specs.Within.{traffic_within, VolumesFit, volumes_within}
 
 use answer::evaluate;
 use answer::evaluate::{Grade, Volumes};
+use numbers::units::{Demand, Share};
 use refusals::Refusal;
 use road::Case;
 use text::buffer;
 
-/// The greatest daily traffic that 21 lets pass, vehicles a day.
-pub const GREATEST_DAILY_TRAFFIC: u64 = 4_000_000_000;
+/// The greatest daily traffic that 21 lets pass.
+pub const GREATEST_DAILY_TRAFFIC: DailyTraffic = 4_000_000_000;
 
 /// What one is in millionths, the unit of K × D.
 const MILLION: u64 = 1_000_000;
@@ -29,28 +30,31 @@ const MILLION: u64 = 1_000_000;
 /// How many numbers an answer is: eleven figures and five daily service volumes.
 pub const FIGURE_COUNT: usize = 16;
 
-/// The shares K and D, both in thousandths.
+/// The shares K and D.
 #[derive(Clone, Copy, PartialEq, Eq)]
 pub struct Shares {
     /// K: the peak hour's share of the daily traffic
-    pub peak: u64,
+    pub peak: Share,
     /// D: the direction's share of the peak hour
-    pub direction: u64,
+    pub direction: Share,
 }
+
+/// A daily traffic or a daily service volume, in vehicles a day.
+pub type DailyTraffic = u64;
 
 /// What a case gets with a daily traffic.
 #[derive(Clone, Copy, PartialEq, Eq)]
 pub struct DailyGrade {
     /// with the hourly demand
     pub grade: Grade,
-    /// daily service volumes, vehicles a day
+    /// daily service volumes
     pub volumes: Volumes,
 }
 
 impl Shares {
     /// Asks 20, of shares that are not from 1 to 1,000, and then 21, of a daily traffic above 4,000,000,000.
     #[tactic(auto, unfolding(crate::specs::Daily::shares_unfit, crate::specs::Daily::traffic_refusals))]
-    fn check_traffic(self, daily_traffic: u64) -> Result<(), Refusal>
+    fn check_traffic(self, daily_traffic: DailyTraffic) -> Result<(), Refusal>
         ensures { refusal_number result ≡ first_refusal (traffic_refusals self daily_traffic) }
     {
         let fit = 1..=1_000;
@@ -63,9 +67,9 @@ impl Shares {
         Ok(())
     }
 
-    /// The hourly demand of a daily traffic, vehicles per hour: rounded up once, behind both shares.
+    /// The hourly demand of a daily traffic: rounded up once, behind both shares.
     #[tactic(auto, using(crate::proofs::WithinLaws::rounded_up), unfolding(crate::specs::Daily::hourly_demand))]
-    fn hourly_demand(self, daily_traffic: u64) -> u64
+    fn hourly_demand(self, daily_traffic: DailyTraffic) -> Demand
         requires { TrafficFits self daily_traffic }
         ensures { result ≡ hourly_demand self daily_traffic }
     {
@@ -74,7 +78,7 @@ impl Shares {
 
     /// The greatest daily traffic whose hourly demand is at most a volume.
     #[tactic(auto, using(crate::proofs::WithinLaws::by_division))]
-    fn traffic_within(self, volume: u64) -> u64
+    fn traffic_within(self, volume: Demand) -> DailyTraffic
         requires { SharesInRange self × (volume ≤ greatest_demand) }
         ensures { result ≡ traffic_within self volume }
     {
@@ -110,10 +114,14 @@ impl DailyGrade {
     }
 }
 
-/// What the case gets with a daily traffic in vehicles a day, or the first refusal: 20 of the shares, 21 of
-/// the daily traffic, and those of the case with the hourly demand. The case's own demand is not read.
+/// What the case gets with a daily traffic, or the first refusal: 20 of the shares, 21 of the daily traffic,
+/// and those of the case with the hourly demand. The case's own demand is not read.
 #[tactic(auto, using(crate::proofs::DailyLaws::by_engine))]
-pub fn evaluate_daily(case: Case, shares: Shares, daily_traffic: u64) -> Result<DailyGrade, Refusal>
+pub fn evaluate_daily(
+    case: Case,
+    shares: Shares,
+    daily_traffic: DailyTraffic,
+) -> Result<DailyGrade, Refusal>
     ensures { result ≡ daily_answer case shares daily_traffic }
 {
     shares.check_traffic(daily_traffic)?;

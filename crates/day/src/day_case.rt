@@ -11,6 +11,7 @@ ghost use Rattle.day.specs.DayCase.{refusal_with};
 use answer::evaluate;
 use answer::evaluate::{Grade, Volumes};
 use method::accepted::AcceptedCase;
+use numbers::units::Demand;
 use refusals::Refusal;
 use road::Case;
 use road::refusal::GREATEST_DEMAND;
@@ -35,7 +36,7 @@ impl DayCase {
     }
 
     /// The answer with a demand, or 7.
-    pub(crate) fn answer_with(&self, demand: u64) -> Result<Grade, Refusal>
+    pub(crate) fn answer_with(&self, demand: Demand) -> Result<Grade, Refusal>
         ensures { result ≡ answer_to (with_demand self.now.accepted.case demand) }
     {
         if GREATEST_DEMAND < demand {
@@ -46,7 +47,7 @@ impl DayCase {
 
     /// Of a case that is refused with no demand: its refusal with a demand, which is 7 where that comes
     /// first.
-    pub(crate) fn refusal_with(refusal: Refusal, demand: u64) -> Refusal
+    pub(crate) fn refusal_with(refusal: Refusal, demand: Demand) -> Refusal
         ensures { number result ≡ refusal_with (number refusal) demand }
     {
         if GREATEST_DEMAND < demand && Refusal::DemandTooLarge < refusal {

@@ -15,6 +15,7 @@ ghost use Rattle.day.specs.Days.{lent_unfit, lent_refusals, LentFits};
 
 use answer::evaluate::Grade;
 use day_case::DayCase;
+use numbers::units::Demand;
 use refusals::Refusal;
 use road::Case;
 
@@ -66,7 +67,7 @@ fn put_answer(answer: Result<Grade, Refusal>, out: &mut [u64]) -> usize
 /// Puts the answer to the case with each demand in its position, twelve numbers each; numbers behind them
 /// stay as they are. The case's own demand is not read, and a demand that 7 refuses has 7 in its position
 /// alone. What `check_lent` refuses is not put.
-pub fn put_day(case: Case, demands: &[u64], answers: &mut [u64])
+pub fn put_day(case: Case, demands: &[Demand], answers: &mut [u64])
     requires { LentFits (length demands.now) (length answers.old) }
     ensures { answers.new ≡ day_written case demands.now answers.old }
 {

@@ -1,9 +1,9 @@
 -- Instances that are worked out with no law (specs/Instances), shown.
-use Rattle.std.proofs.Common.{refl}
 use Rattle.numbers.specs.Division.{div_up}
 use Rattle.numbers.specs.Search.{least_from, least}
 use Rattle.refusals.specs.Facts.{Shown}
 use Rattle.refusals.specs.Numbers.{in_order, refusal_of}
+use Rattle.refusals.proofs.FactLaws.{Shown-same}
 use Rattle.curve.specs.Curves.{capacity, breakpoint}
 use Rattle.curve.specs.Weather.{adjusted_speed, adjusted_capacity, adjusted_breakpoint, curve_under}
 use Rattle.curve.specs.Speed.{fall_share_by, speed, shown_speed}
@@ -25,10 +25,10 @@ unfolding div_up least_from least uncapped_by free_flow_speed_of weather_unfit r
     refusals capacity breakpoint adjusted_capacity adjusted_breakpoint curve_under curve_of heavy_factor_of flow_rate_of fall_share_by speed shown_speed
     density shown_density density_limit density_letter letter_at performance measures meets every_within every_combination some_combination
     best_letter worst_letter computed_instances
-computed-shown = (refl, (refl, (refl, (refl, tt))))
+computed-shown = Shown-same computed_instances tt
 
 -- the order of the refusals
 pub refusals-shown : Shown refusal_instances
 unfolding in_order refusal_of uncapped_by free_flow_speed_of weather_unfit road_refusals load_refusals adjusted_speed speed_refusals range_refusals
     forecast_refusals refusal_instances
-refusals-shown = (refl, (refl, (refl, (refl, (refl, (refl, (refl, (refl, (refl, tt)))))))))
+refusals-shown = Shown-same refusal_instances tt

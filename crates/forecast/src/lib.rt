@@ -17,6 +17,7 @@ ghost use Rattle.forecast.specs.Ends.{outcome_of};
 
 use curve::service::Letter;
 use method::accepted::AcceptedCase;
+use numbers::units::{Demand, Share};
 use refusals::Refusal;
 use road::Case;
 use road::refusal::{FitCase, GREATEST_DEMAND};
@@ -46,12 +47,9 @@ pub struct Forecast {
 /// One number of each range.
 #[derive(Clone, Copy, PartialEq, Eq)]
 pub struct Combination {
-    /// vehicles per hour
-    pub demand: u64,
-    /// thousandths
-    pub heavy_share: u64,
-    /// thousandths
-    pub peak_hour_factor: u64,
+    pub demand: Demand,
+    pub heavy_share: Share,
+    pub peak_hour_factor: Share,
 }
 
 /// A letter, and a combination that gets it.

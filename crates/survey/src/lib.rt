@@ -13,13 +13,14 @@ ghost use Rattle.survey.specs.Laws.{AnswerWithinEnds};
 ghost use Rattle.survey.specs.Units.{UnitFits, speed_answer};
 
 use numbers::Fraction;
+use numbers::units::{FlowRate, Speed};
 use refusals::Refusal;
 
 /// Fewer cars are refused with 11.
 const FEWEST_CARS: u64 = 100;
 
-/// A flow from here on is refused with 12; passenger cars per hour per lane.
-const FLOW_LIMIT: u64 = 1_000;
+/// A flow from here on is refused with 12.
+const FLOW_LIMIT: FlowRate = 1_000;
 
 /// How many thousandths of mi/h one mi/h is.
 const THOUSANDTHS: u64 = 1_000;
@@ -61,13 +62,12 @@ pub struct Survey {
     pub speed: SurveyedSpeed,
     /// how many cars were counted
     pub cars: u64,
-    /// passenger cars per hour per lane
-    pub flow: u64,
+    pub flow: FlowRate,
 }
 
-/// The speed of a float with these bits, in thousandths of mi/h, or 13.
+/// The speed of a float with these bits, or 13.
 #[tactic(auto, using(crate::proofs::FloatLaws::by_bits))]
-fn speed_of_bits(bits: u64, unit: Fraction) -> Result<u64, Refusal>
+fn speed_of_bits(bits: u64, unit: Fraction) -> Result<Speed, Refusal>
     requires { UnitFits unit }
     ensures { result ≡ speed_answer (rounded_in unit (of_bits binary32 bits)) }
 {
@@ -86,9 +86,9 @@ fn speed_of_bits(bits: u64, unit: Fraction) -> Result<u64, Refusal>
     Ok(thousandths)
 }
 
-/// The speed of a float, in thousandths of mi/h, or 13. A NaN has no bits of its own, so it is refused first.
+/// The speed of a float, or 13. A NaN has no bits of its own, so it is refused first.
 #[tactic(auto, using(crate::proofs::FloatLaws::by_float))]
-fn speed_of_float(x: f32, unit: Fraction) -> Result<u64, Refusal>
+fn speed_of_float(x: f32, unit: Fraction) -> Result<Speed, Refusal>
     requires { UnitFits unit }
     ensures { result ≡ speed_answer (rounded_in unit x) }
 {
@@ -102,7 +102,7 @@ fn speed_of_float(x: f32, unit: Fraction) -> Result<u64, Refusal>
 /// cars, 12 for a flow of 1,000 or more, 13 for a speed that is not finite or, rounded down, not within these
 /// ends.
 #[tactic(auto, using(crate::proofs::SurveyLaws::by_survey))]
-pub fn surveyed_speed(survey: Survey) -> Result<u64, Refusal>
+pub fn surveyed_speed(survey: Survey) -> Result<Speed, Refusal>
     ensures value { result ≡ survey_answer survey }
     ensures within_ends { AnswerWithinEnds result }
 {
