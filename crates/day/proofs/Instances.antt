@@ -1,11 +1,13 @@
 -- Instances of a day (specs/Instances), shown.
 use Rattle.std.proofs.Common.{inl, inr, lit<, lit≤}
 use mathlib.Core.Path.{◌≡◌, refl, ap, ◌∙◌}
-use mathlib.Core.List.{[], ◌∷◌, flat_map}
+use mathlib.Core.List.{flat_map}
 use lib.ListN.{drop, get_or, replicate}
 use Rattle.numbers.specs.Division.{div_up}
 use Rattle.refusals.specs.Facts.{Shown}
 use Rattle.refusals.specs.Numbers.{in_order, refusal_of}
+use Rattle.refusals.proofs.FactLaws.{Shown-same}
+use Rattle.text.specs.Buffer.{written}
 use Rattle.curve.specs.Curves.{capacity, breakpoint}
 use Rattle.curve.specs.Weather.{adjusted_speed, adjusted_capacity, adjusted_breakpoint, curve_under}
 use Rattle.curve.specs.Speed.{fall_share_by, speed, shown_speed}
@@ -20,12 +22,12 @@ use Rattle.method.specs.Assess.{measures}
 use Rattle.method.specs.Boundary.{example}
 use Rattle.method.proofs.RefusalLaws.{accepted-with_demand}
 use Rattle.answer.specs.Answers.{graded, answer_to}
-use Rattle.answer.specs.Boundary.{given_in_snow, refused_by19}
+use Rattle.answer.specs.Boundary.{given_in_snow}
 use Rattle.answer.proofs.VolumeLaws.{service_volumes-with_demand}
 use Rattle.answer.proofs.Boundary.{example-speeds, example-accepted, example-answer, snow-answer, volumes}
 use Rattle.day.specs.Days.{figures_of, answer_figures, day_figures, lent_unfit, lent_refusals, day_content}
-use Rattle.day.specs.Instances.{at2000, at2643, example_demands, example_day, refused_by8, refused_by10, refused_by6}
-use Rattle.day.specs.Instances.{snow_demands, snow_day, over_and_within, nines_after, day_instances}
+use Rattle.day.specs.Instances.{at2000, at2643, example_demands, example_day, refused_by8, refused_by6}
+use Rattle.day.specs.Instances.{snow_demands, snow_day, over_and_within, nines_after, refused_instances, day_instances}
 use Rattle.day.specs.Instances.{NumbersOfPositions, NoBetterWith2643, TwoNinesKept}
 use Rattle.day.specs.Promises.{letter_number_at, road_number}
 use Rattle.day.proofs.PromiseLaws.{day-is-the-single-calls, position-numbers, no-better-with-more-demand, past-the-demands-kept}
@@ -61,33 +63,16 @@ snow-day =
     day-is-the-single-calls (given_in_snow 2 0) snow_demands (replicate 24 9) refl
     ∙ rw (ap (λ l. figures_of (get_or l 0 0) (drop 1 l)) snow-answer)
 
--- each instance is what is to be shown
+-- where a road or the lent numbers are refused
+pub refused-shown : Shown refused_instances
+unfolding in_order refusal_of flat_map uncapped_by free_flow_speed_of weather_unfit road_refusals load_refusals field_refusals adjusted_speed
+    speed_refusals refusals written lent_unfit lent_refusals day_figures day_content refused_instances
+refused-shown = Shown-same refused_instances tt
+
+-- days of accepted roads
 pub instances-shown : Shown day_instances
-unfolding in_order refusal_of flat_map uncapped_by free_flow_speed_of weather_unfit road_refusals load_refusals field_refusals adjusted_speed speed_refusals refusals
-    lent_unfit lent_refusals day_figures day_content day_instances
-instances-shown =
-    let day = day-is-the-single-calls in (
-      example-day,
-      (
-        refl,
-        (
-          day refused_by8 over_and_within (replicate 24 9) refl,
-          (
-            day refused_by8 (100000 ∷ 5 ∷ []) (replicate 24 9) refl,
-            (
-              day refused_by10 (1000000 ∷ 5 ∷ 1000000 ∷ []) (replicate 36 9) refl,
-              (
-                day refused_by6 over_and_within (replicate 24 9) refl,
-                (
-                  day refused_by19 over_and_within (replicate 24 9) refl,
-                  (snow-day, (refl, (refl, (refl, (refl, (refl, (refl, tt))))))),
-                ),
-              ),
-            ),
-          ),
-        ),
-      ),
-    )
+unfolding lent_unfit lent_refusals day_content day_instances
+instances-shown = (example-day, (snow-day, (refl, tt)))
 
 -- ---- by the promises
 accepted-road : road_number example ≡ 0

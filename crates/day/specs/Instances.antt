@@ -71,28 +71,33 @@ nines_after case demands room = day_content case demands (replicate room 9)
 abbrev called : ℕ → ℕ → List ℕ
 called n room = refusal_number (day_answer n room) ∷ count_figures (day_answer n room)
 
--- what is worked out, and what is to be shown
--- Three demands on the printed road, of which 7 refuses the second; the same with one number too few; a road
--- that 8 refuses, one that 10 does, one that 6 does and one that 19 does, each with demands that 7 refuses
--- and one that it lets pass, and the first with 100,000 too; a day in snow; no demand, 1, 24 and 25 with
--- room for all, 3 with room for two and eleven numbers more, and for three.
-unfoldable pub day_instances : List Fact
-day_instances =
-    fact (nines_after example example_demands 38) example_day
-    ∷ fact (nines_after example example_demands 35) (replicate 35 9)
-    ∷ fact (nines_after refused_by8 over_and_within 24) (refused_with 7 ++ refused_with 8)
+-- ---- what is worked out, and what is to be shown
+-- A road that 8 refuses, one that 10 does, one that 6 does and one that 19 does, each with demands that 7
+-- refuses and one that it lets pass, and the first with 100,000 too; no demand, 1, 24 and 25 with room for
+-- all, 3 with room for two and eleven numbers more, and for three.
+unfoldable pub refused_instances : List Fact
+refused_instances =
+    fact (nines_after refused_by8 over_and_within 24) (refused_with 7 ++ refused_with 8)
     ∷ fact (nines_after refused_by8 (100000 ∷ 5 ∷ []) 24) (refused_with 8 ++ refused_with 8)
     ∷ fact (nines_after refused_by10 (1000000 ∷ 5 ∷ 1000000 ∷ []) 36)
     (refused_with 7 ++ (refused_with 10 ++ refused_with 7))
     ∷ fact (nines_after refused_by6 over_and_within 24) (refused_with 6 ++ refused_with 6)
     ∷ fact (nines_after refused_by19 over_and_within 24) (refused_with 7 ++ refused_with 19)
-    ∷ fact (nines_after (given_in_snow 2 0) snow_demands 24) snow_day
     ∷ fact (called 0 300) (18 ∷ [])
     ∷ fact (called 1 300) (0 ∷ 1 ∷ [])
     ∷ fact (called 24 300) (0 ∷ 24 ∷ [])
     ∷ fact (called 25 300) (18 ∷ [])
     ∷ fact (called 3 35) (18 ∷ [])
     ∷ fact (called 3 36) (0 ∷ 3 ∷ [])
+    ∷ []
+
+-- Three demands on the printed road, of which 7 refuses the second; a day in snow; the first with one number
+-- too few.
+unfoldable pub day_instances : List Fact
+day_instances =
+    fact (nines_after example example_demands 38) example_day
+    ∷ fact (nines_after (given_in_snow 2 0) snow_demands 24) snow_day
+    ∷ fact (nines_after example example_demands 35) (replicate 35 9)
     ∷ []
 
 -- PositionNumbers: on the printed road a position has 0 or, with a demand that 7 refuses, 7; on one that 8

@@ -4,7 +4,8 @@ ghost use Rattle.refusals.specs.Facts.{Shown};
 ghost use Rattle.day.specs.Promises.{DayIsTheSingleCalls, PositionHoldsTheAnswer, FiguresTellTheAnswer};
 ghost use Rattle.day.specs.Promises.{PositionNumbers, NoBetterWithMoreDemand, PastTheDemandsKept};
 ghost use Rattle.day.specs.Promises.{RefusedDayChangesNothing, LentFitsExactly};
-ghost use Rattle.day.specs.Instances.{day_instances, NumbersOfPositions, NoBetterWith2643, TwoNinesKept};
+ghost use Rattle.day.specs.Instances.{day_instances, refused_instances};
+ghost use Rattle.day.specs.Instances.{NumbersOfPositions, NoBetterWith2643, TwoNinesKept};
 
 /// A day is the answers of the single call with each demand, each in its position, and twelve numbers are
 /// those of one answer only.
@@ -32,6 +33,7 @@ pub fn lent_numbers()
 /// Days that meet every hypothesis above, with what they are worked out to be.
 pub fn instances()
     ensures days { Shown day_instances }
+    ensures refused { Shown refused_instances }
     ensures numbers_of_positions { NumbersOfPositions }
     ensures no_better_with_2643 { NoBetterWith2643 }
     ensures two_nines_kept { TwoNinesKept }
