@@ -7,7 +7,7 @@ use Rattle.road.specs.declared.Case.{Case}
 use Rattle.road.specs.Refusals.{greatest_demand, load_refusals}
 use Rattle.forecast.specs.declared.Range.{Range}
 use Rattle.forecast.specs.declared.Forecast.{Forecast}
-use Rattle.forecast.specs.Forecasts.{reversed, range_refusals}
+use Rattle.forecast.specs.Forecasts.{is_reversed, range_refusals}
 use Rattle.forecast.specs.Promises.{Ordered, DemandPasses, FactorPasses, SharePasses}
 
 -- ---- the four tests
@@ -23,7 +23,7 @@ module _ (forecast : Forecast) where
 
   -- a range that 22 refuses
   abbrev pub some-reversed : Bool
-  some-reversed = reversed demand || (reversed share || reversed factor)
+  some-reversed = is_reversed demand || (is_reversed share || is_reversed factor)
 
   -- an end that 7 refuses
   abbrev pub over-demand : Bool

@@ -96,17 +96,17 @@ worst_combination forecast =
     combination_of forecast.demand.high forecast.heavy_share.high forecast.peak_hour_factor.low
 
 -- "a low end above its high end"
-abbrev pub reversed : Range → Bool
-reversed range = nat_lt range.high range.low
+abbrev pub is_reversed : Range → Bool
+is_reversed range = nat_lt range.high range.low
 
 -- 22, and 7 to 9 of both ends
 -- "22 .. before 7", "Checks 7 to 9 hold for both ends": each of them looks at both ends before the next is
 -- asked
 unfoldable pub range_refusals : Case → Forecast → List Condition
 range_refusals case forecast =
-    refuses 22 (reversed forecast.demand)
-    ∷ refuses 22 (reversed forecast.heavy_share)
-    ∷ refuses 22 (reversed forecast.peak_hour_factor)
+    refuses 22 (is_reversed forecast.demand)
+    ∷ refuses 22 (is_reversed forecast.heavy_share)
+    ∷ refuses 22 (is_reversed forecast.peak_hour_factor)
     ∷ by_turns (load_refusals (with_combination case (best_combination forecast)))
     (load_refusals (with_combination case (worst_combination forecast)))
 

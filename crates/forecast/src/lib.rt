@@ -10,9 +10,9 @@ ghost use Rattle.refusals.specs.Refusals.{first_refusal};
 ghost use Rattle.refusals.specs.Numbers.{refusal_number};
 ghost use Rattle.text.specs.Buffer.{Wrote};
 ghost use Rattle.road.specs.declared.Case.{Case};
-ghost use Rattle.forecast.specs.Forecasts.{with_combination, reversed, best_combination, worst_combination};
-ghost use Rattle.forecast.specs.Forecasts.{range_refusals, forecast_refusals, forecast_answer};
-ghost use Rattle.forecast.specs.Forecasts.{figure_count, outcome_figures};
+ghost use Rattle.forecast.specs.Forecasts.{with_combination, best_combination, worst_combination};
+ghost use Rattle.forecast.specs.Forecasts.{is_reversed, range_refusals, forecast_refusals};
+ghost use Rattle.forecast.specs.Forecasts.{forecast_answer, figure_count, outcome_figures};
 ghost use Rattle.forecast.specs.Ends.{outcome_of};
 
 use curve::service::Letter;
@@ -68,7 +68,7 @@ pub struct Outcomes {
 
 impl Range {
     fn is_reversed(self) -> bool
-        ensures { result ≡ reversed self }
+        ensures { result ≡ is_reversed self }
     {
         self.high < self.low
     }
@@ -76,7 +76,7 @@ impl Range {
 
 impl Forecast {
     /// Low demand, low share and high factor.
-    fn best(self) -> Combination
+    fn best_combination(self) -> Combination
         ensures { result ≡ best_combination self }
     {
         Combination {
@@ -87,7 +87,7 @@ impl Forecast {
     }
 
     /// The opposite ends.
-    fn worst(self) -> Combination
+    fn worst_combination(self) -> Combination
         ensures { result ≡ worst_combination self }
     {
         Combination {
@@ -132,7 +132,7 @@ impl Forecast {
         self.check_ranges()?;
         case.check_weather()?;
         AcceptedCase::of(FitCase {
-            case: with_combination(case, self.best()),
+            case: with_combination(case, self.best_combination()),
         })
     }
 }
@@ -210,7 +210,7 @@ pub fn evaluate_forecast(case: Case, forecast: Forecast) -> Result<Outcomes, Ref
                 demand,
                 heavy_share,
                 peak_hour_factor,
-            } = forecast.worst();
+            } = forecast.worst_combination();
             let worst = best.with_load(demand, peak_hour_factor, heavy_share);
             Ok(Outcomes {
                 best: Outcome::of(&best),

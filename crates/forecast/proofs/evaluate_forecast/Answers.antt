@@ -13,9 +13,9 @@ returns-in-Err c =
 
 pub with_load-worst-requires : goal.with_load-worst-requires
 with_load-worst-requires c =
-    rw (c.in-Ok.ensures.kept, c.worst-demand.ensures) (worst-fits c.args.case c.args.forecast (sym c.in-Ok.ensures.refusal))
+    rw (c.in-Ok.ensures.kept, c.worst_combination-demand.ensures) (worst-fits c.args.case c.args.forecast (sym c.in-Ok.ensures.refusal))
 
 pub returns-in-Ok : goal.returns-in-Ok
 returns-in-Ok c =
-    rw (c.of.ensures, c.of-in-Ok.ensures, c.with_load-worst.ensures, c.in-Ok.ensures.kept, c.worst-demand.ensures)
+    rw (c.of.ensures, c.of-in-Ok.ensures, c.with_load-worst.ensures, c.in-Ok.ensures.kept, c.worst_combination-demand.ensures)
     (checked-answer c.args.case c.args.forecast (sym c.in-Ok.ensures.refusal))
