@@ -1,8 +1,9 @@
 -- The theorem of specs/Promises, proved.
--- With T(i) at the place i of v, and the fall 9F − 2c, in ninths: S is F − fall × T(i) / 9,000,000, and the shown speed s is S rounded down.
--- At most the curve: fall × T(i) ≤ 9(F − s) × 1,000,000 is carried up to the powers, by the table's rule at i and 1,000p ≤ i × q.
--- Not so s + 26: it would be carried down to fall × (T(i) − 1,311) ≤ 9(F − s − 26) × 1,000,000, by the table's rule and step at the place
--- before i. But fall × 1,311 is below 9 × 25,000,000, and the rounding takes off less than 1.
+-- With T(i) at the place i of v, and the fall 9F − 2c, in ninths: S is F − fall × T(i) / 9,000,000, and the
+-- shown speed s is S rounded down. At most the curve: fall × T(i) ≤ 9(F − s) × 1,000,000 is carried up to the
+-- powers, by the table's rule at i and 1,000p ≤ i × q. Not so s + 26: it would be carried down to fall ×
+-- (T(i) − 1,311) ≤ 9(F − s − 26) × 1,000,000, by the table's rule and step at the place before i. But fall ×
+-- 1,311 is below 9 × 25,000,000, and the rounding takes off less than 1.
 use Rattle.std.proofs.Common.{◌≡◌, refl, ◌↔◌, ℕ, ◌+◌, ◌*◌, ◌-◌, ◌/◌, ◌^◌, ◌≤◌, ◌<◌, arith, mul-le-mul, mul-le-mul_left, mul_comm, div-mul-le_self, lt_of_not-le, T, leb, lit<, leb→le, le-leb}
 use native.Mathlib.Nat.{mul-sub, lt-div-mul-add, one-le-pow}
 use borrow.Author.Tests.{lt-leb}

@@ -172,7 +172,8 @@ greatest-flow-volumes =
     five greatest_flow (freeway 75000 240000 100000) greatest-flow-accepted greatest-flow-curve 137 221 296 355 400 tt tt tt tt tt
 
 -- ---- the figures
--- the printed line's eleven, a case that 10 refuses, those of the two in snow, and those at the greatest flow rate
+-- the printed line's eleven, a case that 10 refuses, those of the two in snow, and those at the greatest flow
+-- rate
 answers-shown : (answered example ≡ 0 ∷ 3 ∷ 60782 ∷ 230782 ∷ 1196 ∷ 60782 ∷ 197 ∷ 1117 ∷ 1829 ∷ 2642 ∷ 3360 ∷ 3858 ∷ [])
     × (answered estimated ≡ 10 ∷ [])
     × (answered (given_in_snow 2 3000) ≡ 0 ∷ 3 ∷ 71250 ∷ 216000 ∷ 1500 ∷ 66271 ∷ 227 ∷ 1566 ∷ 2506 ∷ 3294 ∷ 3884 ∷ 4320 ∷ [])

@@ -41,7 +41,8 @@ module _ (case : Case) (n : ℕ) (z : FieldsFit case) (few : fewest_lanes case.r
   fits-n : FieldsFit with-n
   fits-n = fields-with_lanes case n z few most
 
-  -- where a curve is found, it is well formed and within the sizes, and whether the flow rate keeps to the letter's density decides
+  -- where a curve is found, it is well formed and within the sizes, and whether the flow rate keeps to the
+  -- letter's density decides
   pub lanes_curve-well_formed : (curve : Curve) → checked_curve case.road case.weather n ≡ Ok curve → WellFormed curve
   lanes_curve-well_formed curve e =
       let own = checked_curve-accepted with-n fits-n curve e in rw own.1 (case_curve-well_formed with-n own.0)

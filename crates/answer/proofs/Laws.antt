@@ -37,7 +37,8 @@ use Rattle.answer.proofs.AnswerLaws.{answer_to-accepted, answer_to-number}
 use Rattle.answer.proofs.LanesLaws.{asked-last}
 
 -- ---- figures
--- what keeps to a capacity of at most 240,000 is at most 19,200 vehicles, each at least a passenger car, on at most 8 lanes
+-- what keeps to a capacity of at most 240,000 is at most 19,200 vehicles, each at least a passenger car, on
+-- at most 8 lanes
 demand_meets-le : (case : Case) (limit demand : ℕ) → Accepted case → T (case_meets case limit demand) → demand ≤ 19200
 unfolding demand_meets meets_limit flow_rate_of
 demand_meets-le case limit demand a t =

@@ -1,5 +1,5 @@
--- The boundary sections of document 01, with the ramp term of T-08, and of T-03 and T-09 of document 02, that this layer adds to those
--- of method/specs/Boundary.
+-- The boundary sections of document 01, with the ramp term of T-08, and of T-03 and T-09 of document 02, that
+-- this layer adds to those of method/specs/Boundary.
 use Rattle.std.specs.Prelude.{List, [], ◌∷◌, ◌++◌, ℕ}
 use Rattle.curve.specs.declared.kind.Kind.TheVariants as Kind
 use Rattle.curve.specs.Weather.{factors, clear}
@@ -52,10 +52,11 @@ abbrev pub lanes_answered : Case → ℕ → List ℕ
 lanes_answered case n = refusal_number (lanes_answer case n) ∷ lanes.lanes_figures (lanes_answer case n)
 
 -- what this layer adds
--- Of what is accepted 0 and its values, of what is refused its number. Starred: the printed line. Not starred: the lanes question at the
--- printed case with letter C, with V = 2,643, with 999,999 and with 99,999; a letter number past E; a case that 10 refuses, and its lanes;
--- answers in snow, at a given and at an estimated speed; the lanes of the latter; the order 16, 1, 19 in the lanes question; the greatest
--- flow rate.
+-- Of what is accepted 0 and its values, of what is refused its number. Starred: the printed line. Not
+-- starred: the lanes question at the printed case with letter C, with V = 2,643, with 999,999 and with
+-- 99,999; a letter number past E; a case that 10 refuses, and its lanes; answers in snow, at a given and at
+-- an estimated speed; the lanes of the latter; the order 16, 1, 19 in the lanes question; the greatest flow
+-- rate.
 unfoldable pub added_facts : List Fact
 added_facts =
     fact (answered example)

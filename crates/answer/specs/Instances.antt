@@ -1,5 +1,5 @@
--- Instances of each part of demand 3 with all its hypotheses met, so that none is true for an empty reason; proofs/Instances proves them
--- by the parts themselves.
+-- Instances of each part of demand 3 with all its hypotheses met, so that none is true for an empty reason;
+-- proofs/Instances proves them by the parts themselves.
 use Rattle.std.specs.Prelude.{◌≡◌, [], ◌∷◌, ℕ, ◌≤◌}
 use Rattle.refusals.specs.Numbers.{refusal_number}
 use Rattle.curve.specs.declared.kind.Kind.TheVariants as Kind

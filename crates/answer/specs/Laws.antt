@@ -15,8 +15,8 @@ use Rattle.answer.specs.Lanes.{lanes_refusals, lanes_answer}
 use Rattle.answer.specs.Boundary.{refused_by19}
 
 -- the most that each figure of an answer can be
--- letter, F, c, v, speed, density, service volumes A to E. A service volume keeps to capacity, 2,400 passenger cars on each of 8 lanes,
--- whatever the greatest demand is
+-- letter, F, c, v, speed, density, service volumes A to E. A service volume keeps to capacity, 2,400
+-- passenger cars on each of 8 lanes, whatever the greatest demand is
 abbrev pub figure_ends : List ℕ
 figure_ends =
     6 ∷ 75000 ∷ 240000 ∷ 6 * greatest_demand ∷ 75000 ∷ 450 ∷ 19200 ∷ 19200 ∷ 19200 ∷ 19200 ∷ 19200 ∷ []
@@ -63,7 +63,8 @@ LanesRefusedAsTheCase =
     → let number = refusal_number (answer_to case) in
     (number ≡ 0 → ⊥) → (number ≡ 10 → ⊥) → refusal_number (lanes_answer case n) ≡ number
 
--- for A to E the fields of a case fit exactly when its lanes question is answered, or refused with 14: nothing but 14 refuses it
+-- for A to E the fields of a case fit exactly when its lanes question is answered, or refused with 14:
+-- nothing but 14 refuses it
 abbrev pub NothingBut14RefusesFitFields : Type 0
 NothingBut14RefusesFitFields =
     (case : Case) (n : ℕ) → 1 ≤ n → n ≤ 5

@@ -1,5 +1,5 @@
--- Demand 3, stated over whole cases and over the definitions that the contracts of `evaluate` and `lanes_needed` cite; proofs/Promises
--- proves it.
+-- Demand 3, stated over whole cases and over the definitions that the contracts of `evaluate` and
+-- `lanes_needed` cite.
 use Rattle.std.specs.Prelude.{◌≡◌, ◌↔◌, ◌⊎◌, [], ◌∷◌, ℕ, ◌+◌, ◌≤◌, ◌<◌, get_or, Result}
 use Rattle.refusals.specs.declared.Refusal.{Refusal}
 use Rattle.refusals.specs.Numbers.{refusal_number}
@@ -19,7 +19,8 @@ use Rattle.answer.specs.Lanes.{lanes_answer}
 
 -- letter_in a, volume_in a n: the letter's number, and the service volume of letter number n from 1 to 5, in
 -- a graded answer
--- of the eleven figures of an answer the first is the letter, and the last five are the service volumes A to E
+-- of the eleven figures of an answer the first is the letter, and the last five are the service volumes A to
+-- E
 abbrev pub letter_in : Result Grade Refusal → ℕ
 letter_in answer = get_or (answers.grade_figures answer) 0 0
 
@@ -32,7 +33,8 @@ abbrev pub Meets : Case → ℕ → Type 0
 Meets case n = (refusal_number (answer_to case) ≡ 0) × (letter_in (answer_to case) ≤ n)
 
 -- n is an accepted lane count
--- "A lane count is accepted when it is one of the kind's and the case with that count, all other fields kept, is accepted"
+-- "A lane count is accepted when it is one of the kind's and the case with that count, all other fields kept,
+-- is accepted"
 abbrev pub AcceptedCount : Case → ℕ → Type 0
 AcceptedCount case n =
     (fewest_lanes case.road.kind ≤ n) × (n ≤ most_lanes case.road.kind) × Accepted (with_lanes case n)
@@ -60,8 +62,8 @@ abbrev pub LanesComparable : Case → Case → Type 0
 LanesComparable c d = (c.weather ≡ clear) ⊎ (c.road.way ≡ Way.Given) ⊎ (c.lanes ≡ d.lanes)
 
 -- part 1
--- Part 1. Of two accepted cases of the same road under one weather, where lanes are comparable, the one with no less load never gets the
--- better letter.
+-- Part 1. Of two accepted cases of the same road under one weather, where lanes are comparable, the one with
+-- no less load never gets the better letter.
 abbrev pub NoBetterUnderMoreLoad : Type 0
 NoBetterUnderMoreLoad =
     (c d : Case) → Accepted c → Accepted d → SameRoad c d → c.weather ≡ d.weather → LanesComparable c d
@@ -75,15 +77,17 @@ NoBetterInClearWeather =
     → HeavierIsNoBetter c d
 
 -- part 2
--- Part 2. A demand meets a letter, A to E, exactly when it is at most the service volume that the answer to the case gives.
+-- Part 2. A demand meets a letter, A to E, exactly when it is at most the service volume that the answer to
+-- the case gives.
 abbrev pub MeetsUpToTheServiceVolume : Type 0
 MeetsUpToTheServiceVolume =
     (c : Case) → Accepted c → (n : ℕ) → 1 ≤ n → n ≤ 5 → (demand : ℕ) → demand ≤ greatest_demand
     → Meets (with_demand c demand) n ↔ (demand ≤ volume_in (answer_to c) n)
 
 -- part 3
--- Part 3. For a letter number from 1 to 5 and a case that none of 1 to 9 nor 19 refuses: the lanes question answers a count exactly when
--- the count is accepted, meets the letter, and no smaller accepted count does; and it answers 14 exactly when no accepted count does.
+-- Part 3. For a letter number from 1 to 5 and a case that none of 1 to 9 nor 19 refuses: the lanes question
+-- answers a count exactly when the count is accepted, meets the letter, and no smaller accepted count does;
+-- and it answers 14 exactly when no accepted count does.
 abbrev pub LeastAcceptedCount : Type 0
 LeastAcceptedCount =
     (case : Case) (n : ℕ) → 1 ≤ n → n ≤ 5 → FieldsFit case

@@ -1,5 +1,5 @@
--- What the searches for the service volumes try. It is no part of the method: proofs/VolumeLaws shows that a demand passes exactly when it
--- meets the letter.
+-- What the searches for the service volumes try. It is no part of the method: proofs/VolumeLaws shows that a
+-- demand passes exactly when it meets the letter.
 use Rattle.std.specs.Prelude.{ℕ, Bool}
 use Rattle.numbers.specs.Search.{greatest}
 use Rattle.curve.specs.declared.Curve.{Curve}

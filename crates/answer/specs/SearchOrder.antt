@@ -1,5 +1,5 @@
--- The order of the searches for the service volumes (document 02, T-04): the law that it rests on, and how many demands they try, stated;
--- proofs/SearchOrder proves it.
+-- The order of the searches for the service volumes (document 02, T-04): the law that it rests on, and how
+-- many demands they try, stated; proofs/SearchOrder proves it.
 use Rattle.std.specs.Prelude.{◌≡◌, List, [], ◌∷◌, ℕ, suc, ◌≤◌, length}
 use Rattle.curve.specs.declared.kind.Kind.TheVariants as Kind
 use Rattle.curve.specs.Weather.{clear}

@@ -1,5 +1,5 @@
--- Which demands the searches for the five service volumes try, and how many (document 02, T-04). It is no part of the method.
--- Letter numbers: A is 1.
+-- Which demands the searches for the five service volumes try, and how many (document 02, T-04). It is no
+-- part of the method. Letter numbers: A is 1.
 use Rattle.std.specs.Prelude.{ℕ, zero, suc, Bool, if◌then◌else◌, List, [], ◌++◌, nat_lt, length, Result}
 use Rattle.numbers.specs.Search.{greatest}
 use Rattle.numbers.specs.Halving.{tried_up_to}
@@ -29,8 +29,8 @@ abbrev pub tests_of : Curve → Load → ℕ → ℕ → Bool
 tests_of curve load n = demand_meets curve load (density_limit n)
 
 -- up to where letter number n is searched for, if test n tells whether a demand meets it
--- "E first, then each letter from zero up to the volume found for the one before": what is found for it is the greatest demand of all that
--- meets it, by proofs/TriesLaws
+-- "E first, then each letter from zero up to the volume found for the one before": what is found for it is
+-- the greatest demand of all that meets it, by proofs/TriesLaws
 unfoldable pub search_end : (ℕ → ℕ → Bool) → ℕ → ℕ
 search_end test n = if nat_lt n 5 then greatest (test (suc n)) greatest_demand else greatest_demand
 

@@ -1,4 +1,5 @@
--- Meeting a letter, and the service volumes (document 01, "Flow, letter, service volume, lanes"). Letter numbers: A is 1.
+-- Meeting a letter, and the service volumes (document 01, "Flow, letter, service volume, lanes"). Letter
+-- numbers: A is 1.
 use Rattle.std.specs.Prelude.{ℕ, Bool, ◌&&◌, nat_le, ◌==◌}
 use Rattle.numbers.specs.Search.{greatest}
 use Rattle.curve.specs.Service.{letter_number}
@@ -15,7 +16,8 @@ unfoldable pub meets : Case → ℕ → Bool
 meets case n = refusal case == 0 && nat_le (letter_number (measures case).performance.letter) n
 
 -- the service volume of letter number n
--- "The service volume of a letter is the greatest V from 0 to 99,999 that gets that letter or a better one", now to 999,999
+-- "The service volume of a letter is the greatest V from 0 to 99,999 that gets that letter or a better one",
+-- now to 999,999
 unfoldable pub service_volume : Case → ℕ → ℕ
 service_volume case n = greatest (λ demand. meets (with_demand case demand) n) greatest_demand
 

@@ -98,7 +98,8 @@ fn demand_meets(terms: &CaseTerms, limit: Density, demand: Demand) -> bool
 /// The greatest demand up to the end that keeps to capacity and to a letter's density, by halving: 0 does.
 fn greatest_meeting(terms: &CaseTerms, letter: Letter, end: Demand) -> Counted<Demand>
     requires { end ≤ greatest_demand }
-    ensures found { result ≡ found (tests_of terms.now.curve_terms.curve terms.now.load (letter_number letter)) end }
+    ensures found { result
+        ≡ found (tests_of terms.now.curve_terms.curve terms.now.load (letter_number letter)) end }
     ensures value { result.value ≤ end }
     ensures tries { result.tries ≤ end }
 {
@@ -118,7 +119,8 @@ fn greatest_meeting(terms: &CaseTerms, letter: Letter, end: Demand) -> Counted<D
     Counted { value: low, tries }
 }
 
-/// E first, then each better letter up to the volume found before: no volume is above that of the next worse letter.
+/// E first, then each better letter up to the volume found before: no volume is above that of the next worse
+/// letter.
 #[tactic(auto, using(crate::proofs::TriesLaws::search_laws))]
 fn found_volumes(terms: &CaseTerms) -> Counted<Volumes>
     ensures { result ≡ found_volumes terms.now.curve_terms.curve terms.now.load }
@@ -166,7 +168,8 @@ fn counted_grade(accepted: &AcceptedCase) -> Counted<Result<Grade, Refusal>>
     }
 }
 
-/// The grade of a case, or the first of 1 to 9, 19 and 10 that refuses it, and how many demands were tried: none for a case that is refused.
+/// The grade of a case, or the first of 1 to 9, 19 and 10 that refuses it, and how many demands were tried:
+/// none for a case that is refused.
 #[tactic(auto, using(crate::proofs::TriesLaws::counted_laws))]
 pub fn evaluate_counted(case: Case) -> Counted<Result<Grade, Refusal>>
     ensures { result ≡ counted_answer case }

@@ -61,7 +61,8 @@ fn least_lanes(fit: &FitCase, letter: Letter) -> Result<u64, Refusal>
     Err(Refusal::NoLaneCount)
 }
 
-/// The least lane count of the kind that meets a letter by its number (A is 1), or the first of 16, 1 to 9, 19 and 14.
+/// The least lane count of the kind that meets a letter by its number (A is 1), or the first of 16, 1 to 9,
+/// 19 and 14.
 #[tactic(auto, using(crate::proofs::LanesLaws::question_laws))]
 pub fn lanes_needed(case: Case, letter: u64) -> Result<u64, Refusal>
     ensures { result ≡ lanes_answer case letter }

@@ -17,7 +17,8 @@ pub fn shape_of_the_method()
     ensures { DemandThree }
 {}
 
-/// Part 1: of two accepted cases of one road under one weather, the one with no less load never gets the better letter.
+/// Part 1: of two accepted cases of one road under one weather, the one with no less load never gets the
+/// better letter.
 pub fn no_better_under_more_load()
     ensures part { NoBetterUnderMoreLoad }
     ensures in_clear_weather { NoBetterInClearWeather }
@@ -36,7 +37,8 @@ pub fn meets_up_to_the_service_volume()
     ensures in_snow { ServiceVolumeInSnow }
 {}
 
-/// Part 3: the lanes question answers the least accepted lane count that meets the letter, or 14 where none does.
+/// Part 3: the lanes question answers the least accepted lane count that meets the letter, or 14 where none
+/// does.
 pub fn least_accepted_count()
     ensures part { LeastAcceptedCount }
     ensures four_lanes { FourLanesForEveryLetter }

@@ -1,7 +1,7 @@
 -- Kind F: with a higher free-flow speed the speed never falls.
--- The breakpoint falls as F rises, so the proof is not term by term. With p = 100v − b (0 up to b), d what is left of c − b, q the
--- rise of F and a = 9F − 2c: c − b rises by 4q and a by 9q from F = 70,000 up, and by 5q and 7q up to it. Each half is one
--- polynomial inequality; they join at 70,000.
+-- The breakpoint falls as F rises, so the proof is not term by term. With p = 100v − b (0 up to b), d what is
+-- left of c − b, q the rise of F and a = 9F − 2c: c − b rises by 4q and a by 9q from F = 70,000 up, and by 5q
+-- and 7q up to it. Each half is one polynomial inequality; they join at 70,000.
 use Rattle.std.proofs.Common.{◌≡◌, ℕ, ◌+◌, ◌*◌, ◌-◌, ◌≤◌, arith, mul-le-mul, mul-le-mul_left, mul-le-mul_right, mul_comm, le_trans}
 use Rattle.std.proofs.Common.{add-sub_of_le}
 use Rattle.std.proofs.Math.Nat.{mul-sub}

@@ -1,5 +1,5 @@
--- Kind M: with a higher free-flow speed the speed never falls: the place in the table of powers comes earlier, and the fall to
--- the speed at capacity grows by no more than F does.
+-- Kind M: with a higher free-flow speed the speed never falls: the place in the table of powers comes
+-- earlier, and the fall to the speed at capacity grows by no more than F does.
 use Rattle.std.proofs.Common.{ℕ, ◌+◌, ◌*◌, ◌-◌, ◌≤◌, arith, mul-le-mul_left, mul-le-mul_right, add-sub_of_le}
 use Rattle.numbers.specs.Fraction.{AtMost}
 use Rattle.numbers.proofs.DivisionLaws.{div_up-mono}

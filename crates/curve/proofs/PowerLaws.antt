@@ -11,7 +11,8 @@ use Rattle.numbers.proofs.TableLaws.{every_entry-at}
 use Rattle.curve.specs.Power.{reaches_power, power}
 use Rattle.curve.proofs.PowerTable.{power_table}
 
--- the test of an entry t at place i: it is no less than the entry before it, at most 1,000,000, and the first to reach the power of i
+-- the test of an entry t at place i: it is no less than the entry before it, at most 1,000,000, and the first
+-- to reach the power of i
 fits : ℕ → ℕ → ℕ → Bool
 fits i before t = leb before t && (leb t 1000000 && starts_at (reaches_power i) t)
 

@@ -152,7 +152,8 @@ grade_number-mono : (d e : ℕ) → d ≤ e → grade_number d ≤ grade_number 
 unfolding grade_number
 grade_number-mono d e h = grind (arith, nat_tests)
 
--- density_letter-mono, letter_number-le, letter_number-ge: a greater density gets no better letter; none is past F nor before A
+-- density_letter-mono, letter_number-le, letter_number-ge: a greater density gets no better letter; none is
+-- past F nor before A
 pub density_letter-mono : (d e : ℕ) → d ≤ e → letter_number (density_letter d) ≤ letter_number (density_letter e)
 density_letter-mono d e h = rw (density_letter-number d, density_letter-number e) (grade_number-mono d e h)
 

@@ -1,4 +1,5 @@
--- Capacity, breakpoint and the speed–flow curve (document 01, "Capacity and curve"), in hundredths of passenger cars per hour per lane.
+-- Capacity, breakpoint and the speed–flow curve (document 01, "Capacity and curve"), in hundredths of
+-- passenger cars per hour per lane.
 use Rattle.std.specs.Prelude.{ℕ, ◌+◌, ◌*◌, ◌-◌, ◌≤◌, ◌<◌, min}
 use Rattle.numbers.specs.Fraction.{over, whole, AtMost}
 use Rattle.curve.specs.declared.kind.Kind.{Kind}

@@ -1,6 +1,6 @@
--- What each kind carries (document 01, "Free-flow speed F", and document 02, T-03): the ends of F in thousandths of mi/h, of the weather's
--- factors in thousandths, of the lane count, and of capacity in hundredths of passenger cars per hour per lane. The curve exponents, 2 and
--- 1.31, are in Speed.
+-- What each kind carries (document 01, "Free-flow speed F", and document 02, T-03): the ends of F in
+-- thousandths of mi/h, of the weather's factors in thousandths, of the lane count, and of capacity in
+-- hundredths of passenger cars per hour per lane. The curve exponents, 2 and 1.31, are in Speed.
 use Rattle.std.specs.Prelude.{ℕ}
 use Rattle.curve.specs.declared.kind.Kind.{Kind}
 

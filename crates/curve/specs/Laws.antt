@@ -1,6 +1,6 @@
--- The laws of the curve, stated over the definitions that the contracts cite; proofs/Laws proves each.
--- Under weather the laws in v hold, on one curve. Those in F are for clear weather: with a capacity factor of 501 to 506 the speed may fall
--- as F rises, by the rounding of b.
+-- The laws of the curve, stated over the definitions that the contracts cite; proofs/Laws proves each. Under
+-- weather the laws in v hold, on one curve. Those in F are for clear weather: with a capacity factor of 501
+-- to 506 the speed may fall as F rises, by the rounding of b.
 use Rattle.std.specs.Prelude.{◌≡◌, ◌↔◌, List, [], ◌∷◌, ℕ, ◌*◌, ◌^◌, ◌≤◌, ◌<◌}
 use Rattle.numbers.specs.Fraction.{over, whole, times, AtMost}
 use Rattle.curve.specs.declared.kind.Kind.{Kind}
@@ -31,8 +31,8 @@ abbrev pub TableHoldsPowers : Type 0
 TableHoldsPowers = PowerTable POWERS
 
 -- ---- kinds
--- What each kind carries, in figures: the ends of F, the lower end of F after its factor and of the weather's factors, the ends of the lane
--- count, and the ends of capacity.
+-- What each kind carries, in figures: the ends of F, the lower end of F after its factor and of the weather's
+-- factors, the ends of the lane count, and the ends of capacity.
 abbrev pub KindsCarry : Type 0
 KindsCarry =
     (carried_by Kind.Freeway ≡ 55000 ∷ 75000 ∷ 50000 ∷ 500 ∷ 2 ∷ 8 ∷ 225000 ∷ 240000 ∷ [])
@@ -63,8 +63,8 @@ CapacityReachesEnds =
 abbrev pub ClearWeatherChangesNothing : Type 0
 ClearWeatherChangesNothing = (kind : Kind) (f : ℕ) → curve_under clear kind f ≡ curve_at kind f
 
--- With factors within their ends, and F after its factor not below its lower end, the breakpoint is below capacity, the speed at capacity
--- is at most F, and 64 bits hold the products.
+-- With factors within their ends, and F after its factor not below its lower end, the breakpoint is below
+-- capacity, the speed at capacity is at most F, and 64 bits hold the products.
 abbrev pub CurveUnderIsWellFormed : Type 0
 CurveUnderIsWellFormed =
     (kind : Kind) (weather : Weather) (f : ℕ) → FactorsFit kind weather
@@ -73,7 +73,8 @@ CurveUnderIsWellFormed =
     → WellFormed (curve_under weather kind f) × Sized (curve_under weather kind f)
 
 -- ---- speed
--- Up to capacity the speed is a fraction above 0: what the laws below say by cross-multiplying has its meaning.
+-- Up to capacity the speed is a fraction above 0: what the laws below say by cross-multiplying has its
+-- meaning.
 abbrev pub SpeedIsAboveZero : Type 0
 SpeedIsAboveZero =
     (curve : Curve) (v : ℕ) → WellFormed curve → 100 * v ≤ curve.capacity
@@ -105,7 +106,8 @@ SpeedNeverFallsWithFreeFlowSpeed =
     → AtMost (speed (curve_at kind f) v) (speed (curve_at kind g) v)
 
 -- ---- density and letter
--- The shown density meets a limit exactly when 10,000v is at most the limit times S: the letter rests on the unrounded speed.
+-- The shown density meets a limit exactly when 10,000v is at most the limit times S: the letter rests on the
+-- unrounded speed.
 abbrev pub DensityMeetsLimitByExactSpeed : Type 0
 DensityMeetsLimitByExactSpeed =
     (curve : Curve) (v limit : ℕ) → WellFormed curve → 100 * v ≤ curve.capacity

@@ -1,5 +1,5 @@
--- The speed–flow curve of document 01, under the weather of document 02, from a free-flow speed to speed, density and letter, a file for
--- each part.
+-- The speed–flow curve of document 01, under the weather of document 02, from a free-flow speed to speed,
+-- density and letter, a file for each part.
 -- what each kind carries
 pub mod Kinds
 -- T(i) by whole powers

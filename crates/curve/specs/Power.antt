@@ -8,7 +8,8 @@ unfoldable pub reaches_power : ℕ → ℕ → Bool
 reaches_power i t = nat_le (i ^ 131 * 10 ^ 207) (t ^ 100)
 
 -- T(i): the least such t, for i from 0 to 1,000
--- "T(i) is the least whole t with i^131 × 10^207 ≤ t^100, for i from 0 to 1,000": none of these is above 1,000,000
+-- "T(i) is the least whole t with i^131 × 10^207 ≤ t^100, for i from 0 to 1,000": none of these is above
+-- 1,000,000
 unfoldable pub power : ℕ → ℕ
 power i = least (reaches_power i) 1000001
 

@@ -1,5 +1,5 @@
--- Density and letter on a curve at flow rate v (document 01, "Capacity and curve", "Flow, letter, service volume, lanes").
--- Density is in tenths of a passenger car per mile per lane.
+-- Density and letter on a curve at flow rate v (document 01, "Capacity and curve", "Flow, letter, service
+-- volume, lanes"). Density is in tenths of a passenger car per mile per lane.
 use Rattle.std.specs.Prelude.{ℕ, ◌*◌, Bool, if◌then◌else◌, ◌&&◌, nat_le, ◌==◌}
 use Rattle.numbers.specs.Fraction.{whole, divided_by, rounded_up}
 use Rattle.curve.specs.declared.Curve.{Curve}

@@ -1,5 +1,6 @@
--- What the code works out once a curve, so that a speed then costs a few products, and on kind M the division of its place in the
--- table of powers. It is no part of the method. The other terms stand at src/speed.rt's struct CurveTerms.
+-- What the code works out once a curve, so that a speed then costs a few products, and on kind M the division
+-- of its place in the table of powers. It is no part of the method. The other terms stand at src/speed.rt's
+-- struct CurveTerms.
 use Rattle.std.specs.Prelude.{ℕ, ◌*◌}
 use Rattle.curve.specs.declared.kind.Kind.{Kind}
 

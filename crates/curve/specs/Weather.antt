@@ -1,5 +1,5 @@
--- The curve under weather (document 02, T-03): a speed factor and a capacity factor, in thousandths. "Each product is rounded down once, at
--- its end."
+-- The curve under weather (document 02, T-03): a speed factor and a capacity factor, in thousandths. "Each
+-- product is rounded down once, at its end."
 use Rattle.std.specs.Prelude.{ℕ, ◌≤◌}
 use Rattle.numbers.specs.Fraction.{over, whole, times, squared, rounded_down}
 use Rattle.curve.specs.declared.kind.Kind.{Kind}

@@ -1,4 +1,5 @@
-//! The speed-flow curve of a kind of road at a free-flow speed, under weather, and what a flow rate gets on it.
+//! The speed-flow curve of a kind of road at a free-flow speed, under weather, and what a flow rate gets on
+//! it.
 
 #![tactic(auto)]
 
@@ -79,7 +80,8 @@ impl Weather {
 }
 
 impl Curve {
-    /// The curve of a kind at a free-flow speed before the weather's factor. Capacity and breakpoint are worked from the speed after it.
+    /// The curve of a kind at a free-flow speed before the weather's factor. Capacity and breakpoint are
+    /// worked from the speed after it.
     #[tactic(auto, using(crate::proofs::WeatherLaws::curve_laws))]
     pub fn under(weather: Weather, kind: Kind, speed: Speed) -> Curve
         requires speed_high { speed ≤ highest_speed kind }

@@ -29,8 +29,8 @@ pub fn weather()
     ensures well_formed { CurveUnderIsWellFormed }
 {}
 
-/// Up to capacity the speed is above 0 and at least that at capacity. It never rises with more flow, and in clear weather it never falls
-/// with a higher free-flow speed.
+/// Up to capacity the speed is above 0 and at least that at capacity. It never rises with more flow, and in
+/// clear weather it never falls with a higher free-flow speed.
 pub fn speeds()
     ensures above_zero { SpeedIsAboveZero }
     ensures at_capacity { SpeedNeverBelowCapacitySpeed }
@@ -38,14 +38,16 @@ pub fn speeds()
     ensures with_free_flow_speed { SpeedNeverFallsWithFreeFlowSpeed }
 {}
 
-/// Up to capacity the density never falls with more flow and is at most 450, and the letter rests on the exact speed.
+/// Up to capacity the density never falls with more flow and is at most 450, and the letter rests on the
+/// exact speed.
 pub fn densities()
     ensures with_flow { DensityNeverFallsWithFlow }
     ensures most { DensityAtMost450 }
     ensures by_exact_speed { DensityMeetsLimitByExactSpeed }
 {}
 
-/// More flow never gets a better letter, nor does in clear weather more flow at a free-flow speed that is no higher.
+/// More flow never gets a better letter, nor does in clear weather more flow at a free-flow speed that is no
+/// higher.
 pub fn letters()
     ensures with_flow { LetterNeverBetterWithFlow }
     ensures with_free_flow_speed { LetterNeverBetter }

@@ -1,4 +1,5 @@
--- Forecasts (specs/Forecasts): what refuses one, and what an accepted one says of every combination within its ends.
+-- Forecasts (specs/Forecasts): what refuses one, and what an accepted one says of every combination within
+-- its ends.
 use Rattle.std.proofs.Common.{◌≡◌, refl, sym, ap, ◌∙◌, List, [], ◌++◌, append_assoc, ℕ, ◌≤◌, ◌<◌, arith, le_refl, le_trans, Result, Ok, Err}
 use Rattle.refusals.specs.declared.Refusal.{Refusal}
 use Rattle.refusals.specs.Refusals.{Condition, first_refusal}

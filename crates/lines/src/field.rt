@@ -92,16 +92,16 @@ impl Lettered for Terrain {
     }
 }
 
-/// What is left of a line, its fields parted by tabs; none where no field is left. The readers are inlined, so that it
-/// stays in registers.
+/// What is left of a line, its fields parted by tabs; none where no field is left. The readers are inlined,
+/// so that it stays in registers.
 #[derive(Drop)]
 pub(crate) struct Fields<'a> {
     pub(crate) rest: Option<&'a [u8]>,
 }
 
 impl<'a> Fields<'a> {
-    /// The first field that is left, a number of one to so many digits, in one pass over its bytes; none where it is
-    /// malformed.
+    /// The first field that is left, a number of one to so many digits, in one pass over its bytes; none
+    /// where it is malformed.
     #[inline(always)]
     fn number_up_to(&mut self, most_digits: usize) -> Option<u64>
         requires fits { most_digits ≤ 19 }

@@ -6,8 +6,9 @@ ghost use Rattle.lines.specs.Laws.{LengthNeverDecidesAlone, WellFormedLinesAreSh
 ghost use Rattle.lines.specs.Laws.{OtherCountsAreMalformed, ValuesAreTheFields, RefusalHasItsNumber, DemandOnALine};
 ghost use Rattle.lines.specs.Laws.{TenthFieldIsTheDemand, FiveDigitsReadAsBefore, OlderReaderRefusesMore};
 
-/// What is read is what the fields say: the values of a line's case are those of its fields, in their order. A line of 13 fields reads
-/// as the same line with 1000 and 1000, and any count other than 13 and 15 is malformed. A refused line has no values.
+/// What is read is what the fields say: the values of a line's case are those of its fields, in their order.
+/// A line of 13 fields reads as the same line with 1000 and 1000, and any count other than 13 and 15 is
+/// malformed. A refused line has no values.
 pub fn lines_are_their_fields()
     ensures values { ValuesAreTheFields }
     ensures clear_weather { ClearWeatherMayBeLeftOut }
@@ -22,9 +23,9 @@ pub fn lines_are_short()
     ensures length { LengthNeverDecidesAlone }
 {}
 
-/// The tenth field is the demand: with other digits there a line reads as its case with that demand. No line's demand is above the
-/// greatest, 999,999. Where at most five bytes stand there a line reads as it did before demands had six digits, and a reader of then
-/// refuses more with 15.
+/// The tenth field is the demand: with other digits there a line reads as its case with that demand. No
+/// line's demand is above the greatest, 999,999. Where at most five bytes stand there a line reads as it did
+/// before demands had six digits, and a reader of then refuses more with 15.
 pub fn tenth_field_is_the_demand()
     ensures tenth_field { TenthFieldIsTheDemand }
     ensures greatest { DemandOnALine }

@@ -83,9 +83,9 @@ impl<'a> Fields<'a> {
     }
 }
 
-/// The case of a line without its newline, 13 or 15 fields parted by tabs; 15 where the line is malformed or longer
-/// than 80 bytes. What the numbers may be is not asked. Not inlined, so that the engine that a caller goes on to has
-/// the registers.
+/// The case of a line without its newline, 13 or 15 fields parted by tabs; 15 where the line is malformed or
+/// longer than 80 bytes. What the numbers may be is not asked. Not inlined, so that the engine that a caller
+/// goes on to has the registers.
 #[inline(never)]
 #[tactic(auto, using(crate::proofs::FieldsLaws::line_laws), unfolding(crate::specs::Reading::read_values))]
 pub fn read_line(line: &[u8]) -> Result<Case, Refusal>

@@ -1,4 +1,5 @@
--- The shape of the method as a host meets it (specs/Shape), by the promises of the answers and what the calls hand back.
+-- The shape of the method as a host meets it (specs/Shape), by the promises of the answers and what the calls
+-- hand back.
 use Rattle.std.proofs.Common.{◌≡◌, ◌↔◌, ℕ, zero, suc, ◌+◌, ◌≤◌, ◌<◌, Result, Ok, Err, List, [], ◌∷◌, ◌++◌, length, drop, get_or, pos, neg_ℤ}
 use Rattle.std.proofs.Common.{refl, sym, ap, ◌∙◌, arith, ⊎_elim, eq-zero-or-pos, lit≤, lit<}
 use Rattle.std.proofs.lemmas.Grind.{common_steps}

@@ -84,7 +84,7 @@ DayHandsBack =
     × (LentFits (length demands) room → (case : Case) → read_line line ≡ Ok case
     → day_result (day_call line demands room) ≡ pos (length demands))
 
--- a line that is read: the call's result and the lent numbers afterwards are those of `evaluate_day` for its
+-- a line that is read: the call's result and the lent numbers afterwards are those of the day of its
 -- case
 abbrev pub DayCallIsTheDay : Type 0
 DayCallIsTheDay =

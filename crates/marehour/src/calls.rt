@@ -63,8 +63,8 @@ fn lanes_in(line: &[u8], letter: u64, answer: &mut [u8]) -> Result<usize, Refusa
     Ok(2)
 }
 
-/// The answer to a line without its newline, as text: its letter, free-flow speed, capacity, flow rate, speed, density
-/// and service volumes. The count of its bytes, or minus the refusal's number.
+/// The answer to a line without its newline, as text: its letter, free-flow speed, capacity, flow rate,
+/// speed, density and service volumes. The count of its bytes, or minus the refusal's number.
 #[unsafe(no_mangle)]
 pub extern "C" fn marehour_answer(line: &[u8], answer: &mut [u8]) -> i32
     ensures result { result ≡ call_result (answer_call line.now (length answer.old)) }
@@ -74,8 +74,8 @@ pub extern "C" fn marehour_answer(line: &[u8], answer: &mut [u8]) -> i32
     handed_back(answer_in(line, answer))
 }
 
-/// The least lane count with which a line's section meets a letter, 1 for A to 5 for E, as text: 2 for its two bytes,
-/// or minus the refusal's number.
+/// The least lane count with which a line's section meets a letter, 1 for A to 5 for E, as text: 2 for its
+/// two bytes, or minus the refusal's number.
 #[unsafe(no_mangle)]
 pub extern "C" fn marehour_lanes(line: &[u8], letter: u32, answer: &mut [u8]) -> i32
     ensures result { result ≡ call_result (lanes_call line.now letter (length answer.old)) }

@@ -29,8 +29,8 @@ fn daily_in(
     Ok(grade.put_figures(figures))
 }
 
-/// The answer to the line's section with the hourly demand of a daily traffic, in vehicles per day, and its daily
-/// service volumes. The shares are in thousandths. 16, or minus the refusal's number.
+/// The answer to the line's section with the hourly demand of a daily traffic, in vehicles per day, and its
+/// daily service volumes. The shares are in thousandths. 16, or minus the refusal's number.
 #[unsafe(no_mangle)]
 pub extern "C" fn marehour_daily(
     line: &[u8],

@@ -21,8 +21,8 @@ fn day_in(line: &[u8], demands: &[u64], answers: &mut [u64]) -> Result<usize, Re
     Ok(demands.len())
 }
 
-/// The answers to the line's section with each demand, in vehicles per hour, in its position. The count of the
-/// answers, or minus the refusal's number.
+/// The answers to the line's section with each demand, in vehicles per hour, in its position. The count of
+/// the answers, or minus the refusal's number.
 #[unsafe(no_mangle)]
 pub extern "C" fn marehour_day(line: &[u8], demands: &[u64], answers: &mut [u64]) -> i32
     ensures result { result ≡ day_result (day_call line.now demands.now (length answers.old)) }

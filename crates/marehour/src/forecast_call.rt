@@ -23,9 +23,9 @@ fn forecast_in(line: &[u8], forecast: Forecast, figures: &mut [u64]) -> Result<u
     Ok(outcomes.put_figures(figures))
 }
 
-/// The best and the worst letter of the line's section within the ends of its demand, in vehicles per hour, its heavy
-/// share and its peak-hour factor, in thousandths, each with the combination that gets it. 8, or minus the refusal's
-/// number.
+/// The best and the worst letter of the line's section within the ends of its demand, in vehicles per hour,
+/// its heavy share and its peak-hour factor, in thousandths, each with the combination that gets it. 8, or
+/// minus the refusal's number.
 #[unsafe(no_mangle)]
 pub extern "C" fn marehour_forecast(
     line: &[u8],
@@ -38,7 +38,8 @@ pub extern "C" fn marehour_forecast(
     figures: &mut [u64],
 ) -> i32
     ensures result { result ≡ call_result (forecast_call line.now
-        (forecast_of demand_low demand_high share_low share_high factor_low factor_high) (length figures.old)) }
+        (forecast_of demand_low demand_high share_low share_high factor_low factor_high)
+        (length figures.old)) }
     ensures figures { figures.new ≡ content (forecast_call line.now
         (forecast_of demand_low demand_high share_low share_high factor_low factor_high)
         (length figures.old)) figures.old }

@@ -8,10 +8,11 @@ ghost use Rattle.marehour.specs.Laws.{DayHandsBack, DayCallIsTheDay, PositionIsT
 ghost use Rattle.marehour.specs.Shape.{NoBetterLetterUnderMoreLoad, MeetsUpToTheWrittenVolume, LanesDigitIsTheLeastCount, PrintedLineMeetsUpTo2642};
 ghost use Rattle.marehour.specs.Tries.{TriesHandBack, TriesOfLines};
 
-/// The shape of the method, over lines and lent buffers. Of two lines of accepted cases, of the same road under one weather, the one
-/// with no less load is not answered with the better letter. A line whose demand is another meets a letter exactly up to the service
-/// volume that the first line's answer has. The lanes question writes the digit of the least accepted count that meets the letter, and
-/// is refused with 14 exactly where none does.
+/// The shape of the method, over lines and lent buffers. Of two lines of accepted cases, of the same road
+/// under one weather, the one with no less load is not answered with the better letter. A line whose demand
+/// is another meets a letter exactly up to the service volume that the first line's answer has. The lanes
+/// question writes the digit of the least accepted count that meets the letter, and is refused with 14
+/// exactly where none does.
 pub fn shape_of_the_calls()
     ensures letter { NoBetterLetterUnderMoreLoad }
     ensures volume { MeetsUpToTheWrittenVolume }
@@ -19,9 +20,10 @@ pub fn shape_of_the_calls()
     ensures instance { PrintedLineMeetsUpTo2642 }
 {}
 
-/// What each call over a line hands back and writes: minus 17 where too little is lent, else minus 15 where the line is malformed, else
-/// minus the number of its case's refusal; else the count of what stands from the start on. Behind it, and at a refusal everywhere,
-/// what stood there stays. A letter number outside 1 to 5 is refused with 16 before the case is looked at.
+/// What each call over a line hands back and writes: minus 17 where too little is lent, else minus 15 where
+/// the line is malformed, else minus the number of its case's refusal; else the count of what stands from the
+/// start on. Behind it, and at a refusal everywhere, what stood there stays. A letter number outside 1 to 5
+/// is refused with 16 before the case is looked at.
 pub fn calls_hand_back()
     ensures answer { AnswerHandsBack }
     ensures lanes { LanesHandBack }
@@ -30,8 +32,9 @@ pub fn calls_hand_back()
     ensures forecast { ForecastHandsBack }
 {}
 
-/// A day's call hands back minus 18 where the lent memory does not fit, else minus 15 where the line is malformed, else the count of
-/// its demands. It is the day of the line's case, and a position holds what a line with that demand is answered.
+/// A day's call hands back minus 18 where the lent memory does not fit, else minus 15 where the line is
+/// malformed, else the count of its demands. It is the day of the line's case, and a position holds what a
+/// line with that demand is answered.
 pub fn day_hands_back()
     ensures result { DayHandsBack }
     ensures day { DayCallIsTheDay }
@@ -46,7 +49,8 @@ pub fn replies_are_within_their_ends()
     ensures last { LastRefusalIsReached }
 {}
 
-/// The count of the tried demands is from 1 to 80, or minus the refusal of the line or its case. The printed line has 67.
+/// The count of the tried demands is from 1 to 80, or minus the refusal of the line or its case. The printed
+/// line has 67.
 pub fn tries_hand_back()
     ensures result { TriesHandBack }
     ensures printed { TriesOfLines }

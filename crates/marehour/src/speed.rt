@@ -24,8 +24,8 @@ fn survey_speed(speed: SurveyedSpeed, cars: u32, flow: u32) -> Result<usize, Ref
     Ok(thousandths as usize)
 }
 
-/// The exact value of a float in miles per hour, rounded down, of so many cars at a flow rate in passenger cars per
-/// hour per lane. The speed, or minus the refusal's number.
+/// The exact value of a float in miles per hour, rounded down, of so many cars at a flow rate in passenger
+/// cars per hour per lane. The speed, or minus the refusal's number.
 #[unsafe(no_mangle)]
 pub extern "C" fn marehour_survey_mph(speed: f32, cars: u32, flow: u32) -> i32
     ensures { result
@@ -38,7 +38,8 @@ pub extern "C" fn marehour_survey_mph(speed: f32, cars: u32, flow: u32) -> i32
 #[unsafe(no_mangle)]
 pub extern "C" fn marehour_survey_kmh(speed: f32, cars: u32, flow: u32) -> i32
     ensures { result
-        ≡ survey_result (survey_answer (record { speed = KilometresPerHour speed; cars = cars; flow = flow })) }
+        ≡ survey_result (survey_answer
+        (record { speed = KilometresPerHour speed; cars = cars; flow = flow })) }
 {
     handed_back(survey_speed(SurveyedSpeed::KilometresPerHour(speed), cars, flow))
 }

@@ -21,7 +21,8 @@ fn tries_for(line: &[u8]) -> Result<usize, Refusal>
     Ok(counted.tries as usize)
 }
 
-/// How many demands are tried for the service volumes of a line's section, 1 to 80, or minus the refusal's number.
+/// How many demands are tried for the service volumes of a line's section, 1 to 80, or minus the refusal's
+/// number.
 #[unsafe(no_mangle)]
 pub extern "C" fn marehour_tries(line: &[u8]) -> i32
     ensures { result ≡ tries_call line.now }

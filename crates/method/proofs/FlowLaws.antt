@@ -22,7 +22,8 @@ heavy-le case z =
     let ends = truck_equivalent-ends case.terrain in
     mul-le-mul {n₂ = 1000} {m₂ = 2} (load-ends case z).share-high (omega arith)
 
--- 64 bits hold the products with the load of a case that 1 to 9 and 19 do not refuse, with each lane count of its kind
+-- 64 bits hold the products with the load of a case that 1 to 9 and 19 do not refuse, with each lane count of
+-- its kind
 pub load_of-sized : (case : Case) (n : ℕ) → FieldsFit case → fewest_lanes case.road.kind ≤ n → n ≤ most_lanes case.road.kind
     → LoadSized (load_of case n)
 unfolding heavy_factor_of

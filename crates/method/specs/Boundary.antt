@@ -1,5 +1,5 @@
--- The boundary sections of document 01 and of document 02, as far as a case alone decides them, with those of the layer below: one list,
--- which the layers above make longer.
+-- The boundary sections of document 01 and of document 02, as far as a case alone decides them, with those of
+-- the layer below: one list, which the layers above make longer.
 use Rattle.std.specs.Prelude.{List, [], ◌∷◌, ◌++◌, map, ℕ, Result, Ok, Err}
 use Rattle.refusals.specs.Facts.{Fact, fact}
 use Rattle.refusals.specs.declared.Refusal.{Refusal}
@@ -77,15 +77,17 @@ faulty speed width right median access lanes demand factor share speed_factor =
 abbrev pub refused_by_all : Case
 refused_by_all = faulty 0 99 401 Median.Undivided 49 1 1000000 249 1001 499
 
--- The numbers that 1 to 9 leave at the ends of each range, and those past them: speed, width, clearance on either side, medians of kind F
--- and of kind M, ramps and access, lanes of kind F and of kind M, demand, peak-hour factor, heavy share. 10 refuses a given speed of 30,000.
+-- The numbers that 1 to 9 leave at the ends of each range, and those past them: speed, width, clearance on
+-- either side, medians of kind F and of kind M, ramps and access, lanes of kind F and of kind M, demand,
+-- peak-hour factor, heavy share. 10 refuses a given speed of 30,000.
 unfoldable pub limit_facts : List Fact
 limit_facts =
     fact (map (λ f. refusal (two_lanes (given Kind.Freeway f 120) 0)) (29999 ∷ 30000 ∷ 90000 ∷ 90001 ∷ []))
     (1 ∷ 10 ∷ 0 ∷ 1 ∷ [])
     ∷ fact (map (λ w. refusal (two_lanes (given Kind.Freeway 60000 w) 0)) (99 ∷ 100 ∷ 200 ∷ 201 ∷ []))
     (2 ∷ 0 ∷ 0 ∷ 2 ∷ [])
-    ∷ fact (freeway 400 400 Median.Divided 0 ∷ freeway 401 0 Median.Divided 0 ∷ freeway 0 401 Median.Divided 0 ∷ []) (0 ∷ 3 ∷ 3 ∷ [])
+    ∷ fact (freeway 400 400 Median.Divided 0 ∷ freeway 401 0 Median.Divided 0 ∷ freeway 0 401 Median.Divided 0 ∷ [])
+    (0 ∷ 3 ∷ 3 ∷ [])
     ∷ fact (map (λ m. freeway 60 60 m 0) medians) (4 ∷ 0 ∷ 4 ∷ [])
     ∷ fact (map (λ m. multilane_with m 0) medians) (0 ∷ 0 ∷ 0 ∷ [])
     ∷ fact (map (freeway 60 60 Median.Divided) (48 ∷ 49 ∷ [])) (0 ∷ 5 ∷ [])
@@ -112,7 +114,8 @@ limit_facts =
     loaded_by kind lanes demand factor share =
         refusal (loaded (given kind 60000 120) lanes demand factor share Terrain.Level clear)
 
--- The order of refusals: a case that breaks all of 1 to 9, 19 and 10, and then without its first fault, again and again.
+-- The order of refusals: a case that breaks all of 1 to 9, 19 and 10, and then without its first fault, again
+-- and again.
 unfoldable pub order_facts : List Fact
 order_facts =
     fact (
@@ -133,9 +136,10 @@ order_facts =
     (1 ∷ 2 ∷ 3 ∷ 4 ∷ 5 ∷ 6 ∷ 7 ∷ 8 ∷ 9 ∷ 19 ∷ 10 ∷ 0 ∷ [])
     ∷ []
 
--- Under snow or rain (document 02, T-03): b rounded down once; b and c from F after its factor, below the breakpoint and past it; F, c and
--- b each with a fraction above a half; the upper end before the factor; F, c and both factors at once; 50,000 after the factor, and 55,000
--- before it; the ends of the factors, on kind M too; 19 before 10 on kind M.
+-- Under snow or rain (document 02, T-03): b rounded down once; b and c from F after its factor, below the
+-- breakpoint and past it; F, c and b each with a fraction above a half; the upper end before the factor; F, c
+-- and both factors at once; 50,000 after the factor, and 55,000 before it; the ends of the factors, on kind M
+-- too; 19 before 10 on kind M.
 unfoldable pub weather_facts : List Fact
 weather_facts =
     fact (checked_as (snow 67855 1000 942 3534)) (0 ∷ 67855 ∷ 224059 ∷ 114097 ∷ [])
@@ -180,10 +184,11 @@ end_facts =
     ∷ fact (checked_as (two_lanes (given Kind.Multilane 70001 120) 0)) (0 ∷ 70000 ∷ 230000 ∷ 140000 ∷ [])
     ∷ []
 
--- Of a case that is accepted 0, and then letter, F, c, v, speed and density, of one that is refused its number. A is 1 and F is 6.
--- Starred in document 01: all down to the right clearance of 59, which takes off 60 by document 02; by document 02 the printed line and 24
--- ramps have other figures too. Not starred: no demand; two letters that the shown speed would miss; a case that breaks 1 and 2; the curve
--- of a case and its refusal.
+-- Of a case that is accepted 0, and then letter, F, c, v, speed and density, of one that is refused its
+-- number. A is 1 and F is 6. Starred in document 01: all down to the right clearance of 59, which takes off
+-- 60 by document 02; by document 02 the printed line and 24 ramps have other figures too. Not starred: no
+-- demand; two letters that the shown speed would miss; a case that breaks 1 and 2; the curve of a case and
+-- its refusal.
 unfoldable pub section_facts : List Fact
 section_facts =
     fact (assessed example) (0 ∷ 3 ∷ 60782 ∷ 230782 ∷ 1196 ∷ 60782 ∷ 197 ∷ [])
@@ -200,7 +205,8 @@ section_facts =
     ∷ fact (assessed (two_lanes (given Kind.Multilane 60000 120) 3600))
     (0 ∷ 4 ∷ 60000 ∷ 220000 ∷ 1800 ∷ 55518 ∷ 325 ∷ [])
     ∷ fact (power 500 ∷ []) (403321 ∷ [])
-    ∷ fact (free_flow_speed_of (multilane Median.Divided) 2 ∷ free_flow_speed_of (multilane Median.Undivided) 2 ∷ []) (54300 ∷ 53600 ∷ [])
+    ∷ fact (free_flow_speed_of (multilane Median.Divided) 2 ∷ free_flow_speed_of (multilane Median.Undivided) 2 ∷ [])
+    (54300 ∷ 53600 ∷ [])
     ∷ fact (right_off 59) (60 ∷ 40 ∷ 20 ∷ 10 ∷ 10 ∷ 10 ∷ 10 ∷ [])
     ∷ fact (assessed (two_lanes (given Kind.Freeway 55000 120) 0))
     (0 ∷ 1 ∷ 55000 ∷ 225000 ∷ 0 ∷ 55000 ∷ 0 ∷ [])

@@ -1,4 +1,5 @@
--- The flow rate v, in whole passenger cars per hour per lane (document 01, "Flow, letter, service volume, lanes"):
+-- The flow rate v, in whole passenger cars per hour per lane (document 01, "Flow, letter, service volume,
+-- lanes"):
 -- "v = V × (1,000 + P × (E − 1)) / (H × N), rounded up".
 use Rattle.std.specs.Prelude.{ℕ, ◌+◌, ◌*◌, ◌-◌, ◌≤◌, ◌<◌}
 use Rattle.numbers.specs.Division.{div_up}

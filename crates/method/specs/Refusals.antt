@@ -10,8 +10,9 @@ use Rattle.road.specs.FreeFlowSpeed.{free_flow_speed_of}
 use Rattle.road.specs.Refusals.{field_refusals}
 
 -- 10, of a road with n lanes under weather
--- "10 F below the lower end", before the weather's factor and after it: "On kind F, free-flow speed after the factors must be at least
--- 50,000, or refusal 10; the limit of 55,000 holds before them. Kind M keeps its lower end."
+-- "10 F below the lower end", before the weather's factor and after it: "On kind F, free-flow speed after the
+-- factors must be at least 50,000, or refusal 10; the limit of 55,000 holds before them. Kind M keeps its
+-- lower end."
 unfoldable pub speed_refusals : Road → Weather → ℕ → List Condition
 speed_refusals road weather n =
     refuses 10 (nat_lt (free_flow_speed_of road n) (lowest_speed road.kind))

@@ -72,7 +72,8 @@ impl AcceptedCase {
         })
     }
 
-    /// The case under another load that 7 to 9 let pass: another demand, peak-hour factor and heavy share. The curve is kept.
+    /// The case under another load that 7 to 9 let pass: another demand, peak-hour factor and heavy share.
+    /// The curve is kept.
     #[tactic(auto, using(crate::proofs::CheckedLaws::another_load), unfolding(crate::specs::Checked::curve_of))]
     pub fn with_load(
         &self,

@@ -11,8 +11,8 @@ pub fn refusals()
     ensures in_order { RefusalsInOrder }
 {}
 
-/// The curve of an accepted case is well formed, and on kind M the weather is clear. The flow rate never falls with more load, and without
-/// demand the letter is A.
+/// The curve of an accepted case is well formed, and on kind M the weather is clear. The flow rate never
+/// falls with more load, and without demand the letter is A.
 pub fn accepted_cases()
     ensures curve { AcceptedCurveIsWellFormed }
     ensures multilane { MultilaneIsInClearWeather }

@@ -82,7 +82,8 @@ unfolding middle
 middle-half low high h = omega arith
 
 -- ---- a search that counts
--- so many were tried on the way to low, which passes, and high, which fails or is past the end; what is left to try makes up the rest
+-- so many were tried on the way to low, which passes, and high, which fails or is past the end; what is left
+-- to try makes up the rest
 pub record Halved (p : ℕ → Bool) (end low high tries : ℕ) : Type 0 where
   pub apart : low < high
   pub inside : high ≤ end + 1

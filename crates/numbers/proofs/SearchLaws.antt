@@ -5,7 +5,8 @@ use Rattle.std.proofs.Math.Decide.{dec_le}
 use Rattle.numbers.specs.Search.{greatest, least_from, least, DownwardClosed, UpwardClosed, ends_at, starts_at}
 use Rattle.numbers.proofs.BoolLaws.{and-left, and-right}
 
--- one step of a search downwards: it takes suc n where that passes, and what is found up to n where it does not
+-- one step of a search downwards: it takes suc n where that passes, and what is found up to n where it does
+-- not
 module _ (p : ℕ → Bool) (n g : ℕ) where
   step-le : (b : Bool) → g ≤ n → cond b (suc n) g ≤ suc n
   step-le true h = le_refl (suc n)

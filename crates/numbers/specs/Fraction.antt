@@ -1,4 +1,5 @@
--- Exact fractions of whole numbers, none below 0: src's struct Fraction, a numerator over a denominator, not reduced.
+-- Exact fractions of whole numbers, none below 0: src's struct Fraction, a numerator over a denominator, not
+-- reduced.
 use Rattle.std.specs.Prelude.{◌≡◌, ℕ, ◌*◌, ◌-◌, ◌/◌, ◌≤◌}
 use Rattle.numbers.specs.declared.Fraction.{Fraction}
 use Rattle.numbers.specs.Division.{div_up}

@@ -1,5 +1,5 @@
--- Halving: which numbers a search tries for the greatest number up to an end that passes a test. 0 is known to pass, and the number
--- after the end stands for one that fails; neither is tried.
+-- Halving: which numbers a search tries for the greatest number up to an end that passes a test. 0 is known
+-- to pass, and the number after the end stands for one that fails; neither is tried.
 use Rattle.std.specs.Prelude.{ℕ, zero, suc, ◌+◌, ◌-◌, ◌/◌, Bool, if◌then◌else◌, List, [], ◌∷◌, nat_lt}
 
 -- the number in the middle, rounded down
@@ -7,7 +7,8 @@ unfoldable pub middle : ℕ → ℕ → ℕ
 middle low high = low + (high - low) / 2
 
 -- what is tried between a number that passes and one that fails, in at most so many steps
--- The middle is tried, and takes the place of low where it passes and of high where it fails, until the two are neighbours.
+-- The middle is tried, and takes the place of low where it passes and of high where it fails, until the two
+-- are neighbours.
 unfoldable pub tried_between : (ℕ → Bool) → ℕ → ℕ → ℕ → List ℕ
 tried_between p zero low high = []
 tried_between p (suc steps) low high =

@@ -1,4 +1,5 @@
-//! What the crates above count with: an exact fraction here; division rounded up, searches and tests of a whole table in specs/.
+//! What the crates above count with: an exact fraction here; division rounded up, searches and tests of a
+//! whole table in specs/.
 
 #![tactic(auto)]
 

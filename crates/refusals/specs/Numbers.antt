@@ -1,4 +1,5 @@
--- The documents' number of each refusal (document 01, "Refused, by who can cause it", and document 02), and an answer unless one is met.
+-- The documents' number of each refusal (document 01, "Refused, by who can cause it", and document 02), and
+-- an answer unless one is met.
 use Rattle.std.specs.Prelude.{ℕ, ◌-◌, List, [], ◌∷◌, slice_index_or, Result, Ok, Err}
 use Rattle.refusals.specs.declared.Refusal.{Refusal}
 use Rattle.refusals.specs.Refusals.{unless_refused}

@@ -1,4 +1,5 @@
--- Numbered refusals in an order, and an answer unless one is met (document 01, "Refused, by who can cause it").
+-- Numbered refusals in an order, and an answer unless one is met (document 01, "Refused, by who can cause
+-- it").
 use Rattle.std.specs.Prelude.{ℕ, Bool, if◌then◌else◌, ◌||◌, List, [], ◌∷◌, nat_lt, ◌==◌}
 
 -- a refusal's number, and whether it is met

@@ -26,14 +26,15 @@ pub enum Refusal {
     FactorOutOfRange = 8,
     /// 9: a heavy share above 1,000 thousandths.
     ShareTooLarge = 9,
-    /// 10: free-flow speed below 55,000 thousandths of mi/h on kind F or 45,000 on kind M, or after the speed factor below 50,000 on
-    /// kind F.
+    /// 10: free-flow speed below 55,000 thousandths of mi/h on kind F or 45,000 on kind M, or after the speed
+    /// factor below 50,000 on kind F.
     SpeedBelowLowerEnd = 10,
     /// 11: a survey of fewer than 100 cars.
     CarsTooFew = 11,
     /// 12: a survey at a flow rate of 1,000 or more passenger cars per hour per lane.
     FlowTooLarge = 12,
-    /// 13: a surveyed speed that is no finite number, or that is not 30,000 to 90,000 thousandths of mi/h when rounded down.
+    /// 13: a surveyed speed that is no finite number, or that is not 30,000 to 90,000 thousandths of mi/h
+    /// when rounded down.
     SurveyedSpeedOutOfRange = 13,
     /// 14: no lane count of the kind meets the letter.
     NoLaneCount = 14,
@@ -45,7 +46,8 @@ pub enum Refusal {
     BufferTooShort = 17,
     /// 18: a day of no demand or of more than 24, or fewer answers lent than there are demands.
     DayUnfit = 18,
-    /// 19: a speed or capacity factor of the weather that is not 500 to 1,000 thousandths on kind F, or not 1,000 on kind M.
+    /// 19: a speed or capacity factor of the weather that is not 500 to 1,000 thousandths on kind F, or not
+    /// 1,000 on kind M.
     WeatherUnfit = 19,
     /// 20: a peak-hour share or a direction share of daily traffic that is not 1 to 1,000 thousandths.
     SharesUnfit = 20,

@@ -9,7 +9,8 @@ ghost use Rattle.replies.specs.Output.{line_texts};
 
 use crate::write::{LONGEST_ANSWER, answer_line};
 
-/// How far a block was answered: the bytes of its answered lines with their newlines, and the bytes of the answers.
+/// How far a block was answered: the bytes of its answered lines with their newlines, and the bytes of the
+/// answers.
 #[derive(Clone, Copy)]
 pub(crate) struct Progress {
     pub(crate) read: usize,
@@ -38,7 +39,8 @@ pub(crate) fn answer_block(block: &[u8], out: &mut [u8]) -> Progress
     Progress { read, written }
 }
 
-/// Answers what is held at the end of the input, a last line without newline or nothing; answers how many bytes it wrote.
+/// Answers what is held at the end of the input, a last line without newline or nothing; answers how many
+/// bytes it wrote.
 #[tactic(auto, using(crate::proofs::TextsLaws::by_last))]
 pub(crate) fn answer_last(held: &[u8], out: &mut [u8]) -> usize
     requires { (longest_answer ≤ length out.old) × IsHalfLine held.now }

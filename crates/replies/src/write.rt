@@ -28,8 +28,8 @@ fn letter_byte(letter: Letter) -> u8
     }
 }
 
-/// Writes the letter and the ten numbers of an answer to the start of a buffer that has room for them; answers how many bytes it
-/// wrote.
+/// Writes the letter and the ten numbers of an answer to the start of a buffer that has room for them;
+/// answers how many bytes it wrote.
 #[tactic(auto, unfolding(crate::specs::Texts::text_of))]
 pub fn write_grade(grade: &Grade, out: &mut [u8]) -> usize
     requires { length (answer_text (Ok grade.now)) ≤ length out.old }
@@ -46,7 +46,8 @@ fn write_refusal(refusal: Refusal, out: &mut [u8]) -> usize
     text::decimal::put_row(b'X', &[refusal.number()], out)
 }
 
-/// Writes an answer, or X and its refusal's number, to the start of a buffer that has room for it; answers how many bytes it wrote.
+/// Writes an answer, or X and its refusal's number, to the start of a buffer that has room for it; answers
+/// how many bytes it wrote.
 #[tactic(auto, unfolding(crate::specs::Texts::text_of))]
 pub fn write_answer(answer: Result<Grade, Refusal>, out: &mut [u8]) -> usize
     requires { length (answer_text answer) ≤ length out.old }
@@ -58,8 +59,8 @@ pub fn write_answer(answer: Result<Grade, Refusal>, out: &mut [u8]) -> usize
     }
 }
 
-/// Writes the answer to a line to the start of a buffer of 64 bytes or more; answers how many bytes it wrote. A line that can't be
-/// read gets X and 15.
+/// Writes the answer to a line to the start of a buffer of 64 bytes or more; answers how many bytes it wrote.
+/// A line that can't be read gets X and 15.
 #[tactic(auto, using(crate::proofs::TextsLaws::by_line))]
 pub fn answer_line(line: &[u8], out: &mut [u8]) -> usize
     requires { longest_answer ≤ length out.old }

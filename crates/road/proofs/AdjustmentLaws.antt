@@ -1,5 +1,5 @@
--- What is taken off a base speed (specs/Adjustments): how much at most, and never more with more lanes. What is said of a row's line is a
--- test, computed at every tenth.
+-- What is taken off a base speed (specs/Adjustments): how much at most, and never more with more lanes. What
+-- is said of a row's line is a test, computed at every tenth.
 use Rattle.std.proofs.Common.{◌≡◌, Bool, List, ℕ, ◌*◌, ◌-◌, ◌/◌, ◌≤◌, min, arith, mul-le-mul, mul-le-mul_left, le_refl, le_trans, le-leb, T}
 use Rattle.std.proofs.Common.{leb, eqb, leb→le, eqb→eq, get_or}
 use Rattle.std.proofs.Math.Decide.{dec_le}
@@ -33,7 +33,8 @@ per_missing_foot-antitone : (m n : ℕ) → m ≤ n → per_missing_foot n ≤ p
 unfolding per_missing_foot
 per_missing_foot-antitone m n h = grind (arith, nat_tests)
 
--- a test that passes at each tenth to 60 with each of the four rates passes at any right clearance with any lanes
+-- a test that passes at each tenth to 60 with each of the four rates passes at any right clearance with any
+-- lanes
 at-rate : (p : ℕ → ℕ → Bool) → T (every_up_to (p 600) 60) → T (every_up_to (p 400) 60) → T (every_up_to (p 200) 60) → T (every_up_to (p 100) 60)
     → (r n : ℕ) → T (p (per_missing_foot n) (60 - min 60 r))
 at-rate p p600 p400 p200 p100 r n =

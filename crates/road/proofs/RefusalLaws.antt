@@ -59,7 +59,8 @@ section-parts case s =
     let p = first_refusal-join (road_refusals case.road) (lane_refusals case) (road-numbered case.road) s in
     (p.0, (none-met (lane_refusals case) tt p.1).0)
 
--- section-road, fields-road: a case that none of 1 to 6 refuses, or none of them: 1 to 5 do not refuse its road
+-- section-road, fields-road: a case that none of 1 to 6 refuses, or none of them: 1 to 5 do not refuse its
+-- road
 pub section-road : (case : Case) → SectionFits case → RoadFits case.road
 section-road case s = (section-parts case s).0
 

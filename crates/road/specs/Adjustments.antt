@@ -1,5 +1,5 @@
--- What is taken off a base speed, in thousandths of mi/h (document 01, "Free-flow speed F"; clearances by document 02, T-02). Lengths are
--- tenths of a foot.
+-- What is taken off a base speed, in thousandths of mi/h (document 01, "Free-flow speed F"; clearances by
+-- document 02, T-02). Lengths are tenths of a foot.
 use Rattle.std.specs.Prelude.{ℕ, ◌+◌, ◌*◌, ◌-◌, min, if◌then◌else◌, List, [], ◌∷◌, nat_le}
 use Rattle.road.specs.Interpolation.{interpolated}
 use Rattle.road.specs.declared.Median.{Median}
@@ -22,7 +22,8 @@ unfoldable pub right_clearance_row : ℕ → List ℕ
 right_clearance_row p = 0 ∷ p ∷ 2 * p ∷ 3 * p ∷ 4 * p ∷ 5 * p ∷ 6 * p ∷ []
 
 -- kind F: for right clearance r and n lanes
--- "Right clearance and total clearance are therefore linear between the entries": an entry a foot, and "at most 6"
+-- "Right clearance and total clearance are therefore linear between the entries": an entry a foot, and "at
+-- most 6"
 unfoldable pub right_clearance_adjustment : ℕ → ℕ → ℕ
 right_clearance_adjustment r n = interpolated (right_clearance_row (per_missing_foot n)) 10 (60 - min 60 r)
 
@@ -50,7 +51,8 @@ unfoldable pub total_clearance_row : ℕ → List ℕ
 total_clearance_row n = if nat_le n 2 then two_lane_row else three_lane_row
 
 -- kind M: for n lanes and total clearance s
--- "Right clearance and total clearance are therefore linear between the entries": an entry every two feet, the sum at most 12
+-- "Right clearance and total clearance are therefore linear between the entries": an entry every two feet,
+-- the sum at most 12
 unfoldable pub total_clearance_adjustment : ℕ → ℕ → ℕ
 total_clearance_adjustment n s = interpolated (total_clearance_row n) 20 (120 - s)
 

@@ -1,4 +1,5 @@
--- The boundary sections of document 01 as far as a road alone decides them, with clearances and ramps by document 02.
+-- The boundary sections of document 01 as far as a road alone decides them, with clearances and ramps by
+-- document 02.
 use Rattle.std.specs.Prelude.{List, [], ◌∷◌, ◌++◌, map, ℕ}
 use Rattle.refusals.specs.Facts.{Fact, fact}
 use Rattle.curve.specs.declared.kind.Kind.TheVariants as Kind
@@ -39,8 +40,9 @@ clearance_facts =
     ∷ fact (total_off Median.Divided 0 400) (1300 ∷ 1300 ∷ [])
     ∷ []
 
--- Ramps (document 02, T-08): the terms of the fewest and the most, and of 10 and 36, whose exact terms, 4,945.48 and 14,504.51, are nearest
--- a half; with 24, the bases whose estimate is the lower end of F, one less, the upper end, one less and one more.
+-- Ramps (document 02, T-08): the terms of the fewest and the most, and of 10 and 36, whose exact terms,
+-- 4,945.48 and 14,504.51, are nearest a half; with 24, the bases whose estimate is the lower end of F, one
+-- less, the upper end, one less and one more.
 unfoldable pub ramp_facts : List Fact
 ramp_facts =
     fact (map ramp_term (1 ∷ 10 ∷ 36 ∷ 48 ∷ [])) (715 ∷ 4945 ∷ 14505 ∷ 18469 ∷ [])
@@ -48,16 +50,18 @@ ramp_facts =
     (55000 ∷ 54999 ∷ 75000 ∷ 74999 ∷ 75000 ∷ [])
     ∷ []
 
--- F with such clearances and by the lanes; the worst road fields, which take off nothing from a given speed; the upper end of F on kind M; what lane widths take off at
--- the ends of their ranges.
+-- F with such clearances and by the lanes; the worst road fields, which take off nothing from a given speed;
+-- the upper end of F on kind M; what lane widths take off at the ends of their ranges.
 unfoldable pub speed_facts : List Fact
 speed_facts =
     fact (free_flow_speed_of (road Kind.Multilane Way.Estimated 60000 120 30 7 Median.Undivided 0) 2 ∷ [])
     (57750 ∷ [])
-    ∷ fact (free_flow_speed_of (road Kind.Multilane Way.Estimated 60000 120 30 7 Median.TwoWayLeftTurnLane 0) 2 ∷ []) (59350 ∷ [])
+    ∷ fact (free_flow_speed_of (road Kind.Multilane Way.Estimated 60000 120 30 7 Median.TwoWayLeftTurnLane 0) 2 ∷ [])
+    (59350 ∷ [])
     ∷ fact (map (free_flow_speed_of (road Kind.Freeway Way.Estimated 75000 120 0 0 Median.Divided 0)) (2 ∷ 3 ∷ 4 ∷ 5 ∷ []))
     (71400 ∷ 72600 ∷ 73800 ∷ 74400 ∷ [])
-    ∷ fact (map (free_flow_speed_of (road Kind.Multilane Way.Estimated 70000 100 0 0 Median.Divided 200)) (2 ∷ 3 ∷ [])) (48000 ∷ 49500 ∷ [])
+    ∷ fact (map (free_flow_speed_of (road Kind.Multilane Way.Estimated 70000 100 0 0 Median.Divided 200)) (2 ∷ 3 ∷ []))
+    (48000 ∷ 49500 ∷ [])
     ∷ fact (free_flow_speed_of (road Kind.Freeway Way.Given 60000 100 0 0 Median.Divided 48) 2 ∷ [])
     (60000 ∷ [])
     ∷ fact (free_flow_speed_of (road Kind.Multilane Way.Given 60000 100 0 0 Median.Undivided 200) 2 ∷ [])

@@ -1,5 +1,5 @@
--- Roads and cases by their fields, in the order of a line (document 01, "Lines", and document 02, T-03); a case with one field changed, and
--- cases of the same road ("Flow, letter, service volume, lanes").
+-- Roads and cases by their fields, in the order of a line (document 01, "Lines", and document 02, T-03); a
+-- case with one field changed, and cases of the same road ("Flow, letter, service volume, lanes").
 use Rattle.std.specs.Prelude.{◌≡◌, ℕ}
 use Rattle.curve.specs.declared.kind.Kind.{Kind}
 use Rattle.curve.specs.declared.Weather.{Weather}
@@ -10,8 +10,8 @@ use Rattle.road.specs.declared.Road.{Road}
 use Rattle.road.specs.declared.Case.{Case}
 
 -- the road with these fields
--- "kind F or M; E or G; speed; width; right clearance; left clearance; median U, D or T; ramps in six miles (F) or access points per mile
--- (M)"
+-- "kind F or M; E or G; speed; width; right clearance; left clearance; median U, D or T; ramps in six miles
+-- (F) or access points per mile (M)"
 abbrev pub road : Kind → Way → (speed width right left : ℕ) → Median → (access : ℕ) → Road
 road kind way speed width right left median access =
     record {
@@ -60,7 +60,7 @@ with_weather case weather =
     loaded case.road case.lanes case.demand case.peak_hour_factor case.heavy_share case.terrain weather
 
 -- c and d are of the same road
--- "Two cases are of the same road when they agree in kind, way (E or G), speed, width, both clearances, median and ramps or access":
--- these are the fields of a road, and the weather is none of them
+-- "Two cases are of the same road when they agree in kind, way (E or G), speed, width, both clearances,
+-- median and ramps or access": these are the fields of a road, and the weather is none of them
 abbrev pub SameRoad : Case → Case → Type 0
 SameRoad c d = c.road ≡ d.road

@@ -1,5 +1,5 @@
--- Interpolation over a row of a table (document 02, T-02). The row's entries are `step` tenths of a foot apart, and x is counted in tenths
--- from the first of them.
+-- Interpolation over a row of a table (document 02, T-02). The row's entries are `step` tenths of a foot
+-- apart, and x is counted in tenths from the first of them.
 use Rattle.std.specs.Prelude.{ℕ, ◌+◌, ◌*◌, ◌-◌, ◌/◌, ◌%◌, List, get_or}
 use Rattle.numbers.specs.Division.{div_up}
 
@@ -12,7 +12,8 @@ unfoldable pub entry_after : List ℕ → ℕ → ℕ → ℕ
 entry_after row step x = get_or row (div_up x step) 0
 
 -- step times the height at x of the straight line between the two
--- Through y0 at x0 and y1 at x0 + step, the straight line has at x the y with step × y = y0 × (x0 + step − x) + y1 × (x − x0).
+-- Through y0 at x0 and y1 at x0 + step, the straight line has at x the y with step × y = y0 × (x0 + step − x)
+-- + y1 × (x − x0).
 unfoldable pub weighted_sum : List ℕ → ℕ → ℕ → ℕ
 weighted_sum row step x =
     let past = x % step in entry_before row step x * (step - past) + entry_after row step x * past

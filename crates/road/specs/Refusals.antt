@@ -1,4 +1,5 @@
--- Refusals 1 to 9 and 19 in their order (document 01, "Refused, by who can cause it", and document 02, T-03 and T-09).
+-- Refusals 1 to 9 and 19 in their order (document 01, "Refused, by who can cause it", and document 02, T-03
+-- and T-09).
 use Rattle.std.specs.Prelude.{ℕ, ◌≡◌, Bool, true, false, ◌||◌, List, [], ◌∷◌, ◌++◌, nat_lt}
 use Rattle.refusals.specs.Refusals.{Condition, refuses, first_refusal, outside}
 use Rattle.curve.specs.declared.kind.Kind.{Kind}
@@ -23,7 +24,8 @@ most_access Kind.Freeway = 48
 most_access Kind.Multilane = 200
 
 -- the greatest demand that 7 lets pass
--- "V may reach 999,999"; "The service volumes, the lanes question and demand 3 range over the longer interval"
+-- "V may reach 999,999"; "The service volumes, the lanes question and demand 3 range over the longer
+-- interval"
 abbrev pub greatest_demand : ℕ
 greatest_demand = 999999
 
@@ -35,8 +37,8 @@ weather_unfit kind weather =
     || outside (lowest_factor kind) 1000 weather.capacity_factor
 
 -- 1 to 5, of the road's fields
--- "1 speed not 30,000 to 90,000; 2 width not 100 to 200; 3 a clearance above 400; 4 median other than D on kind F;
--- 5 ramps above 48 or access above 200"
+-- "1 speed not 30,000 to 90,000; 2 width not 100 to 200; 3 a clearance above 400; 4 median other than D on
+-- kind F; 5 ramps above 48 or access above 200"
 unfoldable pub road_refusals : Road → List Condition
 road_refusals road =
     refuses 1 (outside 30000 90000 road.speed)

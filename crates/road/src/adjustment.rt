@@ -33,7 +33,8 @@ fn total_clearance_row(lanes: u64) -> &'static [Speed; 7]
     if lanes <= 2 { &TWO_LANES } else { &THREE_LANES }
 }
 
-/// For a total clearance that is so many tenths short of 12 feet: an entry of the row, and its part of the rise to the next.
+/// For a total clearance that is so many tenths short of 12 feet: an entry of the row, and its part of the
+/// rise to the next.
 #[tactic(auto, using(crate::proofs::AdjustmentLaws::line_laws))]
 fn missing_clearance_adjustment(lanes: u64, missing: Length) -> Speed
     requires { missing ≤ 120 }

@@ -38,7 +38,8 @@ pub enum Terrain {
     Rolling,
 }
 
-/// A road in one direction: what is equal on the same road. Any number may stand in a field; refusals 1 to 5 say which are fit.
+/// A road in one direction: what is equal on the same road. Any number may stand in a field; refusals 1 to 5
+/// say which are fit.
 #[derive(Clone, Copy, PartialEq, Eq)]
 pub struct Road {
     pub kind: Kind,
@@ -53,7 +54,8 @@ pub struct Road {
     pub access: u64,
 }
 
-/// A road with its lanes, its load and the weather. Any number may stand in a field; refusals 1 to 10 and 19 say which are fit.
+/// A road with its lanes, its load and the weather. Any number may stand in a field; refusals 1 to 10 and 19
+/// say which are fit.
 #[derive(Clone, Copy, PartialEq, Eq)]
 pub struct Case {
     pub road: Road,

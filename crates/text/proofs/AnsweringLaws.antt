@@ -96,7 +96,8 @@ start_of_more old new a b s = record {
   appended = s.appended;
 }
 
--- of an input some bytes were read, what is held stands for them, and what is printed for the others was appended
+-- of an input some bytes were read, what is held stands for them, and what is printed for the others was
+-- appended
 pub record Underway (t : LineTexts) (input left old new : Option (List ℕ)) (held : List ℕ) : Type 0 where
   pub bytes : List ℕ
   pub out : List ℕ

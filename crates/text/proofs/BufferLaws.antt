@@ -1,4 +1,5 @@
--- Text, or numbers as they are, in a lent buffer, piece by piece (specs/Buffer). A byte of a law may be any number.
+-- Text, or numbers as they are, in a lent buffer, piece by piece (specs/Buffer). A byte of a law may be any
+-- number.
 use Rattle.std.proofs.Common.{◌≡◌, ℕ, suc, ◌+◌, ◌-◌, ◌<◌, List, [], ◌∷◌, ◌++◌, length, set, take, drop, refl, sym, ap, ◌∙◌, append_assoc, append-nil, length-append, length-drop, drop-cons, drop-drop, arith}
 use Rattle.std.proofs.lemmas.List.{take_at, take_rest, drop_at, set_at, drop_all, length_push}
 use borrow.Rule.Slice.PartMut.{mid_of, put_mid}

@@ -182,7 +182,8 @@ module _ (t : LineTexts) where
             (same-texts (r ++ p) (cut ++ p) ps (omega (arith, length-append r p))
             (omega (arith, length-append cut p, long (omega arith))))
 
-    -- what is carried over stands for the bytes that it is cut from: these are whole where a newline or few bytes are left
+    -- what is carried over stands for the bytes that it is cut from: these are whole where a newline or few
+    -- bytes are left
     cut-law : (r f : List ℕ) → output_of t (r ++ f) ≡ output_of t (cut_off (suc t.longest_line) r ++ f)
     unfolding cut_off
     cut-law r f =

@@ -1,5 +1,5 @@
--- What a program that answers an input line by line has appended to its output. What a reader has left and what
--- a writer holds, where it is known, is in std's words.
+-- What a program that answers an input line by line has appended to its output. What a reader has left and
+-- what a writer holds, where it is known, is in std's words.
 use Rattle.std.specs.Prelude.{ℕ, ◌≡◌, ◌⊎◌, Option, IfSome, List, [], ◌∷◌, ◌++◌}
 use Rattle.std.specs.Io.KnownBytes.{Appends, Consumes}
 use Rattle.text.specs.Bytes.{newline}

@@ -1,4 +1,5 @@
--- The bytes of an input that are held: which lines are answered, what is carried over, what is held for what was read.
+-- The bytes of an input that are held: which lines are answered, what is carried over, what is held for what
+-- was read.
 use Rattle.std.specs.Prelude.{ℕ, suc, ◌≡◌, ◌<◌, ◌⊎◌, ◌+◌, ◌-◌, if◌then◌else◌, List, [], ◌∷◌, ◌++◌, nat_lt, length, take, drop}
 use Rattle.text.specs.Bytes.{newline}
 use Rattle.text.specs.Parts.{parts, count_before}

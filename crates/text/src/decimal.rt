@@ -13,7 +13,8 @@ fn digit_count(n: u64) -> usize
 }
 
 /// Writes a number to the start of a buffer that has room for it; answers how many bytes it wrote.
-/// Its digits come from the last to the first, as the divisions leave them: `los` takes 2 % longer with a `for` over the places.
+/// Its digits come from the last to the first, as the divisions leave them: `los` takes 2 % longer with a
+/// `for` over the places.
 #[tactic(auto, using(crate::proofs::RowLaws::filling))]
 pub fn put_number(n: u64, out: &mut [u8]) -> usize
     requires { length (decimal n) ≤ length out.old }
@@ -31,7 +32,8 @@ pub fn put_number(n: u64, out: &mut [u8]) -> usize
     count
 }
 
-/// Writes each number of a slice after a tab to the start of a buffer that has room for them; answers how many bytes it wrote.
+/// Writes each number of a slice after a tab to the start of a buffer that has room for them; answers how
+/// many bytes it wrote.
 #[tactic(auto, using(crate::proofs::RowLaws::pieces))]
 pub fn put_figures(figures: &[u64], out: &mut [u8]) -> usize
     requires { length (figures_text figures.now) ≤ length out.old }
@@ -46,8 +48,8 @@ pub fn put_figures(figures: &[u64], out: &mut [u8]) -> usize
     count
 }
 
-/// Writes a byte, each number after a tab, and a newline to the start of a buffer that has room for them; answers how many bytes it
-/// wrote.
+/// Writes a byte, each number after a tab, and a newline to the start of a buffer that has room for them;
+/// answers how many bytes it wrote.
 #[tactic(auto, using(crate::proofs::RowLaws::pieces))]
 pub fn put_row(first: u8, figures: &[u64], out: &mut [u8]) -> usize
     requires { length (row_text first figures.now) ≤ length out.old }

@@ -1,4 +1,5 @@
-//! Text: numbers written into a lent buffer, in decimal or as they are; an input of which a part is held, and an output.
+//! Text: numbers written into a lent buffer, in decimal or as they are; an input of which a part is held, and
+//! an output.
 
 #![tactic(auto)]
 

@@ -1,4 +1,5 @@
-//! From an input to an output: the bytes held of the input, what is appended to the output, and what stops a program.
+//! From an input to an output: the bytes held of the input, what is appended to the output, and what stops a
+//! program.
 
 ghost use Rattle.std.specs.Prelude.{◌≡◌, ◌≢◌, false, ◌↔◌, ℕ, ◌≤◌, ◌<◌, List, [], ◌++◌, length, take, drop, OnOk, OnErr, IfOk, IfErr};
 ghost use Rattle.std.specs.Io.KnownBytes.{Consumes, IsAtEnd, Keeps, Appends};
@@ -55,8 +56,9 @@ impl Held {
         &self.buffer[..self.count]
     }
 
-    /// Reads a piece behind the bytes held, and tells whether there may be more: nothing read is the end of the input, and nothing
-    /// else is. There has to be room. A read that fails changes nothing; one that a signal interrupts is tried again.
+    /// Reads a piece behind the bytes held, and tells whether there may be more: nothing read is the end of
+    /// the input, and nothing else is. There has to be room. A read that fails changes nothing; one that a
+    /// signal interrupts is tried again.
     pub fn read_more<R: Read>(&mut self, input: &mut R) -> Result<bool, Stop>
         requires { length self.old < HELD }
         ensures piece { OnOk result ((piece : List ℕ) × (self.new ≡ self.old ++ piece)
@@ -72,8 +74,8 @@ impl Held {
         Ok(0 < n)
     }
 
-    /// Lets go of the bytes before `from`. Where more than `kept` are left, and no newline among them, only `kept` stay: enough
-    /// to tell that a line is too long.
+    /// Lets go of the bytes before `from`. Where more than `kept` are left, and no newline among them, only
+    /// `kept` stay: enough to tell that a line is too long.
     pub fn carry_over(&mut self, from: usize, kept: usize)
         requires { from ≤ length self.old }
         ensures { self.new ≡ cut_off kept (drop from self.old) }
@@ -129,8 +131,8 @@ fn move_to_start(held: &mut [u8], from: usize, kept: usize) -> usize
     n
 }
 
-/// Appends bytes to an output. Where that fails, a start of them was appended, and nothing twice. A write that a signal interrupts
-/// is tried again.
+/// Appends bytes to an output. Where that fails, a start of them was appended, and nothing twice. A write
+/// that a signal interrupts is tried again.
 pub fn write_whole<W: Write>(output: &mut W, bytes: &[u8]) -> Result<(), Stop>
     ensures whole { OnOk result (Appends (W.contents output.old) (W.contents output.new) bytes.now) }
     ensures start { OnErr result (AppendsAStart (W.contents output.old) (W.contents output.new) bytes.now) }

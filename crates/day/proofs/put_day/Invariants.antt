@@ -1,4 +1,5 @@
--- The loop of `day::put_day`: each turn writes the answer with one demand behind those before it, and there is room for the rest.
+-- The loop of `day::put_day`: each turn writes the answer with one demand behind those before it, and there
+-- is room for the rest.
 use Rattle.std.proofs.Common.{◌+◌, ◌-◌, ◌*◌, ◌≤◌, length, take}
 use Rattle.text.specs.Buffer.{Wrote}
 use Rattle.day.specs.Days.{figure_count, day_figures}

@@ -1,4 +1,5 @@
--- `forecast::evaluate_forecast` meets its contract: a refusal is passed on, and the two ends have the best and the worst outcome.
+-- `forecast::evaluate_forecast` meets its contract: a refusal is passed on, and the two ends have the best
+-- and the worst outcome.
 use Rattle.std.proofs.Common.{sym}
 use Rattle.refusals.specs.Refusals.{first_refusal}
 use Rattle.refusals.proofs.NumberLaws.{ok_unless-err}

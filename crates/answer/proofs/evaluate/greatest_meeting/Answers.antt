@@ -1,5 +1,5 @@
--- `answer::evaluate::greatest_meeting` meets its contract: the halving keeps a demand that passes below one that fails or is past the
--- end, until they are neighbours, and counts what it tries.
+-- `answer::evaluate::greatest_meeting` meets its contract: the halving keeps a demand that passes below one
+-- that fails or is past the end, until they are neighbours, and counts what it tries.
 use Rattle.std.proofs.Common.{sym, ◌∙◌, arith}
 use Rattle.numbers.proofs.SearchLaws.{greatest-le}
 use Rattle.numbers.proofs.HalvingLaws.{tried_up_to-steps, middle-half, halved-start, halved-passes, halved-fails, halved-done}

@@ -1,4 +1,5 @@
--- `daily::DailyGrade::put_figures` meets its contract: the eleven figures of the grade, and the daily volumes behind them.
+-- `daily::DailyGrade::put_figures` meets its contract: the eleven figures of the grade, and the daily volumes
+-- behind them.
 use Rattle.text.proofs.BufferLaws.{then}
 use Rattle.daily.proofs.DailyGrade.put_figures.Goals as goal
 

@@ -1,4 +1,5 @@
--- `daily::promises::instances` meets its contract: the instances are shown in proofs/Computed and proofs/Instances.
+-- `daily::promises::instances` meets its contract: the instances are shown in proofs/Computed and
+-- proofs/Instances.
 use Rattle.daily.proofs.Instances.{no-traffic-meets-a, instances-shown}
 use Rattle.daily.proofs.Computed.{hourly-shown, refusals-shown}
 use Rattle.daily.proofs.promises.instances.Goals as goal

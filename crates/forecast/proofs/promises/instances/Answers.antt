@@ -1,4 +1,5 @@
--- `forecast::promises::instances` meets its contract: the instances are shown in proofs/Computed and proofs/Instances.
+-- `forecast::promises::instances` meets its contract: the instances are shown in proofs/Computed and
+-- proofs/Instances.
 use Rattle.forecast.proofs.Instances.{letter-between, target-kept, target-missed, instances-shown}
 use Rattle.forecast.proofs.Computed.{computed-shown, refusals-shown}
 use Rattle.forecast.proofs.promises.instances.Goals as goal

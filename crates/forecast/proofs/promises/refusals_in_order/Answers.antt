@@ -1,4 +1,5 @@
--- `forecast::promises::refusals_in_order` meets its contract: the theorems are proved in proofs/PromiseLaws and proofs/RefusedExactly.
+-- `forecast::promises::refusals_in_order` meets its contract: the theorems are proved in proofs/PromiseLaws
+-- and proofs/RefusedExactly.
 use Rattle.forecast.proofs.PromiseLaws.{accepted-exactly, refusals-in-order}
 use Rattle.forecast.proofs.RefusedExactly.{refused-exactly}
 use Rattle.forecast.proofs.promises.refusals_in_order.Goals as goal

@@ -1,5 +1,5 @@
--- `replies::block::answer_block` meets its contract: the lines answered so far, and what is left to do, are the lines that the block's turn
--- answers.
+-- `replies::block::answer_block` meets its contract: the lines answered so far, and what is left to do, are
+-- the lines that the block's turn answers.
 use Rattle.std.proofs.Common.{◌≡◌, drop, eqb, position, rules, tests, sym, ◌∙◌, arith}
 use Rattle.std.proofs.lemmas.Iterator.{YieldsList-from_slice}
 use Rattle.std.proofs.lemmas.Iterator.Search.{position_from_yields_List}

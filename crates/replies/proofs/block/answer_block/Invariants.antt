@@ -1,5 +1,5 @@
--- The loop of `replies::block::answer_block`: the lines answered so far, and what is left to do, are the lines that the block's turn
--- answers.
+-- The loop of `replies::block::answer_block`: the lines answered so far, and what is left to do, are the
+-- lines that the block's turn answers.
 use Prim.Native.Nat.{◌-◌}
 use lib.ListN.{length}
 use Rattle.text.proofs.BlockLaws.{Answering}

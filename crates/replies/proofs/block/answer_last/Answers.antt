@@ -1,4 +1,5 @@
--- `replies::block::answer_last` meets its contract: no newline is held, so what is held is one line, or none where it is empty.
+-- `replies::block::answer_last` meets its contract: no newline is held, so what is held is one line, or none
+-- where it is empty.
 use Rattle.text.proofs.BlockLaws.{last-none}
 use Rattle.replies.specs.Output.{line_texts}
 use Rattle.replies.proofs.block.answer_last.Goals as goal

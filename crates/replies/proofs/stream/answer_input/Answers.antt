@@ -1,5 +1,5 @@
--- `replies::stream::answer_input` meets its contract: at each turn, what is held stands for what was read, and what is
--- printed for the rest was appended.
+-- `replies::stream::answer_input` meets its contract: at each turn, what is held stands for what was read,
+-- and what is printed for the rest was appended.
 use Rattle.std.proofs.Common.{◌++◌, refl, arith}
 use Rattle.std.proofs.lemmas.Result.{err_from_is_err_and, on_ok_weaker, on_err_weaker}
 use Rattle.std.proofs.KnownBytes.{Keeps-refl}

@@ -1,4 +1,5 @@
--- The loop of `replies::stream::answer_input`: what is held stands for what was read, and no newline is in it.
+-- The loop of `replies::stream::answer_input`: what is held stands for what was read, and no newline is in
+-- it.
 use Rattle.std.proofs.Common.{◌+◌, ◌≤◌, length}
 use Rattle.text.specs.Held.{IsHalfLine}
 use Rattle.text.proofs.AnsweringLaws.{Underway}

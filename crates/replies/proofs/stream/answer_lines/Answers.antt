@@ -1,4 +1,5 @@
--- `replies::stream::answer_lines` meets its contract: each turn's answers are appended, and what it carries over stands for what was held.
+-- `replies::stream::answer_lines` meets its contract: each turn's answers are appended, and what it carries
+-- over stands for what was held.
 use Rattle.std.proofs.Common.{◌≡◌, ℕ, List, ◌++◌, length, sym, ap, subst, ◌∙◌, append-nil}
 use Rattle.std.proofs.lemmas.List.{nil_from_length}
 use Rattle.std.proofs.lemmas.Result.{err_from_is_err_and}

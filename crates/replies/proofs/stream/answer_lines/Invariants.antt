@@ -1,4 +1,5 @@
--- The loop of `replies::stream::answer_lines`: what is held stands for what was, and what is printed for the rest was appended.
+-- The loop of `replies::stream::answer_lines`: what is held stands for what was, and what is printed for the
+-- rest was appended.
 use Rattle.std.proofs.Common.{ℕ, List, length}
 use Rattle.std.specs.Io.KnownBytes.{Appends}
 use Rattle.text.specs.Held.{StandsFor}

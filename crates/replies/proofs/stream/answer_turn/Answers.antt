@@ -1,5 +1,5 @@
--- `replies::stream::answer_turn` meets its contract: where nothing is answered, no whole line is left, and 81 bytes at
--- most are carried over.
+-- `replies::stream::answer_turn` meets its contract: where nothing is answered, no whole line is left, and 81
+-- bytes at most are carried over.
 use Rattle.std.proofs.Common.{◌≡◌, length, drop, ap, ◌∙◌, arith}
 use Rattle.text.specs.Stream.{texts}
 use Rattle.text.specs.Held.{answered, size, cut_off, carried}

@@ -1,4 +1,5 @@
--- `text::decimal::put_figures` meets its contract: each turn writes a tab and a number behind what the figures before it took.
+-- `text::decimal::put_figures` meets its contract: each turn writes a tab and a number behind what the
+-- figures before it took.
 use mathlib.Core.List.{flat_map}
 use Rattle.std.proofs.Common.{arith}
 use Rattle.text.specs.Decimal.{figures_text}

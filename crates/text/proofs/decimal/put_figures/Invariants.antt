@@ -1,4 +1,5 @@
--- The loop of `text::decimal::put_figures`: each turn writes a tab and a number behind what the figures before it took.
+-- The loop of `text::decimal::put_figures`: each turn writes a tab and a number behind what the figures
+-- before it took.
 use Rattle.std.proofs.Common.{take}
 use Rattle.text.specs.Decimal.{figures_text}
 use Rattle.text.specs.Buffer.{Wrote}

@@ -1,4 +1,5 @@
--- `text::decimal::put_number` meets its contract: the digits behind those of the rest are written, and then its one digit.
+-- `text::decimal::put_number` meets its contract: the digits behind those of the rest are written, and then
+-- its one digit.
 use Rattle.std.proofs.Common.{arith}
 use Rattle.text.proofs.RowLaws.{all-filled}
 use Rattle.text.proofs.decimal.put_number.Goals as goal

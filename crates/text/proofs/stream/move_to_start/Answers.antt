@@ -1,4 +1,5 @@
--- `text::stream::move_to_start` meets its contract: what is kept is moved to the start, and nothing else is changed.
+-- `text::stream::move_to_start` meets its contract: what is kept is moved to the start, and nothing else is
+-- changed.
 use Rattle.std.proofs.Common.{◌≡◌, ◌+◌, ◌-◌, drop, zero-add, arith}
 use Rattle.std.proofs.lemmas.List.{take_rest}
 use Rattle.text.proofs.CarryLaws.{cut-is}

@@ -1,4 +1,5 @@
--- `curve::speed::CurveTerms::exact_speed` meets its contract: it is the speed of proofs/TermsLaws, whose value is S.
+-- `curve::speed::CurveTerms::exact_speed` meets its contract: it is the speed of proofs/TermsLaws, whose
+-- value is S.
 use Rattle.curve.proofs.TermsLaws.{terms-exact}
 use Rattle.curve.proofs.speed.CurveTerms.exact_speed.Goals as goal
 

@@ -1,4 +1,5 @@
--- `lines::field::Fields::in_clear_weather` meets its contract where the heavy share is malformed: what stands before it was read.
+-- `lines::field::Fields::in_clear_weather` meets its contract where the heavy share is malformed: what stands
+-- before it was read.
 use Rattle.std.proofs.Common.{Some, ◌++◌, ap, ◌∙◌, take, drop}
 use Rattle.lines.specs.Fields.{layout, joined}
 use Rattle.lines.specs.ReadSoFar.{road_values, before}

@@ -1,4 +1,5 @@
--- `lines::field::Fields::letter` meets its contract: the first field is one byte, with a tab behind it or nothing, or it is not.
+-- `lines::field::Fields::letter` meets its contract: the first field is one byte, with a tab behind it or
+-- nothing, or it is not.
 use Rattle.std.proofs.Common.{◌≡◌, arith, sym}
 use Rattle.text.specs.Bytes.{tab}
 use Rattle.text.specs.Parts.{count_before}

@@ -1,5 +1,5 @@
--- `lines::field::Fields::number_up_to` meets its contract: the loop stops at a byte that is no digit or is one too many, or behind the
--- field's last.
+-- `lines::field::Fields::number_up_to` meets its contract: the loop stops at a byte that is no digit or is
+-- one too many, or behind the field's last.
 use Rattle.std.proofs.Common.{◌≡◌, ◌<◌, sym, get_or, length, arith, ⊎_elim, inl, inr, ℕ, Bool, true, false, cond, not, Some, None, refl}
 use Rattle.std.specs.Bool.{then_some}
 use Rattle.text.specs.Bytes.{tab}

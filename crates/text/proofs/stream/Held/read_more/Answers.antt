@@ -1,4 +1,5 @@
--- `text::stream::Held::read_more` meets its contract: what is held is followed by the start of what was lent to the read.
+-- `text::stream::Held::read_more` meets its contract: what is held is followed by the start of what was lent
+-- to the read.
 use Rattle.std.proofs.Common.{◌≡◌, ℕ, ◌+◌, ◌-◌, ◌≤◌, List, ◌++◌, length, take, drop, ap, ◌∙◌, le_refl, length-take-le, drop_at, arith}
 use Rattle.std.proofs.lemmas.Slice.{take-put_mid_below}
 use borrow.Rule.Slice.PartMut.{put_mid, post_of}
