@@ -21,8 +21,8 @@ answered line old = content (answer_call line (length old)) old
 abbrev pub letter_written : List ℕ → List ℕ → ℕ
 letter_written line old = get_or (answered line old) 0 0
 
--- c has no more load than d
--- no more demand, no greater share, no harder terrain, no lower peak-hour factor and no fewer lanes
+-- c has no more load than d: no more demand, no greater share, no harder terrain, no lower peak-hour factor
+-- and no fewer lanes
 abbrev pub NoMoreLoad : Case → Case → Type 0
 NoMoreLoad c d =
     (c.demand ≤ d.demand) × (c.heavy_share ≤ d.heavy_share) × (hardness c.terrain ≤ hardness d.terrain)
