@@ -1,7 +1,7 @@
 //! The lines of an input answered on an output.
 
 ghost use Rattle.std.specs.Prelude.{◌≡◌, ◌≢◌, ℕ, ◌+◌, ◌≤◌, ◌<◌, List, ◌++◌, length, OnOk, OnErr, IfErr, IsErrOf};
-ghost use Rattle.std.specs.Io.KnownBytes.{Appends, IsAtEnd};
+ghost use Rattle.std.specs.Io.KnownBytes.{Appends};
 ghost use Rattle.text.specs.Buffer.{Wrote};
 ghost use Rattle.text.specs.Stream.{texts, output_of};
 ghost use Rattle.text.specs.Held.{answered, carried, IsHalfLine, StandsFor};
@@ -64,9 +64,8 @@ fn answer_lines<W: Write>(
 /// flushed.
 #[tactic(auto, using(text::proofs::AnsweringLaws::stopped))]
 pub fn answer_input<R: Read, W: Write>(input: &mut R, output: &mut W) -> Result<(), Stop>
-    ensures answered { OnOk result (AnswersInput line_texts (R.remaining input.old)
+    ensures answered { OnOk result (AnswersInput line_texts (R.remaining input.old) (R.remaining input.new)
         (W.contents output.old) (W.contents output.new)) }
-    ensures end { OnOk result (IsAtEnd (R.remaining input.new)) }
     ensures stopped { OnErr result (AnswersAStart line_texts (R.remaining input.old)
         (W.contents output.old) (W.contents output.new)) }
     ensures unread { IsErrOf result Stop.InputUnread → AnswersWholeLines line_texts

@@ -142,10 +142,13 @@ module _ (t : LineTexts) (input left old new : Option (List ℕ)) (held : List �
   all-printed = rw (append-nil u.bytes, append-nil held) at (u.stands.prints [])
 
   -- what is printed for the bytes held was appended at the input's end
-  pub ended : (new' : Option (List ℕ)) → IsAtEnd left → Appends new new' (output_of t held) → AnswersInput t input old new'
-  ended new' e a =
-      Consumes-whole input left u.bytes (λ bytes. Appends old new' (output_of t bytes)) u.read e
-      (rw all-printed (Appends-trans old new new' u.out (output_of t held) u.appended a))
+  pub ended : (new' : Option (List ℕ)) → IsAtEnd left → Appends new new' (output_of t held) → AnswersInput t input left old new'
+  ended new' e a = record {
+    bytes = u.bytes;
+    read = u.read;
+    ended = e;
+    appended = rw all-printed (Appends-trans old new new' u.out (output_of t held) u.appended a);
+  }
 
   -- a start of it was appended there
   pub ended-early : (new' : Option (List ℕ)) → IsAtEnd left → AppendsAStart new new' (output_of t held) → AnswersAStart t input old new'

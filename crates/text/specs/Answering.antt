@@ -1,7 +1,7 @@
 -- What a program that answers an input line by line has appended to its output. What a reader has left and
 -- what a writer holds, where it is known, is in std's words.
 use Rattle.std.specs.Prelude.{ℕ, ◌≡◌, ◌⊎◌, Option, IfSome, List, [], ◌∷◌, ◌++◌}
-use Rattle.std.specs.Io.KnownBytes.{Appends, Consumes}
+use Rattle.std.specs.Io.KnownBytes.{Appends, Consumes, IsAtEnd}
 use Rattle.text.specs.Bytes.{newline}
 use Rattle.text.specs.Held.{IsHalfLine}
 use Rattle.text.specs.Stream.{LineTexts, output_of}
@@ -17,11 +17,14 @@ pub record AppendsAStart (old new : Option (List ℕ)) (bytes : List ℕ) : Type
 abbrev pub IsWholeLines : List ℕ → Type 0
 IsWholeLines bytes = (bytes ≡ []) ⊎ ((front : List ℕ) × (bytes ≡ front ++ newline ∷ []))
 
--- the texts of the input's lines were appended
-abbrev pub AnswersInput : LineTexts → Option (List ℕ) → Option (List ℕ) → Option (List ℕ) → Type 0
-AnswersInput t input old new = IfSome input (λ bytes. Appends old new (output_of t bytes))
+-- all of the input was read, and the texts of its lines were appended
+pub record AnswersInput (t : LineTexts) (input left old new : Option (List ℕ)) : Type 0 where
+  pub bytes : List ℕ
+  pub read : Consumes input left bytes
+  pub ended : IsAtEnd left
+  pub appended : Appends old new (output_of t bytes)
 
--- a start of them was appended
+-- a start of the texts of the input's lines was appended
 abbrev pub AnswersAStart : LineTexts → Option (List ℕ) → Option (List ℕ) → Option (List ℕ) → Type 0
 AnswersAStart t input old new = IfSome input (λ bytes. AppendsAStart old new (output_of t bytes))
 
