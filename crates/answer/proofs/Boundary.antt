@@ -32,6 +32,7 @@ use Rattle.road.proofs.Boundary.{ramp-6, ramp-24}
 use Rattle.answer.specs.Volumes.{meets, service_volume}
 use Rattle.answer.specs.Answers as answers
 use Rattle.answer.specs.Answers.{graded, answer_to}
+use Rattle.answer.specs.Lanes as lanes
 use Rattle.answer.specs.Lanes.{lanes_found, lanes_refusals, lanes_answer}
 use Rattle.answer.specs.Search.{demand_meets}
 use Rattle.answer.specs.SearchOrder.{eight_lanes}
@@ -252,6 +253,10 @@ unfolding in_order refusal_of div_up least_from least weather_unfit road_refusal
     breakpoint adjusted_capacity adjusted_breakpoint curve_under curve_of heavy_factor_of flow_rate_of fall_share_by speed shown_speed density
     shown_density density_limit density_letter letter_at performance measures meets lanes_found lanes_refusals
 estimated-shown = simp (estimated-speeds.0, estimated-speeds.1, estimated-speeds.2)
+
+-- with V = 2,643 it is three
+pub three-at-2643 : lanes.lanes_figures (lanes_answer (example_with 2643) 3) ≡ 3 ∷ []
+three-at-2643 = ap (drop 1) lanes-shown.1
 
 -- with V = 999,999 no count of the printed case meets C
 pub none-at-999999 : refusal_number (lanes_answer (example_with 999999) 3) ≡ 14

@@ -45,7 +45,7 @@ unfolding div_up weather_unfit road_refusals load_refusals field_refusals adjust
     density_limit density_letter letter_at performance measures graded
 letters = (simp example-speeds.1, simp example-speeds.0)
 
-heavier-accepted : Accepted (example_with 2643)
+pub heavier-accepted : Accepted (example_with 2643)
 heavier-accepted = accepted-with_demand example 2643 example-accepted (omega arith)
 
 pub no-better-letter-under-more-load : NoBetterLetterUnderMoreLoad

@@ -30,7 +30,7 @@ use Rattle.answer.specs.Volumes.{meets, service_volume}
 use Rattle.answer.specs.Answers.{graded}
 use Rattle.answer.specs.Lanes.{lanes_meet, lanes_found, count_refusals, lanes_refusals, lanes_answer, lanes_figures}
 use Rattle.answer.specs.Search.{demand_meets}
-use Rattle.answer.specs.Laws.{FiguresWithinEnds, RefusalsWithinEnds, RefusalsReachEnds, LanesRefusalsInOrder}
+use Rattle.answer.specs.Laws.{FiguresWithinEnds, RefusedByTheList, RefusalsWithinEnds, RefusalsReachEnds, LanesRefusalsInOrder}
 use Rattle.answer.specs.Laws.{LanesRefusedAsTheCase, NothingBut14RefusesFitFields, CountsAreDigits, VolumesUpToAnyEnd}
 use Rattle.answer.proofs.VolumeLaws.{case_meets, case_meets-zero, meets-demand, service_volume-eq}
 use Rattle.answer.proofs.AnswerLaws.{answer_to-accepted, answer_to-number}
@@ -126,6 +126,9 @@ lanes_refusals-le case n = first_refusal-le 19 (lanes_refusals case n) tt
 pub lanes_answer-number : (case : Case) (n : ℕ) → refusal_number (lanes_answer case n) ≡ first_refusal (lanes_refusals case n)
 lanes_answer-number case n =
     refusal_number-ok_unless (first_refusal (lanes_refusals case n)) (lanes_found case n) (le_trans (lanes_refusals-le case n) (lit≤ tt))
+
+pub refused-by-the-list : RefusedByTheList
+refused-by-the-list = answer_to-number
 
 pub refusals-within-ends : RefusalsWithinEnds
 refusals-within-ends case n = (

@@ -6,7 +6,7 @@ use Rattle.refusals.specs.Numbers.{refusal_number}
 use Rattle.road.specs.declared.Case.{Case}
 use Rattle.road.specs.Refusals.{greatest_demand, FieldsFit}
 use Rattle.road.specs.Cases.{with_demand}
-use Rattle.method.specs.Refusals.{Accepted}
+use Rattle.method.specs.Refusals.{refusal, Accepted}
 use Rattle.answer.specs.Volumes.{meets, service_volume}
 use Rattle.answer.specs.Answers as answers
 use Rattle.answer.specs.Answers.{answer_to}
@@ -27,11 +27,16 @@ FiguresWithinEnds =
     (case : Case) → Accepted case → AllAtMost (answers.grade_figures (answer_to case)) figure_ends
 
 -- searched for up to any end from 19,200 on, the service volumes are the same
--- so they are the same searched for up to 99,999, the greatest demand before T-09
+-- so they are the same searched for up to 99,999, the greatest demand of before
 abbrev pub VolumesUpToAnyEnd : Type 0
 VolumesUpToAnyEnd =
     (case : Case) (n end : ℕ) → Accepted case → 1 ≤ n → n ≤ 5 → 19200 ≤ end → end ≤ greatest_demand
     → greatest (λ demand. meets (with_demand case demand) n) end ≡ service_volume case n
+
+-- a case is refused with the number of the first of 1 to 9, 19 and 10 that it breaks, and is answered where it
+-- breaks none
+abbrev pub RefusedByTheList : Type 0
+RefusedByTheList = (case : Case) → refusal_number (answer_to case) ≡ refusal case
 
 -- 19, the greatest number with which a case or a lanes question is refused
 abbrev pub last_refusal : ℕ

@@ -45,8 +45,8 @@ abbrev pub hardness : Terrain → ℕ
 hardness Terrain.Level = 0
 hardness Terrain.Rolling = 1
 
--- if d has no less load than c, it does not get the better letter
--- no less demand, no smaller share, no easier terrain, no higher peak-hour factor and no more lanes
+-- if d has no less load than c, it does not get the better letter: no less demand, no smaller share, no
+-- easier terrain, no higher peak-hour factor and no more lanes
 abbrev pub HeavierIsNoBetter : Case → Case → Type 0
 HeavierIsNoBetter c d =
     c.demand ≤ d.demand
@@ -61,7 +61,6 @@ HeavierIsNoBetter c d =
 abbrev pub LanesComparable : Case → Case → Type 0
 LanesComparable c d = (c.weather ≡ clear) ⊎ (c.road.way ≡ Way.Given) ⊎ (c.lanes ≡ d.lanes)
 
--- part 1
 -- Part 1. Of two accepted cases of the same road under one weather, where lanes are comparable, the one with
 -- no less load never gets the better letter.
 abbrev pub NoBetterUnderMoreLoad : Type 0
@@ -69,14 +68,12 @@ NoBetterUnderMoreLoad =
     (c d : Case) → Accepted c → Accepted d → SameRoad c d → c.weather ≡ d.weather → LanesComparable c d
     → HeavierIsNoBetter c d
 
--- what part 1 says of clear weather, whatever the lanes
 -- In clear weather it is part 1 as document 01 asks it, whatever the lanes.
 abbrev pub NoBetterInClearWeather : Type 0
 NoBetterInClearWeather =
     (c d : Case) → Accepted c → Accepted d → SameRoad c d → c.weather ≡ clear → d.weather ≡ clear
     → HeavierIsNoBetter c d
 
--- part 2
 -- Part 2. A demand meets a letter, A to E, exactly when it is at most the service volume that the answer to
 -- the case gives.
 abbrev pub MeetsUpToTheServiceVolume : Type 0
@@ -84,7 +81,6 @@ MeetsUpToTheServiceVolume =
     (c : Case) → Accepted c → (n : ℕ) → 1 ≤ n → n ≤ 5 → (demand : ℕ) → demand ≤ greatest_demand
     → Meets (with_demand c demand) n ↔ (demand ≤ volume_in (answer_to c) n)
 
--- part 3
 -- Part 3. For a letter number from 1 to 5 and a case that none of 1 to 9 nor 19 refuses: the lanes question
 -- answers a count exactly when the count is accepted, meets the letter, and no smaller accepted count does;
 -- and it answers 14 exactly when no accepted count does.

@@ -8,7 +8,7 @@ ghost use Rattle.answer.specs.Instances.{NoBetterLetterInSnowWithFewerLanes, NoB
 ghost use Rattle.answer.specs.Instances.{ServiceVolumeOfTheExample, FirstAndLastServiceVolume, FourLanesForEveryLetter};
 ghost use Rattle.answer.specs.Instances.{NoLanesForTheGreatestDemand, ThreeLanesOnAMultilane, ThreeLanesInSnow};
 ghost use Rattle.answer.specs.Laws.{FiguresWithinEnds, VolumesUpToAnyEnd, RefusalsWithinEnds, RefusalsReachEnds, LanesRefusalsInOrder};
-ghost use Rattle.answer.specs.Laws.{LanesRefusedAsTheCase, NothingBut14RefusesFitFields, CountsAreDigits};
+ghost use Rattle.answer.specs.Laws.{LanesRefusedAsTheCase, NothingBut14RefusesFitFields, CountsAreDigits, RefusedByTheList};
 ghost use Rattle.answer.specs.SearchOrder.{NoVolumeAboveTheNext, ExampleVolumesRise, TriesOfALetter, AtMost80Tried, ExampleTried};
 ghost use Rattle.answer.specs.SearchOrder.{EightLanesTried, RefusedTried};
 
@@ -54,6 +54,11 @@ pub fn ends()
     ensures counts { CountsAreDigits }
     ensures refusals { RefusalsWithinEnds }
     ensures reached { RefusalsReachEnds }
+{}
+
+/// A case is refused by the first of 1 to 9, 19 and 10 that it breaks, and answered where it breaks none.
+pub fn refused_by_the_list()
+    ensures { RefusedByTheList }
 {}
 
 /// What refuses the lanes question, and in which order.

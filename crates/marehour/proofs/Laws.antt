@@ -174,11 +174,18 @@ day-case : (line demands : List ℕ) (room : ℕ) (case : Case) → LentFits (le
 day-case line demands room case z e = day-read line demands room z ∙ ap (line_reply (day_reply demands)) e
 
 pub day-hands-back : DayHandsBack
-day-hands-back line demands room = (
-  λ unfit. ⊎_elim (λ z. absurd (unfit z)) (λ p. ap day_result (day-unfit line demands room p)) (eq-zero-or-pos _),
-  λ z r e. ap day_result (day-read line demands room z ∙ ap (line_reply (day_reply demands)) (read_line-refused line r e)),
-  λ z case e. ap day_result (day-case line demands room case z e) ∙ ap pos (day_figures-count case demands),
-)
+day-hands-back line demands old =
+    let both : (reply : Reply) (n : ℕ) → reply ≡ refusal_reply n
+        → (day_result reply ≡ day_result (refusal_reply n)) × (content reply old ≡ content (refusal_reply n) old) =
+        λ reply n e. (ap day_result e, ap (λ r. content r old) e) in (
+      λ unfit. ⊎_elim
+          (λ z. absurd (unfit z))
+          (λ p. both (day_call line demands (length old)) 18 (day-unfit line demands (length old) p))
+          (eq-zero-or-pos _),
+      λ z r e. both (day_call line demands (length old)) 15
+          (day-read line demands (length old) z ∙ ap (line_reply (day_reply demands)) (read_line-refused line r e)),
+      λ z case e. ap day_result (day-case line demands (length old) case z e) ∙ ap pos (day_figures-count case demands),
+    )
 
 pub day-call-is-the-day : DayCallIsTheDay
 day-call-is-the-day line case e demands old =

@@ -20,7 +20,8 @@ use Rattle.answer.specs.Promises.{letter_in, volume_in, Meets}
 use Rattle.answer.specs.Boundary.{example_with}
 use Rattle.method.specs.Boundary.{example}
 use Rattle.road.specs.Refusals.{greatest_demand}
-use Rattle.answer.proofs.Boundary.{example-accepted, example-figures, none-at-999999}
+use Rattle.answer.proofs.Boundary.{example-accepted, example-figures, three-at-2643, none-at-999999}
+use Rattle.answer.proofs.Instances.{heavier-accepted, no-better-letter-under-more-demand}
 use Rattle.answer.proofs.Laws.{found-digit}
 use Rattle.answer.proofs.AnswerLaws.{answer_to-number}
 use Rattle.answer.proofs.PromiseLaws.{no-better-under-more-load, meets-up-to-the-service-volume, least-accepted-count}
@@ -30,7 +31,7 @@ use Rattle.lines.proofs.Laws.{demand-on-a-line}
 use Rattle.lines.proofs.DemandLaws.{tenth-field-is-the-demand}
 use Rattle.replies.specs.Texts.{letter_byte, text_of, answer_text, longest_answer}
 use Rattle.marehour.specs.Calls.{answer_call, lanes_call, count_text, count_reply, lanes_reply, call_result, content}
-use Rattle.marehour.specs.Shape.{answered, letter_written, NoBetterLetterUnderMoreLoad, LineMeets, MeetsUpToTheWrittenVolume}
+use Rattle.marehour.specs.Shape.{answered, letter_written, NoBetterLetterWritten, LineMeets, MeetsUpToTheWrittenVolume}
 use Rattle.marehour.specs.Shape.{LanesDigitIsTheLeastCount, PrintedLineMeetsUpTo2642}
 use Rattle.marehour.proofs.Laws.{answer-hands-back, lanes-hand-back, lanes-read}
 use Rattle.marehour.proofs.Boundary.{line-read}
@@ -94,8 +95,8 @@ module _ (line old : List ℕ) (case : Case) (room : longest_answer ≤ length o
     λ m. (length (text m.0), ((wrote m.0).0, omega (arith, letter-is m.0, m.1))),
   )
 
-pub no-better-letter-under-more-load : NoBetterLetterUnderMoreLoad
-no-better-letter-under-more-load line other old kept c d room more e f ac ad same weather comparable load =
+pub no-better-letter-written : NoBetterLetterWritten
+no-better-letter-written line other old kept c d room more e f ac ad same weather comparable load =
     let mine = letter-is line old c room e (answer_to-number c ∙ ac) in
     let others = letter-is other kept d more f (answer_to-number d ∙ ad) in
     let shape : letter_in (answer_to c) ≤ letter_in (answer_to d) =
@@ -164,9 +165,17 @@ pub printed-line-meets-up-to-2642 : PrintedLineMeetsUpTo2642
 printed-line-meets-up-to-2642 old room =
     let volume : volume_in (answer_to example) 3 ≡ 2642 = ap (λ vs. get_or vs 8 0) example-figures in
     let up-to : (demand : ℕ) → demand ≤ greatest_demand → Meets (with_demand example demand) 3 ↔ (demand ≤ volume_in (answer_to example) 3) =
-    meets-up-to-the-service-volume example example-accepted 3 (lit≤ tt) (lit≤ tt) in (
+    meets-up-to-the-service-volume example example-accepted 3 (lit≤ tt) (lit≤ tt) in
+    let letters = no-better-letter-under-more-demand in
+    let more = bytes_of (printed_line_with "2643" "R") in (
+      letter-is (bytes_of printed_line) old example room line-read (answer_to-number example ∙ example-accepted)
+          ∙ ap letter_byte letters.0,
+      letter-is more old (example_with 2643) room with-2643 (answer_to-number (example_with 2643) ∙ heavier-accepted)
+          ∙ ap letter_byte letters.1,
       (line-meets _ old (example_with 2642) room with-2642 3).1 ((up-to 2642 (lit≤ tt)).1 (omega (arith, volume))),
       λ m. let less = (up-to 2643 (lit≤ tt)).0 ((line-meets _ old (example_with 2643) room with-2643 3).0 m) in
           absurd (omega (arith, volume, less)),
+      rw (lanes-read more old (example_with 2643) 3 room with-2643)
+      ((by-digit (lanes_answer (example_with 2643) 3) old 3 (λ found e. found-digit (example_with 2643) 3 found e)).1 three-at-2643).1,
       (((lanes-hand-back 3 _ old).2 room (example_with 999999) with-999999).0 14 none-at-999999 (lit< tt)).0,
     )

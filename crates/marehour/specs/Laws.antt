@@ -73,16 +73,17 @@ LastRefusalIsReached =
     × (daily_call line urban 4000000001 16 ≡ refusal last_daily_refusal)
     × (forecast_call line (forecast_of 1 0 0 0 1000 1000) 8 ≡ refusal last_forecast_refusal)
 
--- minus 18 where the lent memory does not fit; else minus 15 where the line is malformed; else the count of
--- the demands
+-- minus 18 where the lent memory does not fit; else minus 15 where the line is malformed, and what was lent
+-- stays; else the count of the demands
 abbrev pub DayHandsBack : Type 0
 DayHandsBack =
-    (line demands : List ℕ) (room : ℕ)
-    → ((LentFits (length demands) room → ⊥) → day_result (day_call line demands room) ≡ neg_ℤ (pos 18))
-    × (LentFits (length demands) room → (r : Refusal) → read_line line ≡ Err r
-    → day_result (day_call line demands room) ≡ neg_ℤ (pos 15))
-    × (LentFits (length demands) room → (case : Case) → read_line line ≡ Ok case
-    → day_result (day_call line demands room) ≡ pos (length demands))
+    (line demands old : List ℕ)
+    → let fit = LentFits (length demands) (length old) in
+    let reply = day_call line demands (length old) in
+    ((fit → ⊥) → (day_result reply ≡ neg_ℤ (pos 18)) × (content reply old ≡ old))
+    × (fit → (r : Refusal) → read_line line ≡ Err r
+    → (day_result reply ≡ neg_ℤ (pos 15)) × (content reply old ≡ old))
+    × (fit → (case : Case) → read_line line ≡ Ok case → day_result reply ≡ pos (length demands))
 
 -- a line that is read: the call's result and the lent numbers afterwards are those of the day of its
 -- case

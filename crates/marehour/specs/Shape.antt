@@ -9,7 +9,7 @@ use Rattle.road.specs.Refusals.{FieldsFit}
 use Rattle.method.specs.Refusals.{Accepted}
 use Rattle.answer.specs.Promises.{Meets, AcceptedCount, LanesComparable, hardness}
 use Rattle.lines.specs.Reading.{read_line}
-use Rattle.lines.specs.Boundary.{printed_line_with}
+use Rattle.lines.specs.Boundary.{printed_line, printed_line_with}
 use Rattle.replies.specs.Texts.{letter_byte, longest_answer}
 use Rattle.marehour.specs.Calls.{answer_call, lanes_call, call_result, content}
 
@@ -30,8 +30,8 @@ NoMoreLoad c d =
 
 -- two lines of accepted cases, of the same road under one weather, where lanes are comparable: the one with
 -- no less load is not answered with the better letter
-abbrev pub NoBetterLetterUnderMoreLoad : Type 0
-NoBetterLetterUnderMoreLoad =
+abbrev pub NoBetterLetterWritten : Type 0
+NoBetterLetterWritten =
     (line other old kept : List ℕ) (c d : Case) → longest_answer ≤ length old → longest_answer ≤ length kept
     → read_line line ≡ Ok c → read_line other ≡ Ok d → Accepted c → Accepted d
     → SameRoad c d → c.weather ≡ d.weather → LanesComparable c d → NoMoreLoad c d
@@ -75,10 +75,13 @@ LanesDigitIsTheLeastCount =
     × ((call_result reply ≡ neg_ℤ (pos 14))
     ↔ ((count : ℕ) → AcceptedCount case count → Meets (with_lanes case count) n → ⊥))
 
--- the printed line with 2,642 meets C, with 2,643 it does not, and with 999,999 no lane count does
+-- the printed line is answered C, and with 2,643 D; with 2,642 it meets C, with 2,643 it does not, where C
+-- takes 3 lanes, and with 999,999 no lane count does
 abbrev pub PrintedLineMeetsUpTo2642 : Type 0
 PrintedLineMeetsUpTo2642 =
     (old : List ℕ) → longest_answer ≤ length old
-    → LineMeets (bytes_of (printed_line_with "2642" "R")) old 3
-    × (LineMeets (bytes_of (printed_line_with "2643" "R")) old 3 → ⊥)
+    → let more = bytes_of (printed_line_with "2643" "R") in
+    (letter_written (bytes_of printed_line) old ≡ code "C") × (letter_written more old ≡ code "D")
+    × LineMeets (bytes_of (printed_line_with "2642" "R")) old 3 × (LineMeets more old 3 → ⊥)
+    × (content (lanes_call more 3 (length old)) old ≡ code "3" ∷ newline ∷ drop 2 old)
     × (call_result (lanes_call (bytes_of (printed_line_with "999999" "R")) 3 (length old)) ≡ neg_ℤ (pos 14))

@@ -5,7 +5,7 @@ ghost use Rattle.marehour.specs.Boundary.{boundary_facts};
 ghost use Rattle.marehour.specs.Laws.{RepliesWithinEnds, BufferTooShort, NoDemandIsRefused, LastRefusalIsReached};
 ghost use Rattle.marehour.specs.Laws.{AnswerHandsBack, LanesHandBack, LetterOutsideIsRefused, DailyHandsBack, ForecastHandsBack};
 ghost use Rattle.marehour.specs.Laws.{DayHandsBack, DayCallIsTheDay, PositionIsTheLinesAnswer};
-ghost use Rattle.marehour.specs.Shape.{NoBetterLetterUnderMoreLoad, MeetsUpToTheWrittenVolume, LanesDigitIsTheLeastCount, PrintedLineMeetsUpTo2642};
+ghost use Rattle.marehour.specs.Shape.{NoBetterLetterWritten, MeetsUpToTheWrittenVolume, LanesDigitIsTheLeastCount, PrintedLineMeetsUpTo2642};
 ghost use Rattle.marehour.specs.Tries.{TriesHandBack, TriesOfLines};
 
 /// The shape of the method, over lines and lent buffers. Of two lines of accepted cases, of the same road
@@ -14,7 +14,7 @@ ghost use Rattle.marehour.specs.Tries.{TriesHandBack, TriesOfLines};
 /// question writes the digit of the least accepted count that meets the letter, and is refused with 14
 /// exactly where none does.
 pub fn shape_of_the_calls()
-    ensures letter { NoBetterLetterUnderMoreLoad }
+    ensures letter { NoBetterLetterWritten }
     ensures volume { MeetsUpToTheWrittenVolume }
     ensures lanes { LanesDigitIsTheLeastCount }
     ensures instance { PrintedLineMeetsUpTo2642 }

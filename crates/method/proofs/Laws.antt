@@ -10,11 +10,10 @@ use Rattle.method.specs.Checked.{case_curve}
 use Rattle.method.specs.Flow.{load_of}
 use Rattle.method.specs.Assess.{measures}
 use Rattle.method.specs.Laws.{AcceptedCurveIsWellFormed, MultilaneIsInClearWeather, FlowRateNeverFallsWithLoad, NoDemandGetsA}
-use Rattle.method.specs.Laws.{RefusedByTheList, RefusalsInOrder}
+use Rattle.method.specs.Laws.{RefusalsInOrder}
 use Rattle.method.proofs.RefusalLaws.{accepted-fields}
 use Rattle.method.proofs.CheckedLaws.{case_curve-well_formed, case_curve-sized}
 use Rattle.method.proofs.FlowLaws.{case_flow_rate-mono, case_load-sized, flow_rate_of-zero}
-use Rattle.method.proofs.AssessLaws.{assessment-refusal}
 
 pub accepted-curve-is-well-formed : AcceptedCurveIsWellFormed
 accepted-curve-is-well-formed case a = (case_curve-well_formed case a, case_curve-sized case a)
@@ -31,9 +30,6 @@ unfolding measures performance
 no-demand-gets-a case a e =
     rw (flow_rate_of-zero (load_of case case.lanes) case.demand (case_load-sized case (accepted-fields case a)).divisor-pos e)
     (letter_at-zero (case_curve case) (case_curve-well_formed case a))
-
-pub refused-by-the-list : RefusedByTheList
-refused-by-the-list = assessment-refusal
 
 pub refusals-in-order : RefusalsInOrder
 unfolding road_refusals load_refusals field_refusals speed_refusals refusals

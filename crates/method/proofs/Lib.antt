@@ -2,6 +2,5 @@
 pub mod RefusalLaws
 pub mod CheckedLaws
 pub mod FlowLaws
-pub mod AssessLaws
 pub mod Laws
 pub mod Boundary

@@ -1,11 +1,9 @@
--- What a case gets, or its refusal.
+-- What a case gets.
 use Rattle.std.specs.Prelude.{ℕ, List, [], ◌∷◌, Result, Ok, Err}
 use Rattle.refusals.specs.declared.Refusal.{Refusal}
-use Rattle.refusals.specs.Numbers.{ok_unless}
 use Rattle.curve.specs.Service.{letter_number, performance}
 use Rattle.road.specs.declared.Case.{Case}
 use Rattle.method.specs.declared.accepted.Measures.{Measures}
-use Rattle.method.specs.Refusals.{refusal}
 use Rattle.method.specs.Checked.{case_curve}
 use Rattle.method.specs.Flow.{case_flow_rate}
 
@@ -17,10 +15,6 @@ measures case =
       flow_rate = case_flow_rate case;
       performance = performance (case_curve case) (case_flow_rate case);
     }
-
--- its measures, or the first of 1 to 9, 19 and 10 that refuses it
-abbrev pub assessment : Case → Result Measures Refusal
-assessment case = ok_unless (refusal case) (measures case)
 
 -- letter, F, c, v, speed and density; of a refusal no value
 abbrev pub measure_figures : Result Measures Refusal → List ℕ

@@ -22,7 +22,8 @@ use Rattle.road.specs.FreeFlowSpeed.{free_flow_speed_of}
 use Rattle.road.specs.Boundary.{right_off, with_24_ramps, road_facts}
 use Rattle.method.specs.Refusals.{refusal}
 use Rattle.method.specs.Checked.{case_curve}
-use Rattle.method.specs.Assess.{assessment, measure_figures}
+use Rattle.method.specs.declared.accepted.Measures.{Measures}
+use Rattle.method.specs.Assess.{measures, measure_figures}
 
 -- density and letter at v
 abbrev density_and_letter : Kind → ℕ → ℕ → List ℕ
@@ -52,9 +53,11 @@ example =
 abbrev multilane : Median → Road
 multilane m = road Kind.Multilane Way.Estimated 60000 110 40 20 m 10
 
--- the number of an assessment's refusal, 0 for none, and its values
+-- the number of the refusal of a case, 0 for none, and its measures
 abbrev assessed : Case → List ℕ
-assessed case = refusal_number (assessment case) ∷ measure_figures (assessment case)
+assessed case =
+    let got : Result Measures Refusal = ok_unless (refusal case) (measures case) in
+    refusal_number got ∷ measure_figures got
 
 -- F, c and b of a curve; of a refusal no value
 abbrev curve_figures : Result Curve Refusal → List ℕ

@@ -1,16 +1,15 @@
 -- The laws of the method, stated over the definitions that the contracts cite; proofs/Laws proves each.
 use Rattle.std.specs.Prelude.{◌≡◌, [], ◌∷◌, map, ◌≤◌}
-use Rattle.refusals.specs.Numbers.{refusal_number}
 use Rattle.curve.specs.declared.kind.Kind.TheVariants as Kind
 use Rattle.curve.specs.declared.service.Letter.TheVariants as Letter
 use Rattle.curve.specs.Curves.{WellFormed, Sized}
 use Rattle.curve.specs.Weather.{clear}
 use Rattle.road.specs.declared.Case.{Case}
 use Rattle.road.specs.Refusals.{FieldsFit}
-use Rattle.method.specs.Refusals.{refusals, refusal, Accepted}
+use Rattle.method.specs.Refusals.{refusals, Accepted}
 use Rattle.method.specs.Checked.{case_curve}
 use Rattle.method.specs.Flow.{truck_equivalent, case_flow_rate}
-use Rattle.method.specs.Assess.{measures, assessment}
+use Rattle.method.specs.Assess.{measures}
 
 -- The curve of an accepted case has its breakpoint below its capacity, the speed at capacity is at most F,
 -- and 64 bits hold its products.
@@ -38,11 +37,6 @@ FlowRateNeverFallsWithLoad =
 abbrev pub NoDemandGetsA : Type 0
 NoDemandGetsA =
     (case : Case) → Accepted case → case.demand ≡ 0 → (measures case).performance.letter ≡ Letter.A
-
--- A case is refused with the number of the first of 1 to 9, 19 and 10 that it breaks, and is measured where
--- it breaks none.
-abbrev pub RefusedByTheList : Type 0
-RefusedByTheList = (case : Case) → refusal_number (assessment case) ≡ refusal case
 
 -- The list has these numbers, in this order, for every case; 10 is asked before the weather's factor and
 -- after it.

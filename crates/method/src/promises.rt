@@ -3,12 +3,11 @@
 ghost use Rattle.refusals.specs.Facts.{Shown};
 ghost use Rattle.method.specs.Boundary.{boundary_facts};
 ghost use Rattle.method.specs.Laws.{AcceptedCurveIsWellFormed, MultilaneIsInClearWeather, FlowRateNeverFallsWithLoad, NoDemandGetsA};
-ghost use Rattle.method.specs.Laws.{RefusedByTheList, RefusalsInOrder};
+ghost use Rattle.method.specs.Laws.{RefusalsInOrder};
 
-/// A case is refused by the first of 1 to 9, 19 and 10 that it breaks, in this order.
+/// What refuses a case: 1 to 9, 19 and 10, in this order.
 pub fn refusals()
-    ensures by_the_list { RefusedByTheList }
-    ensures in_order { RefusalsInOrder }
+    ensures { RefusalsInOrder }
 {}
 
 /// The curve of an accepted case is well formed, and on kind M the weather is clear. The flow rate never

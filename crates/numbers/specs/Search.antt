@@ -7,7 +7,6 @@ greatest p zero = zero
 greatest p (suc n) = let below = greatest p n in if p (suc n) then suc n else below
 
 -- the least of the n numbers from a on that passes p; a + n where none does
--- of the n numbers from a on: the least that passes p; a + n where none does
 unfoldable pub least_from : (ℕ → Bool) → ℕ → ℕ → ℕ
 least_from p a zero = a
 least_from p a (suc n) = let after = least_from p (suc a) n in if p a then a else after
