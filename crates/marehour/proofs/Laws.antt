@@ -176,8 +176,8 @@ day-case line demands room case z e = day-read line demands room z ∙ ap (line_
 pub day-hands-back : DayHandsBack
 day-hands-back line demands old =
     let both : (reply : Reply) (n : ℕ) → reply ≡ refusal_reply n
-        → (day_result reply ≡ day_result (refusal_reply n)) × (content reply old ≡ content (refusal_reply n) old) =
-        λ reply n e. (ap day_result e, ap (λ r. content r old) e) in (
+    → (day_result reply ≡ day_result (refusal_reply n)) × (content reply old ≡ content (refusal_reply n) old) =
+    λ reply n e. (ap day_result e, ap (λ r. content r old) e) in (
       λ unfit. ⊎_elim
           (λ z. absurd (unfit z))
           (λ p. both (day_call line demands (length old)) 18 (day-unfit line demands (length old) p))

@@ -176,6 +176,6 @@ printed-line-meets-up-to-2642 old room =
       λ m. let less = (up-to 2643 (lit≤ tt)).0 ((line-meets _ old (example_with 2643) room with-2643 3).0 m) in
           absurd (omega (arith, volume, less)),
       rw (lanes-read more old (example_with 2643) 3 room with-2643)
-      ((by-digit (lanes_answer (example_with 2643) 3) old 3 (λ found e. found-digit (example_with 2643) 3 found e)).1 three-at-2643).1,
+          ((by-digit (lanes_answer (example_with 2643) 3) old 3 (λ found e. found-digit (example_with 2643) 3 found e)).1 three-at-2643).1,
       (((lanes-hand-back 3 _ old).2 room (example_with 999999) with-999999).0 14 none-at-999999 (lit< tt)).0,
     )
