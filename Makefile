@@ -42,11 +42,11 @@ prove:
 	rt ci 2>&1 | tee $(BUILD)/ci.log | sed -u '$$d' || { tail -n 1 $(BUILD)/ci.log; exit 1; }
 	@! grep -E '^rt: ok.*, [0-9]+ bad' $(BUILD)/ci.log || { echo "an edit is bad"; exit 1; }
 
-# In a copy of the crates, since rt ci sets aside what other commands leave in crates/*/out. It takes the processors that rt ci leaves.
+# In a copy of the crates, since rt ci sets aside what other commands leave in crates/*/out.
 library:
 	@mkdir -p $(BUILD) $(dir $(LIBRARY))
 	@room=$$(mktemp -d) && trap 'rm -rf '"$$room" EXIT && tar -c --exclude=out crates crates.txt | tar -x -C $$room \
-	&& cd $$room/crates/marehour && nice rt lib < /dev/null > $(CURDIR)/$(BUILD)/rt-marehour.log 2>&1 || { cat $(CURDIR)/$(BUILD)/rt-marehour.log; exit 1; }; \
+	&& cd $$room/crates/marehour && rt lib < /dev/null > $(CURDIR)/$(BUILD)/rt-marehour.log 2>&1 || { cat $(CURDIR)/$(BUILD)/rt-marehour.log; exit 1; }; \
 	cp $$room/crates/marehour/out/libmarehour.a $(CURDIR)/$(LIBRARY)
 
 # Each test builds what it runs; make test has them side by side.
