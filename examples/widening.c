@@ -2,9 +2,9 @@
 
      widening LINE GROWTH LETTER YEARS
 
-   LINE is a section's line (13 or 15 fields parted by tabs), GROWTH the yearly growth of its demand in thousandths, LETTER the target, A
-   to E, YEARS how many years to look ahead. For each year, from 0 for the section as given, a row: year, demand, letter, and the lanes that
-   the target needs, or 'none' where no lane count meets it. The rows end before a demand above 999,999, which no line can hold.
+   LINE is a section's line (13 or 15 fields parted by tabs), GROWTH the yearly growth of its demand in thousandths, LETTER the target, A to
+   E, YEARS how many years to look ahead. For each year, from 0 for the section as given, a row: year, demand, letter, and the lanes that
+   the target needs, or 'none' where no lane count meets it. The rows end before a demand above 999,999, which no line can hold (LINE-2).
 
    The last lines, each where it holds:
 
@@ -14,8 +14,8 @@
      need not be wider in years 0 to N    the section meets the target in these years
      no widening suffices from year N     no lane count meets the target in that year or in a later one
 
-   The demand never falls, so once no lane count meets the target, none does later. None does with a demand above 999,999 either: no service
-   volume is above 19,200.
+   The demand never falls, so once no lane count meets the target, none does later (SHAPE-1). None does with a demand above 999,999 either:
+   no service volume is above 19,200.
 
    widening.out is what it prints for the first line of sections.tsv, 30, C and 12.
 
@@ -86,8 +86,7 @@ static bool read_plan(int count, char **arguments, struct plan *plan)
         return false;
     }
     plan->line = arguments[1];
-    return read_number(arguments[2], &plan->growth) && read_letter(arguments[3], &plan->target) &&
-           read_number(arguments[4], &plan->years);
+    return read_number(arguments[2], &plan->growth) && read_letter(arguments[3], &plan->target) && read_number(arguments[4], &plan->years);
 }
 
 /* Where the n-th field of a well-formed line begins, the first being 1. */

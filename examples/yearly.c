@@ -3,16 +3,18 @@
      yearly LETTER < LIST
 
    LETTER is the target, A to E. LIST has a row for each section, its fields parted by tabs: a name; U for an urban road, R for a rural one;
-   the daily traffic of both directions together, one to ten digits; and the section's line (13 or 15 fields), whose own demand is not
-   used. A row has at most 254 bytes. After a header there is a row for each section: name, daily traffic, hourly demand, letter, and the
-   daily service volume of the target, which is the greatest daily traffic that meets it. Of a section that is refused there are X and the
-   refusal's number in the place of the last three.
+   the daily traffic of both directions together, one to ten digits; and the section's line (13 or 15 fields), whose own demand is not used.
+   A row has at most 254 bytes. After a header there is a row for each section: name, daily traffic, hourly demand, letter, and the daily
+   service volume of the target, which is the greatest daily traffic that meets it (DAILY-2). Of a section that is refused there are X and
+   the refusal's number in the place of the last three.
 
-   K, the peak hour's share of the daily traffic, and D, the share of the busier direction in that hour, are those of source document 001:
-   0.09 on urban and 0.11 on rural roads, and 0.55.
+   K, the peak hour's share of the daily traffic, is 0.09 on urban and 0.11 on rural roads, and D, the share of the busier direction in that
+   hour, 0.55, as in Flávio André Carrola Soares, 'Desenvolvimento de aplicação para avaliação do nível de serviço em secções correntes de
+   autoestradas com recurso ao HCM 7', Universidade da Beira Interior, 2024.
 
-   yearly.out is what it prints for C and yearly.tsv: the printed line of document 01 twice, five sections of source document 001 by their
-   numbers, a multilane highway, a freeway without snow and with it, and one that is refused.
+   yearly.out is what it prints for C and yearly.tsv: the printed line twice, five sections of that study by their numbers, a multilane
+   highway, a freeway without snow and with it, and one that is refused. The study's lengths, in centimetres, are divided by 3, as the manual's
+   metric edition has them; README.md tells of the other conversion, by the ruler.
 
    Exit status:
 
@@ -87,7 +89,7 @@ static bool read_section(char *row, struct section *section)
     return traffic != NULL && read_road(road, &section->peak_share) && read_traffic(traffic, &section->daily_traffic);
 }
 
-/* As the call has it; a daily traffic that is not refused is at most 4,000,000,000. */
+/* DAILY-1, as the call has it; a daily traffic that is not refused is at most 4,000,000,000. */
 static uint64_t hourly_demand(const struct section *section)
 {
     return (section->daily_traffic * section->peak_share * DIRECTION_SHARE + 999999) / 1000000;

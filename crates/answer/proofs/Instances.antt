@@ -1,4 +1,4 @@
--- Instances of each part of demand 3 (specs/Instances), proved by the part.
+-- SHAPE-1 to SHAPE-3: instances of each (specs/Instances), proved by it.
 use Rattle.std.proofs.Common.{◌≡◌, refl, ap, ◌∙◌, inl, inr, [], ◌∷◌, ℕ, zero, suc, ◌≤◌, ◌<◌, arith, T, leb, le→leb, get_or}
 use Rattle.numbers.specs.Division.{div_up}
 use Rattle.refusals.specs.Numbers.{refusal_number}
@@ -115,7 +115,7 @@ no-better-letter-in-snow-on-an-estimate = (
       (omega arith) (omega arith) (omega arith) (omega arith) (omega arith),
 )
 
--- what part 2 says of an accepted case, by the service volume s of letter number n
+-- what SHAPE-2 says of an accepted case, by the service volume s of letter number n
 by-volume : (case : Case) → Accepted case → (n s : ℕ) → 1 ≤ n → n ≤ 5 → s < 999999 → service_volume case n ≡ s
     → ((demand : ℕ) → demand ≤ s → Meets (with_demand case demand) n) × (Meets (with_demand case (suc s)) n → ⊥)
 by-volume case ok n s h k l e =

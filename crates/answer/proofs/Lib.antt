@@ -1,4 +1,4 @@
--- The laws of the definitions in specs/, a file for each, and demand 3 proved.
+-- The laws of the definitions in specs/, a file for each, and the shape of the method proved.
 pub mod VolumeLaws
 pub mod TriesLaws
 pub mod AnswerLaws

@@ -1,4 +1,4 @@
--- Demand 3, proved.
+-- The shape of the method (SHAPE-1 to SHAPE-3), proved.
 use Rattle.std.proofs.Common.{◌≡◌, refl, sym, ap, ◌∙◌, ◌↔◌, ⊎_elim, inl, [], ◌∷◌, ℕ, suc, ◌≤◌, ◌<◌, arith, T, length, get_or, Ok, Err}
 use Rattle.std.proofs.Math.Decide.{dec_le}
 use Rattle.refusals.specs.declared.Refusal.{Refusal}
@@ -26,13 +26,13 @@ use Rattle.answer.specs.Volumes.{meets, service_volume}
 use Rattle.answer.specs.Answers.{graded, answer_to}
 use Rattle.answer.specs.Lanes.{lanes_found, lanes_answer, lanes_figures}
 use Rattle.answer.specs.Promises.{letter_in, volume_in, Meets, AcceptedCount, hardness, NoBetterUnderMoreLoad}
-use Rattle.answer.specs.Promises.{NoBetterInClearWeather, MeetsUpToTheServiceVolume, LeastAcceptedCount, DemandThree}
+use Rattle.answer.specs.Promises.{NoBetterInClearWeather, MeetsUpToTheServiceVolume, LeastAcceptedCount, ShapeOfTheMethod}
 use Rattle.answer.proofs.VolumeLaws.{meets-only-accepted, service_volume-iff}
 use Rattle.answer.proofs.AnswerLaws.{answer_to-accepted, Meets-iff}
 use Rattle.answer.proofs.LanesLaws.{meets-of-kind, lanes_found-eq, lanes_found-meets, lanes_found-le, lanes_found-none, lanes_answer-none}
 use Rattle.answer.proofs.LanesLaws.{lanes_answer-found}
 
--- ---- part 1
+-- ---- SHAPE-1
 -- the letter in the answer to an accepted case
 letter_in-accepted : (case : Case) → Accepted case → letter_in (answer_to case) ≡ letter_number (letter_at (case_curve case) (case_flow_rate case))
 unfolding graded measures performance
@@ -73,7 +73,7 @@ module _ (c d : Case) (ac : Accepted c) (ad : Accepted d) (same : SameRoad c d) 
       (case_flow_rate d)
       (accepted-speed d ad) (free_flow_speed_of-mono d.road d.lanes c.lanes hn) (free_flow_speed_of-le d.road c.lanes) flow)
 
--- part 1
+-- SHAPE-1
 pub no-better-under-more-load : NoBetterUnderMoreLoad
 no-better-under-more-load c d ac ad same weather comparable hd hs ht hf hn =
     let flow : case_flow_rate c ≤ case_flow_rate d =
@@ -88,7 +88,7 @@ no-better-under-more-load c d ac ad same weather comparable hd hs ht hf hn =
 pub no-better-in-clear-weather : NoBetterInClearWeather
 no-better-in-clear-weather c d ac ad same zc zd = no-better-under-more-load c d ac ad same (zc ∙ sym zd) (inl zc)
 
--- ---- part 2
+-- ---- SHAPE-2
 -- the service volumes in the answer to an accepted case, by the letter's number
 pub volume_in-accepted : (case : Case) (n : ℕ) → Accepted case → 1 ≤ n → n ≤ 5 → volume_in (answer_to case) n ≡ service_volume case n
 unfolding graded
@@ -96,7 +96,7 @@ volume_in-accepted case n a h k =
     ap (λ answer. volume_in answer n) (answer_to-accepted case a)
     ∙ by-letter (λ n. volume_in (Ok (graded case)) n ≡ service_volume case n) refl refl refl refl refl n h k
 
--- part 2
+-- SHAPE-2
 pub meets-up-to-the-service-volume : MeetsUpToTheServiceVolume
 meets-up-to-the-service-volume c a n h k demand d =
     let met = Meets-iff (with_demand c demand) n in
@@ -104,7 +104,7 @@ meets-up-to-the-service-volume c a n h k demand d =
     let same : volume_in (answer_to c) n ≡ service_volume c n = volume_in-accepted c n a h k in
     (λ m. rw same (volume.0 (met.0 m)), λ l. met.1 (volume.1 (rw same at l)))
 
--- ---- part 3
+-- ---- SHAPE-3
 -- a count that meets a letter is accepted
 accepted-count : (case : Case) (n lanes : ℕ) → T (meets (with_lanes case lanes) n) → AcceptedCount case lanes
 accepted-count case n lanes t =
@@ -168,10 +168,10 @@ module _ (case : Case) (n : ℕ) (h : 1 ≤ n) (k : n ≤ 5) (z : FieldsFit case
           lanes_found-none case n (λ count l t. nothing count (accepted-count case n count t) ((Meets-iff (with_lanes case count) n).1 t)) in
           ap refusal_number (none (λ l. omega arith))
 
--- part 3
+-- SHAPE-3
 pub least-accepted-count : LeastAcceptedCount
 least-accepted-count case n h k z = (answers case n h k z, refuses-14 case n h k z)
 
 -- the three together
-pub demand-three : DemandThree
-demand-three = (no-better-under-more-load, meets-up-to-the-service-volume, least-accepted-count)
+pub shape-of-the-method : ShapeOfTheMethod
+shape-of-the-method = (no-better-under-more-load, meets-up-to-the-service-volume, least-accepted-count)

@@ -1,4 +1,4 @@
--- The answer to a case (document 01, "Lines": letter, F, c, v, speed, density, service volumes A to E).
+-- The answer to a case: its eleven figures, or the first refusal.
 use Rattle.std.specs.Prelude.{ℕ, List, [], ◌∷◌, Result, Ok, Err}
 use Rattle.refusals.specs.declared.Refusal.{Refusal}
 use Rattle.refusals.specs.Numbers.{ok_unless}
@@ -11,7 +11,7 @@ use Rattle.answer.specs.declared.evaluate.Volumes.{Volumes}
 use Rattle.answer.specs.declared.evaluate.Grade.{Grade}
 use Rattle.answer.specs.Volumes.{service_volumes}
 
--- the grade of what a case gets and its service volumes
+-- ANSWER-1: the grade of what a case gets and its service volumes
 abbrev pub grade_of : Measures → Volumes → Grade
 grade_of measures volumes =
     record {
@@ -24,15 +24,15 @@ grade_of measures volumes =
       volumes = volumes;
     }
 
--- the grade of a case
+-- ANSWER-1: the grade of a case
 unfoldable pub graded : Case → Grade
 graded case = grade_of (measures case) (service_volumes case)
 
--- its grade, or the first of 1 to 9, 19 and 10 that refuses it
+-- ANSWER-1, ORDER-1, ORDER-2: the grade of a case, or the first of 1 to 9, 19 and 10 that refuses it
 abbrev pub answer_to : Case → Result Grade Refusal
 answer_to case = ok_unless (refusal case) (graded case)
 
--- the eleven figures as a list, the letter by its number; of a refusal no value
+-- ANSWER-1, FORM-10: the eleven figures in their order, the letter by its number; of a refusal no value
 abbrev pub grade_figures : Result Grade Refusal → List ℕ
 grade_figures (Ok g) =
     letter_number g.letter ∷ g.free_flow_speed ∷ g.capacity ∷ g.flow_rate ∷ g.speed ∷ g.density

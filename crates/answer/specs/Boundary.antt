@@ -1,5 +1,5 @@
--- The boundary sections of document 01, with the ramp term of T-08, and of T-03 and T-09 of document 02, that
--- this layer adds to those of method/specs/Boundary.
+-- The boundary sections that this layer adds to those of method/specs/Boundary. The printed line is
+--     F E 75400 110 20 0 D 24 2 2000 920 50 R
 use Rattle.std.specs.Prelude.{List, [], ◌∷◌, ◌++◌, ℕ}
 use Rattle.curve.specs.declared.kind.Kind.TheVariants as Kind
 use Rattle.curve.specs.Weather.{factors, clear}
@@ -17,46 +17,47 @@ use Rattle.answer.specs.Answers.{answer_to}
 use Rattle.answer.specs.Lanes as lanes
 use Rattle.answer.specs.Lanes.{lanes_answer}
 
--- the printed line's case with another demand
+-- CASE-3: the printed line's case with another demand
 abbrev pub example_with : ℕ → Case
 example_with demand = with_demand example demand
 
--- F E 60000 120 0 0 D 6 2 2000 1000 0 L: refused with 10, and 4 lanes are the least for every letter
+-- LANES-2, REFUSAL-10: F E 60000 120 0 0 D 6 2 2000 1000 0 L: refused with 10, and 4 lanes are the least for
+-- every letter
 abbrev pub estimated : Case
 estimated =
     loaded (road Kind.Freeway Way.Estimated 60000 120 0 0 Median.Divided 6) 2 2000 1000 0 Terrain.Level clear
 
--- the same with speed factor 860 and capacity factor 780
+-- WEATHER-2, WEATHER-3: the printed line's case with another demand, speed factor 860, capacity factor 780
 abbrev pub example_in_snow : ℕ → Case
 example_in_snow demand = with_weather (example_with demand) (factors 860 780)
 
--- F G 75000 120 60 60 D 0 N V 1000 0 L 950 900
+-- WEATHER-2, WEATHER-3: F G 75000 120 60 60 D 0 N V 1000 0 L 950 900
 abbrev pub given_in_snow : ℕ → ℕ → Case
 given_in_snow n demand =
     with_lanes (two_lanes_under (factors 950 900) (given Kind.Freeway 75000 120) demand) n
 
--- F G 75000 120 60 60 D 0 2 0 1000 0 L 499 1000
+-- REFUSAL-19: F G 75000 120 60 60 D 0 2 0 1000 0 L 499 1000
 abbrev pub refused_by19 : Case
 refused_by19 = two_lanes_under (factors 499 1000) (given Kind.Freeway 75000 120) 0
 
--- F G 75000 120 60 60 D 0 2 999999 250 1000 R: the greatest flow rate
+-- ANSWER-2, FLOW-2: F G 75000 120 60 60 D 0 2 999999 250 1000 R: the greatest flow rate
 abbrev pub greatest_flow : Case
 greatest_flow = loaded (given Kind.Freeway 75000 120) 2 999999 250 1000 Terrain.Rolling clear
 
--- the number of its answer's refusal, 0 for none, and the answer's values
+-- ANSWER-1, FORM-10: the number of the refusal of a case's answer, 0 for none, and the answer's values
 abbrev pub answered : Case → List ℕ
 answered case = refusal_number (answer_to case) ∷ answers.grade_figures (answer_to case)
 
--- the same of the lanes question with letter number n
+-- LANES-1, FORM-10: the number of the refusal of the lanes question with letter number n, 0 for none, and its
+-- values
 abbrev pub lanes_answered : Case → ℕ → List ℕ
 lanes_answered case n = refusal_number (lanes_answer case n) ∷ lanes.lanes_figures (lanes_answer case n)
 
--- what this layer adds
--- Of what is accepted 0 and its values, of what is refused its number. Starred: the printed line. Not
--- starred: the lanes question at the printed case with letter C, with V = 2,643, with 999,999 and with
--- 99,999; a letter number past E; a case that 10 refuses, and its lanes; answers in snow, at a given and at
--- an estimated speed; the lanes of the latter; the order 16, 1, 19 in the lanes question; the greatest flow
--- rate.
+-- ANSWER-1, ANSWER-2, VOLUME-2, LANES-1 to LANES-3, REFUSAL-14, REFUSAL-16, WEATHER-2, WEATHER-3, LETTER-2:
+-- the printed line; its lanes question with letter C, with V = 2,643, with 999,999 and with 99,999, which 14
+-- refuses, and with a letter number past E, which 16 refuses; a case that 10 refuses, and its lanes; answers
+-- in snow, at a given and at an estimated speed; the lanes of the latter; the order 16, 1, 19 in the lanes
+-- question; the greatest flow rate.
 unfoldable pub added_facts : List Fact
 added_facts =
     fact (answered example)
@@ -78,6 +79,6 @@ added_facts =
     (0 ∷ 6 ∷ 75000 ∷ 240000 ∷ 5999994 ∷ 0 ∷ 0 ∷ 137 ∷ 221 ∷ 296 ∷ 355 ∷ 400 ∷ [])
     ∷ []
 
--- the longer list
+-- FIGURE-1: the figures of the layers below, and then these
 abbrev pub boundary_facts : List Fact
 boundary_facts = method.boundary_facts ++ added_facts

@@ -1,4 +1,4 @@
--- Instances of each part of demand 3 with all its hypotheses met, so that none is true for an empty reason;
+-- Instances of each part of the shape with all its hypotheses met, so that none is true for an empty reason;
 -- proofs/Instances proves them by the parts themselves.
 use Rattle.std.specs.Prelude.{◌≡◌, [], ◌∷◌, ℕ, ◌≤◌}
 use Rattle.refusals.specs.Numbers.{refusal_number}
@@ -13,83 +13,84 @@ use Rattle.answer.specs.Lanes.{lanes_answer, lanes_figures}
 use Rattle.answer.specs.Promises.{letter_in, Meets, AcceptedCount}
 use Rattle.answer.specs.Boundary.{example_with, example_in_snow, estimated, given_in_snow}
 
--- F E 75400 110 20 0 D 24 3 2000 1000 0 L: the printed case with less of every load
+-- SHAPE-1: F E 75400 110 20 0 D 24 3 2000 1000 0 L: less of every load than the printed case with V = 2,643
 abbrev pub lighter : Case
 lighter = loaded example.road 3 2000 1000 0 Terrain.Level clear
 
--- part 1: it gets A, and the printed case with V = 2,643, with more of every load, gets D
+-- SHAPE-1: the lighter case gets A, and the printed case with V = 2,643 gets D
 abbrev pub NoBetterLetterUnderMoreLoad : Type 0
 NoBetterLetterUnderMoreLoad =
     (letter_in (answer_to lighter) ≡ 1) × (letter_in (answer_to (example_with 2643)) ≡ 4)
     × (letter_in (answer_to lighter) ≤ letter_in (answer_to (example_with 2643)))
 
--- part 1, all but the demand equal: the printed case gets C with V = 2,000 and D with 2,643
+-- SHAPE-1: all but the demand equal: the printed case gets C with V = 2,000 and D with 2,643
 abbrev pub NoBetterLetterUnderMoreDemand : Type 0
 NoBetterLetterUnderMoreDemand =
     (letter_in (answer_to example) ≡ 3) × (letter_in (answer_to (example_with 2643)) ≡ 4)
     × (letter_in (answer_to example) ≤ letter_in (answer_to (example_with 2643)))
 
--- M G 60000 120 60 60 D 0 2 V 1000 0 L
+-- SHAPE-1, SHAPE-3: M G 60000 120 60 60 D 0 2 V 1000 0 L
 abbrev pub multilane_with : ℕ → Case
 multilane_with demand = two_lanes (given Kind.Multilane 60000 120) demand
 
--- part 1 on kind M with F given: C with V = 2,800, D with 3,600
+-- SHAPE-1: on kind M with F given: C with V = 2,800, D with 3,600
 abbrev pub NoBetterLetterOnAMultilane : Type 0
 NoBetterLetterOnAMultilane =
     (letter_in (answer_to (multilane_with 2800)) ≡ 3) × (letter_in (answer_to (multilane_with 3600)) ≡ 4)
     × (letter_in (answer_to (multilane_with 2800)) ≤ letter_in (answer_to (multilane_with 3600)))
 
--- part 1 in snow, F given: B with 3 lanes, C with 2
+-- SHAPE-1: in snow, F given: B with 3 lanes, C with 2
 abbrev pub NoBetterLetterInSnowWithFewerLanes : Type 0
 NoBetterLetterInSnowWithFewerLanes =
     (letter_in (answer_to (given_in_snow 3 3000)) ≡ 2) × (letter_in (answer_to (given_in_snow 2 3000)) ≡ 3)
     × (letter_in (answer_to (given_in_snow 3 3000)) ≤ letter_in (answer_to (given_in_snow 2 3000)))
 
--- F E 75400 110 20 0 D 24 2 2000 1000 0 L 860 780
+-- SHAPE-1: F E 75400 110 20 0 D 24 2 2000 1000 0 L 860 780
 abbrev pub lighter_in_snow : Case
 lighter_in_snow = loaded example.road 2 2000 1000 0 Terrain.Level (factors 860 780)
 
--- part 1 in snow, F estimated, with equal lanes: it gets C, and with V = 2,222 and more of every other load D
+-- SHAPE-1: in snow, F estimated, equal lanes: the lighter case gets C, and D with V = 2,222 and more of every
+-- other load
 abbrev pub NoBetterLetterInSnowOnAnEstimate : Type 0
 NoBetterLetterInSnowOnAnEstimate =
     (letter_in (answer_to lighter_in_snow) ≡ 3) × (letter_in (answer_to (example_in_snow 2222)) ≡ 4)
     × (letter_in (answer_to lighter_in_snow) ≤ letter_in (answer_to (example_in_snow 2222)))
 
--- part 2 in snow: with V = 2,221 the printed case meets C there, with 2,222 it does not
+-- SHAPE-2: in snow the printed case meets C with V = 2,221, and with 2,222 it does not
 abbrev pub ServiceVolumeInSnow : Type 0
 ServiceVolumeInSnow = Meets (example_in_snow 2221) 3 × (Meets (example_in_snow 2222) 3 → ⊥)
 
--- part 2: with V = 2,642 the printed case meets C, with 2,643 it does not
+-- SHAPE-2: with V = 2,642 the printed case meets C, with 2,643 it does not
 abbrev pub ServiceVolumeOfTheExample : Type 0
 ServiceVolumeOfTheExample = Meets (example_with 2642) 3 × (Meets (example_with 2643) 3 → ⊥)
 
--- part 2: A up to 1,117 and E up to 3,858, each with V = 0 too
+-- SHAPE-2: the printed case meets A up to V = 1,117 and E up to 3,858, each with V = 0 too
 abbrev pub FirstAndLastServiceVolume : Type 0
 FirstAndLastServiceVolume =
     (Meets (example_with 0) 1 × Meets (example_with 1117) 1 × (Meets (example_with 1118) 1 → ⊥))
     × (Meets (example_with 0) 5 × Meets (example_with 3858) 5 × (Meets (example_with 3859) 5 → ⊥))
 
--- part 3: a case that 10 refuses needs 4 lanes, for every letter
+-- SHAPE-3, LANES-2: a case that 10 refuses needs 4 lanes, for every letter
 abbrev pub FourLanesForEveryLetter : Type 0
 FourLanesForEveryLetter =
     (refusal_number (answer_to estimated) ≡ 10)
     × ((n : ℕ) → 1 ≤ n → n ≤ 5 → lanes_figures (lanes_answer estimated n) ≡ 4 ∷ [])
 
--- part 3: with V = 999,999 no accepted count of the printed case meets C
+-- SHAPE-3: with V = 999,999 no accepted count of the printed case meets C
 abbrev pub NoLanesForTheGreatestDemand : Type 0
 NoLanesForTheGreatestDemand =
     (count : ℕ) → AcceptedCount (example_with 999999) count
     → Meets (with_lanes (example_with 999999) count) 3 → ⊥
 
--- part 3 on kind M: with V = 3,600 C needs 3 lanes
+-- SHAPE-3: on kind M with V = 3,600 C needs 3 lanes
 abbrev pub ThreeLanesOnAMultilane : Type 0
 ThreeLanesOnAMultilane = lanes_figures (lanes_answer (multilane_with 3600) 3) ≡ 3 ∷ []
 
--- F E 75400 110 20 0 D 24 2 2000 920 50 R 815 1000: 10 refuses 2 lanes after the factor
+-- SHAPE-3, REFUSAL-10: F E 75400 110 20 0 D 24 2 2000 920 50 R 815 1000: 10 refuses 2 lanes after the factor
 abbrev pub narrow_in_snow : Case
 narrow_in_snow = with_weather example (factors 815 1000)
 
--- part 3 in snow: it needs 3 lanes for C
+-- SHAPE-3, LANES-2: a case in snow that 10 refuses needs 3 lanes for C
 abbrev pub ThreeLanesInSnow : Type 0
 ThreeLanesInSnow =
     (refusal_number (answer_to narrow_in_snow) ≡ 10)

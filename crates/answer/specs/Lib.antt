@@ -1,4 +1,4 @@
--- The answer to a case, the lanes question, and demand 3.
+-- The answer to a case, the lanes question, and the shape of the method.
 -- meeting a letter, and service volumes
 pub mod Volumes
 -- the answer to a case
@@ -9,7 +9,7 @@ pub mod Lanes
 pub mod Search
 -- which demands the searches try, and how many
 pub mod Tries
--- demand 3, stated
+-- the shape of the method, stated
 pub mod Promises
 -- the boundary sections that this layer adds
 pub mod Boundary
@@ -17,5 +17,5 @@ pub mod Boundary
 pub mod Laws
 -- the order of the searches for the service volumes, and how many demands they try
 pub mod SearchOrder
--- instances of each part of demand 3
+-- instances of each part of the shape
 pub mod Instances

@@ -1,5 +1,4 @@
--- Which demands the searches for the five service volumes try, and how many (document 02, T-04). It is no
--- part of the method. Letter numbers: A is 1.
+-- Which demands the searches for the five service volumes try, and how many. Letter numbers: A is 1.
 use Rattle.std.specs.Prelude.{ℕ, zero, suc, Bool, if◌then◌else◌, List, [], ◌++◌, nat_lt, length, Result}
 use Rattle.numbers.specs.Search.{greatest}
 use Rattle.numbers.specs.Halving.{tried_up_to}
@@ -19,44 +18,43 @@ use Rattle.answer.specs.Volumes.{meets}
 use Rattle.answer.specs.Answers.{answer_to}
 use Rattle.answer.specs.Search.{demand_meets, searched_volumes}
 
--- the case with that demand meets letter number n
--- "A demand meets a letter when the case with that demand, all other fields kept, gets it or a better one"
+-- VOLUME-1, CASE-3: the case with that demand in the place of its own meets letter number n
 abbrev pub meets_with : Case → ℕ → ℕ → Bool
 meets_with case n demand = meets (with_demand case demand) n
 
--- what is tried of it
+-- TRIES-1, VOLUME-1: the search's test for letter number n: on the curve a demand keeps to its density
 abbrev pub tests_of : Curve → Load → ℕ → ℕ → Bool
 tests_of curve load n = demand_meets curve load (density_limit n)
 
--- up to where letter number n is searched for, if test n tells whether a demand meets it
--- "E first, then each letter from zero up to the volume found for the one before": what is found for it is
--- the greatest demand of all that meets it, by proofs/TriesLaws
+-- TRIES-2: up to where letter number n is searched for, if test n tells whether a demand meets it: E up to
+-- the greatest demand, each better letter up to the volume of the next worse one
+-- By proofs/TriesLaws what is found there is the greatest demand of all that meets the letter.
 unfoldable pub search_end : (ℕ → ℕ → Bool) → ℕ → ℕ
 search_end test n = if nat_lt n 5 then greatest (test (suc n)) greatest_demand else greatest_demand
 
--- the demands that are tried for it
+-- TRIES-1, TRIES-2: the demands that are tried for letter number n
 abbrev pub tried_for : (ℕ → ℕ → Bool) → ℕ → List ℕ
 tried_for test n = tried_up_to (test n) (search_end test n)
 
--- those for letter number n and then for each better one
+-- TRIES-2: the demands that are tried for letter number n and then for each better one
 unfoldable pub tried_from : (ℕ → ℕ → Bool) → ℕ → List ℕ
 tried_from test zero = []
 tried_from test (suc n) = tried_for test (suc n) ++ tried_from test n
 
--- those for E, D, C, B and A, of a case
+-- TRIES-2, TRIES-3: the demands that are tried for E, D, C, B and A, of a case
 abbrev pub demands_tried : Case → List ℕ
 demands_tried case = tried_from (meets_with case) 5
 
--- what the search for the greatest demand up to an end hands back: the demand, and how many were tried
+-- TRIES-1, TRIES-3: what a search up to an end hands back: the greatest demand, and how many were tried
 abbrev pub found : (ℕ → Bool) → ℕ → Counted ℕ
 found p end = record { value = greatest p end; tries = length (tried_up_to p end) }
 
--- what the five searches hand back together
+-- TRIES-3, VOLUME-2: what the five searches hand back together: the volumes, and how many demands were tried
 abbrev pub found_volumes : Curve → Load → Counted Volumes
 found_volumes curve load =
     record { value = searched_volumes curve load; tries = length (tried_from (tests_of curve load) 5) }
 
--- the answer to a case, and how many demands were tried for it: none for a refused one
+-- TRIES-3, ANSWER-1: the answer to a case, and how many demands were tried for it: none for a refused one
 abbrev pub counted_answer : Case → Counted (Result Grade Refusal)
 counted_answer case =
     record {

@@ -1,5 +1,4 @@
--- Meeting a letter, and the service volumes (document 01, "Flow, letter, service volume, lanes"). Letter
--- numbers: A is 1.
+-- Meeting a letter, and the service volumes. Letter numbers: A is 1.
 use Rattle.std.specs.Prelude.{ℕ, Bool, ◌&&◌, nat_le, ◌==◌}
 use Rattle.numbers.specs.Search.{greatest}
 use Rattle.curve.specs.Service.{letter_number}
@@ -10,18 +9,15 @@ use Rattle.method.specs.Refusals.{refusal}
 use Rattle.method.specs.Assess.{measures}
 use Rattle.answer.specs.declared.evaluate.Volumes.{Volumes}
 
--- the case is accepted and gets letter number n or a better one
--- "meets it, that is, gets it or a better one"; a case that is refused gets no letter
+-- VOLUME-1: the case is accepted and gets letter number n or a better one
 unfoldable pub meets : Case → ℕ → Bool
 meets case n = refusal case == 0 && nat_le (letter_number (measures case).performance.letter) n
 
--- the service volume of letter number n
--- "The service volume of a letter is the greatest V from 0 to 99,999 that gets that letter or a better one",
--- now to 999,999
+-- VOLUME-2: the greatest demand from 0 to 999,999 with which the case meets letter number n
 unfoldable pub service_volume : Case → ℕ → ℕ
 service_volume case n = greatest (λ demand. meets (with_demand case demand) n) greatest_demand
 
--- those of A to E
+-- VOLUME-2: the service volumes of A to E
 abbrev pub service_volumes : Case → Volumes
 service_volumes case =
     record {

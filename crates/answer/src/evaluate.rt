@@ -15,7 +15,7 @@ use refusals::Refusal;
 use road::Case;
 use road::refusal::GREATEST_DEMAND;
 
-/// The service volumes of A to E.
+/// VOLUME-2: the service volumes of A to E.
 #[derive(Clone, Copy, PartialEq, Eq)]
 pub struct Volumes {
     pub a: Demand,
@@ -25,21 +25,21 @@ pub struct Volumes {
     pub e: Demand,
 }
 
-/// The answer to an accepted case.
+/// ANSWER-1: the answer to an accepted case.
 #[derive(Clone, Copy, PartialEq, Eq)]
 pub struct Grade {
     pub letter: Letter,
     pub free_flow_speed: Speed,
     pub capacity: Capacity,
     pub flow_rate: FlowRate,
-    /// 0 above capacity
+    /// LETTER-2: 0 above capacity
     pub speed: Speed,
-    /// 0 above capacity
+    /// LETTER-2: 0 above capacity
     pub density: Density,
     pub volumes: Volumes,
 }
 
-/// A value, and how many demands were tried for it.
+/// TRIES-3: a value, and how many demands were tried for it.
 #[derive(Clone, Copy)]
 pub struct Counted<T> {
     pub value: T,
@@ -47,7 +47,7 @@ pub struct Counted<T> {
 }
 
 impl Grade {
-    /// The grade of what a case gets and its service volumes.
+    /// ANSWER-1: the grade of what a case gets and its service volumes.
     pub fn new(measures: Measures, volumes: Volumes) -> Grade
         ensures { result ≡ grade_of measures volumes }
     {
@@ -63,7 +63,7 @@ impl Grade {
         }
     }
 
-    /// Its eleven figures in the order of an answer's text, the letter by its number.
+    /// ANSWER-1: its eleven figures in their order, the letter by its number.
     pub fn figures(&self) -> [u64; 11]
         ensures { result ≡ grade_figures (Ok self.now) }
     {
@@ -84,7 +84,7 @@ impl Grade {
     }
 }
 
-/// Whether a demand keeps to capacity and to a density.
+/// VOLUME-1: whether a demand keeps to capacity and to a density.
 #[tactic(auto, unfolding(crate::specs::Search::demand_meets))]
 fn demand_meets(terms: &CaseTerms, limit: Density, demand: Demand) -> bool
     requires limit_high { limit ≤ 450 }
@@ -95,7 +95,7 @@ fn demand_meets(terms: &CaseTerms, limit: Density, demand: Demand) -> bool
     terms.curve_terms.meets_limit(flow_rate, limit)
 }
 
-/// The greatest demand up to the end that keeps to capacity and to a letter's density, by halving: 0 does.
+/// TRIES-1: the greatest demand up to the end that keeps to capacity and to a letter's density: 0 does.
 fn greatest_meeting(terms: &CaseTerms, letter: Letter, end: Demand) -> Counted<Demand>
     requires { end ≤ greatest_demand }
     ensures found { result
@@ -119,8 +119,8 @@ fn greatest_meeting(terms: &CaseTerms, letter: Letter, end: Demand) -> Counted<D
     Counted { value: low, tries }
 }
 
-/// E first, then each better letter up to the volume found before: no volume is above that of the next worse
-/// letter.
+/// TRIES-2: E first, then each better letter up to the volume found before: no volume is above that of the
+/// next worse letter.
 #[tactic(auto, using(crate::proofs::TriesLaws::search_laws))]
 fn found_volumes(terms: &CaseTerms) -> Counted<Volumes>
     ensures { result ≡ found_volumes terms.now.curve_terms.curve terms.now.load }
@@ -142,14 +142,14 @@ fn found_volumes(terms: &CaseTerms) -> Counted<Volumes>
     }
 }
 
-/// The service volumes on any curve with any load.
+/// VOLUME-2: the service volumes on any curve with any load.
 pub fn searched_volumes(terms: &CaseTerms) -> Volumes
     ensures { result ≡ searched_volumes terms.now.curve_terms.curve terms.now.load }
 {
     found_volumes(terms).value
 }
 
-/// The service volumes of an accepted case.
+/// VOLUME-2: the service volumes of an accepted case.
 #[tactic(auto, using(crate::proofs::VolumeLaws::volume_laws))]
 pub fn service_volumes(accepted: &AcceptedCase) -> Volumes
     ensures { result ≡ service_volumes accepted.now.case }
@@ -168,8 +168,8 @@ fn counted_grade(accepted: &AcceptedCase) -> Counted<Result<Grade, Refusal>>
     }
 }
 
-/// The grade of a case, or the first of 1 to 9, 19 and 10 that refuses it, and how many demands were tried:
-/// none for a case that is refused.
+/// ANSWER-1, TRIES-3: the grade of a case, or the first of 1 to 9, 19 and 10 that refuses it, and how many
+/// demands were tried: none for a case that is refused.
 #[tactic(auto, using(crate::proofs::TriesLaws::counted_laws))]
 pub fn evaluate_counted(case: Case) -> Counted<Result<Grade, Refusal>>
     ensures { result ≡ counted_answer case }
@@ -183,7 +183,7 @@ pub fn evaluate_counted(case: Case) -> Counted<Result<Grade, Refusal>>
     }
 }
 
-/// The grade of a case, or the first of 1 to 9, 19 and 10 that refuses it.
+/// ANSWER-1, ORDER-2: the grade of a case, or the first of 1 to 9, 19 and 10 that refuses it.
 pub fn evaluate(case: Case) -> Result<Grade, Refusal>
     ensures { result ≡ answer_to case }
 {

@@ -15,7 +15,7 @@ use refusals::Refusal;
 use road::Case;
 use road::refusal::FitCase;
 
-/// The letter of a number from 1 to 5 (A is 1), or 16.
+/// LETTER-3, REFUSAL-16: the letter of a number from 1 to 5, or 16.
 fn asked_letter(number: u64) -> Result<Letter, Refusal>
     ensures refusal { refusal_number result ≡ first_refusal (letter_refusals number) }
     ensures letter { IfOk result (λ letter. letter_number letter ≡ number) }
@@ -30,7 +30,7 @@ fn asked_letter(number: u64) -> Result<Letter, Refusal>
     }
 }
 
-/// Whether the case with a lane count of its kind meets a letter from A to E.
+/// LANES-1, LANES-2: whether the case with a lane count of its kind meets a letter from A to E.
 #[tactic(auto, using(crate::proofs::LanesLaws::meet_laws))]
 fn lanes_meet(fit: &FitCase, letter: Letter, lanes: u64) -> bool
     requires fewest { fewest_lanes fit.now.case.road.kind ≤ lanes }
@@ -47,7 +47,7 @@ fn lanes_meet(fit: &FitCase, letter: Letter, lanes: u64) -> bool
     }
 }
 
-/// The least lane count of the kind with which a fit case meets a letter from A to E, or 14.
+/// LANES-1, REFUSAL-14: the smallest count of the kind that, put into a fit case, meets a letter, or 14.
 fn least_lanes(fit: &FitCase, letter: Letter) -> Result<u64, Refusal>
     requires { letter_number letter ≤ 5 }
     ensures { result ≡ lanes_answer fit.now.case (letter_number letter) }
@@ -61,8 +61,8 @@ fn least_lanes(fit: &FitCase, letter: Letter) -> Result<u64, Refusal>
     Err(Refusal::NoLaneCount)
 }
 
-/// The least lane count of the kind that meets a letter by its number (A is 1), or the first of 16, 1 to 9,
-/// 19 and 14.
+/// LANES-1, LANES-3: the smallest count of the kind that meets a letter, given by its number (A is 1), or the
+/// first of 16, 1 to 9, 19 and 14.
 #[tactic(auto, using(crate::proofs::LanesLaws::question_laws))]
 pub fn lanes_needed(case: Case, letter: u64) -> Result<u64, Refusal>
     ensures { result ≡ lanes_answer case letter }

@@ -2,7 +2,7 @@
 
 ghost use Rattle.refusals.specs.Facts.{Shown};
 ghost use Rattle.answer.specs.Boundary.{boundary_facts};
-ghost use Rattle.answer.specs.Promises.{NoBetterUnderMoreLoad, NoBetterInClearWeather, MeetsUpToTheServiceVolume, LeastAcceptedCount, DemandThree};
+ghost use Rattle.answer.specs.Promises.{NoBetterUnderMoreLoad, NoBetterInClearWeather, MeetsUpToTheServiceVolume, LeastAcceptedCount, ShapeOfTheMethod};
 ghost use Rattle.answer.specs.Instances.{NoBetterLetterUnderMoreLoad, NoBetterLetterUnderMoreDemand, NoBetterLetterOnAMultilane};
 ghost use Rattle.answer.specs.Instances.{NoBetterLetterInSnowWithFewerLanes, NoBetterLetterInSnowOnAnEstimate, ServiceVolumeInSnow};
 ghost use Rattle.answer.specs.Instances.{ServiceVolumeOfTheExample, FirstAndLastServiceVolume, FourLanesForEveryLetter};
@@ -12,12 +12,12 @@ ghost use Rattle.answer.specs.Laws.{LanesRefusedAsTheCase, NothingBut14RefusesFi
 ghost use Rattle.answer.specs.SearchOrder.{NoVolumeAboveTheNext, ExampleVolumesRise, TriesOfALetter, AtMost80Tried, ExampleTried};
 ghost use Rattle.answer.specs.SearchOrder.{EightLanesTried, RefusedTried};
 
-/// The shape of the method, its three parts in one piece.
+/// SHAPE-1 to SHAPE-3: the shape of the method, its three parts in one statement.
 pub fn shape_of_the_method()
-    ensures { DemandThree }
+    ensures { ShapeOfTheMethod }
 {}
 
-/// Part 1: of two accepted cases of one road under one weather, the one with no less load never gets the
+/// SHAPE-1: of two accepted cases of one road under one weather, the one with no less load never gets the
 /// better letter.
 pub fn no_better_under_more_load()
     ensures part { NoBetterUnderMoreLoad }
@@ -29,7 +29,7 @@ pub fn no_better_under_more_load()
     ensures estimate_in_snow { NoBetterLetterInSnowOnAnEstimate }
 {}
 
-/// Part 2: a demand meets a letter exactly when it is at most the service volume.
+/// SHAPE-2: a demand meets a letter exactly when it is at most the service volume.
 pub fn meets_up_to_the_service_volume()
     ensures part { MeetsUpToTheServiceVolume }
     ensures example { ServiceVolumeOfTheExample }
@@ -37,7 +37,7 @@ pub fn meets_up_to_the_service_volume()
     ensures in_snow { ServiceVolumeInSnow }
 {}
 
-/// Part 3: the lanes question answers the least accepted lane count that meets the letter, or 14 where none
+/// SHAPE-3: the lanes question answers the least accepted lane count that meets the letter, or 14 where none
 /// does.
 pub fn least_accepted_count()
     ensures part { LeastAcceptedCount }
@@ -47,7 +47,8 @@ pub fn least_accepted_count()
     ensures in_snow { ThreeLanesInSnow }
 {}
 
-/// How large the figures and the refusals of an answer can be.
+/// ANSWER-2, ORDER-2, LANES-3: how large the figures of an answer, a lane count and the number of a refusal
+/// can be.
 pub fn ends()
     ensures figures { FiguresWithinEnds }
     ensures volumes { VolumesUpToAnyEnd }
@@ -56,19 +57,20 @@ pub fn ends()
     ensures reached { RefusalsReachEnds }
 {}
 
-/// A case is refused by the first of 1 to 9, 19 and 10 that it breaks, and answered where it breaks none.
+/// ORDER-2: a case is refused by the first of 1 to 9, 19 and 10 that it breaks, and answered where it breaks
+/// none.
 pub fn refused_by_the_list()
     ensures { RefusedByTheList }
 {}
 
-/// What refuses the lanes question, and in which order.
+/// LANES-3: what refuses the lanes question, and in which order.
 pub fn lanes_refusals()
     ensures in_order { LanesRefusalsInOrder }
     ensures as_the_case { LanesRefusedAsTheCase }
     ensures fit_fields { NothingBut14RefusesFitFields }
 {}
 
-/// Which demands are tried for the service volumes, and how many: at most 80 for the five together.
+/// TRIES-1 to TRIES-3: which demands are tried for the service volumes, and how many: at most 80.
 pub fn tries()
     ensures order { NoVolumeAboveTheNext }
     ensures each_letter { TriesOfALetter }
@@ -79,7 +81,7 @@ pub fn tries()
     ensures refused { RefusedTried }
 {}
 
-/// Each boundary section gets what is listed for it.
+/// FIGURE-1: each boundary section gets what is listed for it.
 pub fn boundary_sections()
     ensures { Shown boundary_facts }
 {}

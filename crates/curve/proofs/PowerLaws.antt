@@ -1,4 +1,4 @@
--- T (specs/Power): the table's rule and its rise, by one test that is computed over all 1,001 entries.
+-- T (specs/Power). FORM-6: the table's rule and its rise, by one test, computed over all 1,001 entries.
 use Rattle.std.proofs.Common.{◌≡◌, refl, Bool, ◌&&◌, ◌∷◌, ℕ, zero, suc, ◌*◌, ◌^◌, ◌≤◌, arith, le_trans, le_refl, T, leb, leb→le, le→leb}
 use Rattle.std.proofs.Common.{get_or, length}
 use Rattle.std.proofs.Math.Decide.{dec_le}

@@ -1,4 +1,4 @@
--- The table of powers as a list: src/table.rt has its numbers.
+-- FORM-6: the table of powers as a list: src/power_table.rt has its numbers.
 use Rattle.std.proofs.Common.{List, ℕ}
 use Rattle.curve.specs.declared.power_table.TheConstants.{POWERS}
 

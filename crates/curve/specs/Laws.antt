@@ -16,23 +16,23 @@ use Rattle.curve.specs.Speed.{speed}
 use Rattle.curve.specs.Service.{density, shown_density, letter_at, letter_number}
 
 -- ---- powers
--- T(i) reaches the power 1.31 of i, and no smaller number does, for i from 0 to 1,000.
+-- CURVE-5, FORM-6: T(i) reaches the power 1.31 of i, and no smaller number does, for i from 0 to 1,000.
 abbrev pub PowerIsLeast : Type 0
 PowerIsLeast =
     (i : ℕ) → i ≤ 1000
     → (i ^ 131 * 10 ^ 207 ≤ power i ^ 100) × ((t : ℕ) → i ^ 131 * 10 ^ 207 ≤ t ^ 100 → power i ≤ t)
 
--- T never falls, and is at most 1,000,000 millionths.
+-- CURVE-5, FORM-6: T never falls, and is at most 1,000,000 millionths.
 abbrev pub PowerNeverFalls : Type 0
 PowerNeverFalls = (i j : ℕ) → i ≤ j → j ≤ 1000 → (power i ≤ power j) × (power j ≤ 1000000)
 
--- "The table of 1,001 powers is constant": the code's constant is that table.
+-- CURVE-5, FORM-6, UNIT-4: the code's constant is the table of T.
 abbrev pub TableHoldsPowers : Type 0
 TableHoldsPowers = PowerTable POWERS
 
 -- ---- kinds
--- What each kind carries, in figures: the ends of F, the lower end of F after its factor and of the weather's
--- factors, the ends of the lane count, and the ends of capacity.
+-- KIND-1, FORM-7: what each kind carries, in figures: the ends of F, the lower end of F after its factor and
+-- of the weather's factors, the ends of the lane count, and the ends of capacity.
 abbrev pub KindsCarry : Type 0
 KindsCarry =
     (carried_by Kind.Freeway ≡ 55000 ∷ 75000 ∷ 50000 ∷ 500 ∷ 2 ∷ 8 ∷ 225000 ∷ 240000 ∷ [])
@@ -45,13 +45,13 @@ KindsCarry =
         ∷ lowest_capacity kind ∷ highest_capacity kind ∷ []
 
 -- ---- capacity
--- Capacity lies between the kind's ends, for every F between its ends.
+-- CURVE-1, KIND-1: capacity lies between the kind's ends, for every F between its ends.
 abbrev pub CapacityWithinEnds : Type 0
 CapacityWithinEnds =
     (kind : Kind) (f : ℕ) → lowest_speed kind ≤ f → f ≤ highest_speed kind
     → (lowest_capacity kind ≤ capacity kind f) × (capacity kind f ≤ highest_capacity kind)
 
--- and it reaches them, at the ends of F.
+-- CURVE-1, KIND-1: capacity reaches the kind's ends, at the ends of F.
 abbrev pub CapacityReachesEnds : Type 0
 CapacityReachesEnds =
     (kind : Kind)
@@ -59,12 +59,13 @@ CapacityReachesEnds =
     × (capacity kind (highest_speed kind) ≡ highest_capacity kind)
 
 -- ---- weather
--- With both factors 1,000 the curve is that of document 01.
+-- WEATHER-1: with both factors 1,000 the curve is the one at F itself.
 abbrev pub ClearWeatherChangesNothing : Type 0
 ClearWeatherChangesNothing = (kind : Kind) (f : ℕ) → curve_under clear kind f ≡ curve_at kind f
 
--- With factors within their ends, and F after its factor not below its lower end, the breakpoint is below
--- capacity, the speed at capacity is at most F, and 64 bits hold the products.
+-- CURVE-3, WEATHER-2, WEATHER-3, SAFE-1: with factors within their ends, F up to its upper end and after its
+-- factor not below its lower end, the breakpoint is below capacity, the speed at capacity is at most F, and
+-- 64 bits hold the products.
 abbrev pub CurveUnderIsWellFormed : Type 0
 CurveUnderIsWellFormed =
     (kind : Kind) (weather : Weather) (f : ℕ) → FactorsFit kind weather
@@ -73,32 +74,33 @@ CurveUnderIsWellFormed =
     → WellFormed (curve_under weather kind f) × Sized (curve_under weather kind f)
 
 -- ---- speed
--- Up to capacity the speed is a fraction above 0: what the laws below say by cross-multiplying has its
--- meaning.
+-- CURVE-3: up to capacity the speed is a fraction above 0: what the laws below say by cross-multiplying has
+-- its meaning.
 abbrev pub SpeedIsAboveZero : Type 0
 SpeedIsAboveZero =
     (curve : Curve) (v : ℕ) → WellFormed curve → 100 * v ≤ curve.capacity
     → (0 < (speed curve v).numerator) × (0 < (speed curve v).denominator)
 
--- Up to capacity the speed is never below that at capacity, 10c/45: so no subtraction in S goes below 0.
+-- CURVE-3: up to capacity the speed is never below that at capacity, 10c/45: so no subtraction in S goes
+-- below 0.
 abbrev pub SpeedNeverBelowCapacitySpeed : Type 0
 SpeedNeverBelowCapacitySpeed =
     (curve : Curve) (v : ℕ) → WellFormed curve → 100 * v ≤ curve.capacity
     → AtMost (over (10 * curve.capacity) 45) (speed curve v)
 
--- With more flow the speed never rises.
+-- CURVE-3: up to capacity the speed never rises with more flow.
 abbrev pub SpeedNeverRisesWithFlow : Type 0
 SpeedNeverRisesWithFlow =
     (curve : Curve) (v₁ v₂ : ℕ) → WellFormed curve → v₁ ≤ v₂ → 100 * v₂ ≤ curve.capacity
     → AtMost (speed curve v₂) (speed curve v₁)
 
--- With more flow the density never falls.
+-- CURVE-7: up to capacity the density never falls with more flow.
 abbrev pub DensityNeverFallsWithFlow : Type 0
 DensityNeverFallsWithFlow =
     (curve : Curve) (v₁ v₂ : ℕ) → WellFormed curve → v₁ ≤ v₂ → 100 * v₂ ≤ curve.capacity
     → density curve v₁ ≤ density curve v₂
 
--- With a higher free-flow speed the speed never falls, of either kind, in clear weather.
+-- CURVE-3: with a higher free-flow speed the speed never falls, of either kind, in clear weather.
 abbrev pub SpeedNeverFallsWithFreeFlowSpeed : Type 0
 SpeedNeverFallsWithFreeFlowSpeed =
     (kind : Kind) (f g v : ℕ) → lowest_speed kind ≤ f → f ≤ g → g ≤ highest_speed kind
@@ -106,25 +108,26 @@ SpeedNeverFallsWithFreeFlowSpeed =
     → AtMost (speed (curve_at kind f) v) (speed (curve_at kind g) v)
 
 -- ---- density and letter
--- The shown density meets a limit exactly when 10,000v is at most the limit times S: the letter rests on the
--- unrounded speed.
+-- LETTER-1, CURVE-7: the shown density meets a limit exactly when 10,000v is at most the limit times S, which
+-- is exact.
 abbrev pub DensityMeetsLimitByExactSpeed : Type 0
 DensityMeetsLimitByExactSpeed =
     (curve : Curve) (v limit : ℕ) → WellFormed curve → 100 * v ≤ curve.capacity
     → (shown_density curve v ≤ limit) ↔ AtMost (whole (10000 * v)) (times (whole limit) (speed curve v))
 
--- Up to capacity the density is at most 450: no case there is past E.
+-- LETTER-1, CURVE-7: up to capacity the density is at most 450: no case there is past E.
 abbrev pub DensityAtMost450 : Type 0
 DensityAtMost450 =
     (curve : Curve) (v : ℕ) → WellFormed curve → 100 * v ≤ curve.capacity → density curve v ≤ 450
 
--- More flow never gets a better letter, on any curve.
+-- SHAPE-1, LETTER-3: more flow never gets a better letter, on any well-formed curve.
 abbrev pub LetterNeverBetterWithFlow : Type 0
 LetterNeverBetterWithFlow =
     (curve : Curve) (v₁ v₂ : ℕ) → WellFormed curve → v₁ ≤ v₂
     → letter_number (letter_at curve v₁) ≤ letter_number (letter_at curve v₂)
 
--- More flow at a free-flow speed that is no higher never gets a better letter, in clear weather.
+-- SHAPE-1, LETTER-3: more flow at a free-flow speed that is no higher never gets a better letter, in clear
+-- weather.
 abbrev pub LetterNeverBetter : Type 0
 LetterNeverBetter =
     (kind : Kind) (f g v₁ v₂ : ℕ) → lowest_speed kind ≤ f → f ≤ g → g ≤ highest_speed kind → v₁ ≤ v₂

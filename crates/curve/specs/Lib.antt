@@ -1,12 +1,12 @@
--- The speed–flow curve of document 01, under the weather of document 02, from a free-flow speed to speed,
--- density and letter, a file for each part.
+-- The speed–flow curve under weather, from a free-flow speed to speed, density and letter, a file for each
+-- part.
 -- what each kind carries
 pub mod Kinds
 -- T(i) by whole powers
 pub mod Power
 -- capacity, breakpoint, the curve at a free-flow speed
 pub mod Curves
--- the factors of document 02, and the curve under weather
+-- the factors, and the curve under weather
 pub mod Weather
 -- S as an exact fraction, and as it is shown
 pub mod Speed

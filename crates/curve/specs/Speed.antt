@@ -1,4 +1,4 @@
--- Speed on a curve at flow rate v, in thousandths of mi/h (document 01, "Capacity and curve").
+-- Speed on a curve at flow rate v, in thousandths of mi/h.
 use Rattle.std.specs.Prelude.{ℕ, ◌*◌, ◌-◌, ◌≤◌, ◌<◌, if◌then◌else◌, nat_le}
 use Rattle.numbers.specs.declared.Fraction.{Fraction}
 use Rattle.numbers.specs.Fraction.{over, whole, minus, times, squared, SameValue, rounded_down, rounded_up}
@@ -6,40 +6,37 @@ use Rattle.curve.specs.Power.{power}
 use Rattle.curve.specs.declared.kind.Kind.{Kind}
 use Rattle.curve.specs.declared.Curve.{Curve}
 
--- 100v − b, 0 up to the breakpoint
+-- CURVE-4, CURVE-5: 100v − b, 0 up to the breakpoint
 abbrev pub beyond_breakpoint : Curve → ℕ → ℕ
 beyond_breakpoint curve v = 100 * v - curve.breakpoint
 
--- c − b
+-- CURVE-4, CURVE-5: c − b
 abbrev pub span_to_capacity : Curve → ℕ
 span_to_capacity curve = curve.capacity - curve.breakpoint
 
--- the same, by the kind
--- "F: w = ((100v − b) / (c − b)) squared, exactly"
--- "M: i is 1,000 × (100v − b) / (c − b), rounded up; w = T(i) millionths"
+-- CURVE-4, CURVE-5, KIND-1: w, by the kind: the exponent is 2 on kind F, 1.31 on kind M
 unfoldable pub fall_share_by : Kind → Curve → ℕ → Fraction
 fall_share_by Kind.Freeway curve v = squared (over (beyond_breakpoint curve v) (span_to_capacity curve))
 fall_share_by Kind.Multilane curve v =
     over (power (rounded_up (over (1000 * beyond_breakpoint curve v) (span_to_capacity curve)))) 1000000
 
--- w, the part of the fall from F to the speed at capacity that is reached at v
+-- CURVE-4, CURVE-5: w, the part of the fall from F to the speed at capacity that is reached at v
 abbrev pub fall_share : Curve → ℕ → Fraction
 fall_share curve v = fall_share_by curve.kind curve v
 
--- S, exactly, for v up to capacity
--- "Up to 100v = b, speed S = F. From there to 100v = c, S = F − (F − 10c/45) × w"
+-- CURVE-3: S, exactly, for v up to capacity: F up to b, and from there F − (F − 10c/45) × w
 unfoldable pub speed : Curve → ℕ → Fraction
 speed curve v =
     if nat_le (100 * v) curve.breakpoint then whole curve.free_flow_speed
     else minus (whole curve.free_flow_speed)
     (times (minus (whole curve.free_flow_speed) (over (10 * curve.capacity) 45)) (fall_share curve v))
 
--- S rounded down; 0 above capacity
--- "Shown speed is S rounded down", "If 100v is above c, speed and density are shown as 0"
+-- CURVE-6, LETTER-2: S rounded down; 0 above capacity
 unfoldable pub shown_speed : Curve → ℕ → ℕ
 shown_speed curve v = if nat_le (100 * v) curve.capacity then rounded_down (speed curve v) else 0
 
--- s is a fraction of the same value as S, above 0 and in numbers that the code can go on with
+-- CURVE-3, SAFE-1: s is a fraction of the same value as S, above 0 and in numbers that the code can go on
+-- with
 pub record ExactSpeed (curve : Curve) (v : ℕ) (s : Fraction) : Type 0 where
   pub same : SameValue s (speed curve v)
   pub denominator-pos : 0 < s.denominator

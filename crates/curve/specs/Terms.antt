@@ -4,7 +4,7 @@
 use Rattle.std.specs.Prelude.{ℕ, ◌*◌}
 use Rattle.curve.specs.declared.kind.Kind.{Kind}
 
--- the denominator of w, where c − b is s
+-- CURVE-4, CURVE-5: the denominator of w, where c − b is the span
 abbrev pub share_denominator_of : Kind → ℕ → ℕ
 share_denominator_of Kind.Freeway span = span * span
 share_denominator_of Kind.Multilane span = 1000000

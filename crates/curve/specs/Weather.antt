@@ -1,5 +1,5 @@
--- The curve under weather (document 02, T-03): a speed factor and a capacity factor, in thousandths. "Each
--- product is rounded down once, at its end."
+-- The curve under weather: a speed factor and a capacity factor, in thousandths. A product is rounded down at
+-- its end alone.
 use Rattle.std.specs.Prelude.{ℕ, ◌≤◌}
 use Rattle.numbers.specs.Fraction.{over, whole, times, squared, rounded_down}
 use Rattle.curve.specs.declared.kind.Kind.{Kind}
@@ -8,40 +8,35 @@ use Rattle.curve.specs.declared.Weather.{Weather}
 use Rattle.curve.specs.Kinds.{lowest_factor}
 use Rattle.curve.specs.Curves.{capacity, breakpoint}
 
--- the weather with speed factor s and capacity factor k
+-- WEATHER-1: the weather with these two factors
 abbrev pub factors : (speed capacity : ℕ) → Weather
 factors speed capacity = record { speed_factor = speed; capacity_factor = capacity }
 
--- both factors 1,000
--- "Lines of 13 fields mean 1,000 for both"
+-- WEATHER-1: both factors 1,000
 abbrev pub clear : Weather
 clear = factors 1000 1000
 
--- both factors are within the kind's ends
--- "in thousandths from 500 to 1,000", "Kind M takes 1,000 only"
+-- WEATHER-1, KIND-1: both factors are within the kind's ends
 pub record FactorsFit (kind : Kind) (weather : Weather) : Type 0 where
   pub speed-low : lowest_factor kind ≤ weather.speed_factor
   pub speed-high : weather.speed_factor ≤ 1000
   pub capacity-low : lowest_factor kind ≤ weather.capacity_factor
   pub capacity-high : weather.capacity_factor ≤ 1000
 
--- F after its factor
--- "F after its upper end becomes F times the first factor"
+-- WEATHER-2: F after its factor
 unfoldable pub adjusted_speed : Weather → ℕ → ℕ
 adjusted_speed weather f = rounded_down (times (whole f) (over weather.speed_factor 1000))
 
--- c after its factor
--- "c .. is multiplied by the second"
+-- WEATHER-3: c after its factor
 unfoldable pub adjusted_capacity : Weather → ℕ → ℕ
 adjusted_capacity weather c = rounded_down (times (whole c) (over weather.capacity_factor 1000))
 
--- b after its factor
--- "b is multiplied by the second factor squared"
+-- WEATHER-3: b after the square of that factor
 unfoldable pub adjusted_breakpoint : Weather → ℕ → ℕ
 adjusted_breakpoint weather b = rounded_down (times (whole b) (squared (over weather.capacity_factor 1000)))
 
--- the curve of a kind at free-flow speed f, which is before its factor
--- "c, worked from that F", and b as c is
+-- WEATHER-2, WEATHER-3: the curve of a kind at free-flow speed f, which is before its factor; c and b are
+-- worked from F after it
 unfoldable pub curve_under : Weather → Kind → ℕ → Curve
 curve_under weather kind f =
     record {

@@ -1,4 +1,4 @@
-//! The two kinds of road, and the constants that each carries.
+//! KIND-1: the two kinds of road, and the constants that each carries.
 
 ghost use Rattle.std.specs.Prelude.{◌≡◌};
 ghost use Rattle.curve.specs.Kinds.{lowest_speed, highest_speed, lowest_adjusted_speed, lowest_factor, fewest_lanes, most_lanes};
@@ -6,26 +6,27 @@ ghost use Rattle.curve.specs.Kinds.{lowest_capacity, highest_capacity};
 
 use numbers::units::{Capacity, Share, Speed};
 
-/// Kind F: a basic freeway segment.
+/// KIND-1, FORM-7: kind F, a basic freeway segment, with its ends as associated constants.
 #[derive(Clone, Copy)]
 pub struct Freeway;
 
 impl Freeway {
-    /// The lower end of F, thousandths of mi/h.
+    /// KIND-1, REFUSAL-10: the lower end of F, thousandths of mi/h.
     pub const LOWEST_SPEED: Speed = 55_000;
-    /// The upper end of F, thousandths of mi/h.
+    /// KIND-1, FFS-10: the upper end of F, thousandths of mi/h.
     pub const HIGHEST_SPEED: Speed = 75_000;
-    /// The lower end of F after the speed factor, thousandths of mi/h.
+    /// KIND-1, REFUSAL-10: the lower end of F after the speed factor, thousandths of mi/h.
     pub const LOWEST_ADJUSTED_SPEED: Speed = 50_000;
-    /// The lower end of the weather's factors, thousandths.
+    /// KIND-1, WEATHER-1: the lower end of the weather's factors, thousandths.
     pub const LOWEST_FACTOR: Share = 500;
-    /// The fewest lanes in one direction.
+    /// KIND-1: the fewest lanes in one direction.
     pub const FEWEST_LANES: u64 = 2;
-    /// The most lanes in one direction.
+    /// KIND-1: the most lanes in one direction.
     pub const MOST_LANES: u64 = 8;
-    /// Capacity in clear weather at the lower end of F, hundredths of passenger cars per hour per lane.
+    /// KIND-1, CURVE-1: capacity in clear weather at the lower end of F, hundredths of passenger cars per
+    /// hour per lane.
     pub const LOWEST_CAPACITY: Capacity = 225_000;
-    /// The same at the upper end.
+    /// KIND-1, CURVE-1: capacity in clear weather at the upper end of F.
     pub const HIGHEST_CAPACITY: Capacity = 240_000;
 
     const LIMITS: Limits = Limits {
@@ -40,26 +41,27 @@ impl Freeway {
     };
 }
 
-/// Kind M: a multilane highway.
+/// KIND-1, FORM-7: kind M, a multilane highway, with its ends as associated constants.
 #[derive(Clone, Copy)]
 pub struct Multilane;
 
 impl Multilane {
-    /// The lower end of F, thousandths of mi/h.
+    /// KIND-1, REFUSAL-10: the lower end of F, thousandths of mi/h.
     pub const LOWEST_SPEED: Speed = 45_000;
-    /// The upper end of F, thousandths of mi/h.
+    /// KIND-1, FFS-10: the upper end of F, thousandths of mi/h.
     pub const HIGHEST_SPEED: Speed = 70_000;
-    /// The lower end of F after the speed factor, thousandths of mi/h.
+    /// KIND-1, REFUSAL-10: the lower end of F after the speed factor, thousandths of mi/h.
     pub const LOWEST_ADJUSTED_SPEED: Speed = 45_000;
-    /// The lower end of the weather's factors, thousandths.
+    /// KIND-1, WEATHER-1: the lower end of the weather's factors, thousandths.
     pub const LOWEST_FACTOR: Share = 1_000;
-    /// The fewest lanes in one direction.
+    /// KIND-1: the fewest lanes in one direction.
     pub const FEWEST_LANES: u64 = 2;
-    /// The most lanes in one direction.
+    /// KIND-1: the most lanes in one direction.
     pub const MOST_LANES: u64 = 3;
-    /// Capacity in clear weather at the lower end of F, hundredths of passenger cars per hour per lane.
+    /// KIND-1, CURVE-1: capacity in clear weather at the lower end of F, hundredths of passenger cars per
+    /// hour per lane.
     pub const LOWEST_CAPACITY: Capacity = 190_000;
-    /// The same at the upper end.
+    /// KIND-1, CURVE-1: capacity in clear weather at the upper end of F.
     pub const HIGHEST_CAPACITY: Capacity = 230_000;
 
     const LIMITS: Limits = Limits {
@@ -74,7 +76,7 @@ impl Multilane {
     };
 }
 
-/// A kind's constants, for code that has the kind as a value.
+/// KIND-1: a kind's constants, for code that has the kind as a value.
 #[derive(Clone, Copy)]
 pub struct Limits {
     pub lowest_speed: Speed,
@@ -87,7 +89,7 @@ pub struct Limits {
     pub highest_capacity: Capacity,
 }
 
-/// One of the two kinds.
+/// KIND-1: one of the two kinds.
 #[derive(Clone, Copy, PartialEq, Eq)]
 pub enum Kind {
     Freeway,
@@ -95,7 +97,7 @@ pub enum Kind {
 }
 
 impl Kind {
-    /// The constants of the kind.
+    /// KIND-1, FORM-7: the constants of the kind.
     pub fn limits(self) -> Limits
         ensures lowest_speed { result.lowest_speed ≡ lowest_speed self }
         ensures highest_speed { result.highest_speed ≡ highest_speed self }

@@ -18,7 +18,7 @@ ghost use Rattle.curve.specs.Weather.{FactorsFit, adjusted_speed, curve_under};
 use crate::kind::Kind;
 use numbers::units::{Capacity, Share, Speed};
 
-/// A speed-flow curve by its free-flow speed, capacity and breakpoint.
+/// CURVE-1, CURVE-2: a speed-flow curve by its free-flow speed, capacity and breakpoint.
 #[derive(Clone, Copy, PartialEq, Eq)]
 pub struct Curve {
     pub kind: Kind,
@@ -27,16 +27,17 @@ pub struct Curve {
     pub breakpoint: Capacity,
 }
 
-/// What weather does to a curve. Any number may stand in a field; refusal 19 says which are fit.
+/// WEATHER-1: what weather does to a curve. Any number may stand in a field; refusal 19 says which are fit.
 #[derive(Clone, Copy, PartialEq, Eq)]
 pub struct Weather {
-    /// on the free-flow speed
+    /// WEATHER-2: on the free-flow speed
     pub speed_factor: Share,
-    /// on capacity, and squared on the breakpoint
+    /// WEATHER-3: on capacity, and squared on the breakpoint
     pub capacity_factor: Share,
 }
 
 impl Kind {
+    /// CURVE-1: by the ends of the kind.
     #[tactic(auto, unfolding(crate::specs::Curves::capacity))]
     fn capacity(self, speed: Speed) -> Capacity
         requires { speed ≤ highest_speed self }
@@ -50,6 +51,7 @@ impl Kind {
         by_speed.min(limits.highest_capacity)
     }
 
+    /// CURVE-2: b.
     #[tactic(auto, unfolding(crate::specs::Curves::breakpoint))]
     fn breakpoint(self, speed: Speed) -> Capacity
         requires { speed ≤ highest_speed self }
@@ -63,12 +65,13 @@ impl Kind {
 }
 
 impl Weather {
-    /// Clear weather: both factors 1,000.
+    /// WEATHER-1: clear weather, both factors 1,000.
     pub const CLEAR: Weather = Weather {
         speed_factor: 1_000,
         capacity_factor: 1_000,
     };
 
+    /// WEATHER-2: F after its factor.
     #[tactic(auto, unfolding(crate::specs::Weather::adjusted_speed))]
     fn adjusted_speed(self, speed: Speed) -> Speed
         requires speed_high { speed ≤ 75000 }
@@ -80,8 +83,8 @@ impl Weather {
 }
 
 impl Curve {
-    /// The curve of a kind at a free-flow speed before the weather's factor. Capacity and breakpoint are
-    /// worked from the speed after it.
+    /// WEATHER-2, WEATHER-3: the curve of a kind at a free-flow speed before the weather's factor. Capacity
+    /// and breakpoint are worked from the speed after it.
     #[tactic(auto, using(crate::proofs::WeatherLaws::curve_laws))]
     pub fn under(weather: Weather, kind: Kind, speed: Speed) -> Curve
         requires speed_high { speed ≤ highest_speed kind }

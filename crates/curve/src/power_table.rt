@@ -1,4 +1,4 @@
-// T(i), i from 0 to 1,000. Made by tools/tables.rs: `make tables`.
+/// CURVE-5, FORM-6: T(i), i from 0 to 1,000. Made by tools/tables.rs: `make tables`.
 pub(crate) static POWERS: [u32; 1001] = [
     0, 118, 292, 496, 723, 968, 1229, 1504, 1791, 2090, 2399, 2718, 3046, 3383, 3728, 4081, 4441,
     4808, 5181, 5562, 5948, 6341, 6739, 7143, 7553, 7968, 8388, 8813, 9243, 9678, 10117, 10561,

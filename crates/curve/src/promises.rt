@@ -5,32 +5,34 @@ ghost use Rattle.curve.specs.Laws.{ClearWeatherChangesNothing, CurveUnderIsWellF
 ghost use Rattle.curve.specs.Laws.{SpeedNeverRisesWithFlow, SpeedNeverFallsWithFreeFlowSpeed, DensityNeverFallsWithFlow, DensityAtMost450};
 ghost use Rattle.curve.specs.Laws.{DensityMeetsLimitByExactSpeed, LetterNeverBetterWithFlow, LetterNeverBetter};
 
-/// T(i) is the least number that reaches the power 1.31, T never falls, and the constant table is T.
+/// CURVE-5, FORM-6: T(i) is the least number that reaches the power 1.31, T never falls, and the constant
+/// table is T.
 pub fn powers()
     ensures least { PowerIsLeast }
     ensures never_falls { PowerNeverFalls }
     ensures table { TableHoldsPowers }
 {}
 
-/// What each kind carries, in figures.
+/// KIND-1, FORM-7: what each kind carries, in figures.
 pub fn kinds()
     ensures { KindsCarry }
 {}
 
-/// Capacity lies between the ends of its kind, and reaches both.
+/// CURVE-1, KIND-1: capacity lies between the ends of its kind, and reaches both.
 pub fn capacities()
     ensures within { CapacityWithinEnds }
     ensures reached { CapacityReachesEnds }
 {}
 
-/// Clear weather changes no curve, and under weather that is fit a curve is well formed.
+/// WEATHER-1, WEATHER-2, WEATHER-3, CURVE-3: clear weather changes no curve, and under weather that is fit a
+/// curve is well formed.
 pub fn weather()
     ensures clear { ClearWeatherChangesNothing }
     ensures well_formed { CurveUnderIsWellFormed }
 {}
 
-/// Up to capacity the speed is above 0 and at least that at capacity. It never rises with more flow, and in
-/// clear weather it never falls with a higher free-flow speed.
+/// CURVE-3: up to capacity the speed is above 0 and at least that at capacity. It never rises with more flow,
+/// and in clear weather it never falls with a higher free-flow speed.
 pub fn speeds()
     ensures above_zero { SpeedIsAboveZero }
     ensures at_capacity { SpeedNeverBelowCapacitySpeed }
@@ -38,16 +40,16 @@ pub fn speeds()
     ensures with_free_flow_speed { SpeedNeverFallsWithFreeFlowSpeed }
 {}
 
-/// Up to capacity the density never falls with more flow and is at most 450, and the letter rests on the
-/// exact speed.
+/// CURVE-7, LETTER-1: up to capacity the density never falls with more flow and is at most 450, and the
+/// letter rests on the exact speed.
 pub fn densities()
     ensures with_flow { DensityNeverFallsWithFlow }
     ensures most { DensityAtMost450 }
     ensures by_exact_speed { DensityMeetsLimitByExactSpeed }
 {}
 
-/// More flow never gets a better letter, nor does in clear weather more flow at a free-flow speed that is no
-/// higher.
+/// SHAPE-1, LETTER-3: more flow never gets a better letter, nor does in clear weather more flow at a
+/// free-flow speed that is no higher.
 pub fn letters()
     ensures with_flow { LetterNeverBetterWithFlow }
     ensures with_free_flow_speed { LetterNeverBetter }

@@ -6,7 +6,7 @@ ghost use Rattle.curve.specs.Service.{letter_number, density_limit, density_lett
 use crate::speed::CurveTerms;
 use numbers::units::{Density, FlowRate, Speed};
 
-/// The level of service.
+/// LETTER-3: the level of service.
 #[derive(Clone, Copy, PartialEq, Eq)]
 pub enum Letter {
     A = 1,
@@ -17,25 +17,25 @@ pub enum Letter {
     F = 6,
 }
 
-/// Speed and density as they are shown, and the letter.
+/// CURVE-6, CURVE-7, LETTER-1: speed and density as they are shown, and the letter.
 #[derive(Clone, Copy, PartialEq, Eq)]
 pub struct Performance {
-    /// 0 above capacity
+    /// LETTER-2: 0 above capacity
     pub speed: Speed,
-    /// 0 above capacity
+    /// LETTER-2: 0 above capacity
     pub density: Density,
     pub letter: Letter,
 }
 
 impl Letter {
-    /// A is 1, the best, and F is 6, the worst.
+    /// LETTER-3: A is 1, the best, and F is 6, the worst.
     pub fn number(self) -> u64
         ensures { result ≡ letter_number self }
     {
         self as u64
     }
 
-    /// The greatest density that gets the letter or a better one. F has E's.
+    /// LETTER-1: the greatest density that gets the letter or a better one. F has E's.
     #[tactic(auto, unfolding(crate::specs::Service::density_limit))]
     pub fn density_limit(self) -> Density
         ensures { result ≡ density_limit (letter_number self) }
@@ -49,7 +49,7 @@ impl Letter {
         }
     }
 
-    /// The letter of a density up to capacity.
+    /// LETTER-1, FORM-5: the letter of a density up to capacity.
     #[tactic(auto, unfolding(crate::specs::Service::density_limit, crate::specs::Service::density_letter))]
     fn of_density(density: Density) -> Letter
         ensures { result ≡ density_letter density }
@@ -66,7 +66,7 @@ impl Letter {
 }
 
 impl CurveTerms {
-    /// What any flow rate gets.
+    /// CURVE-6, CURVE-7, LETTER-1, LETTER-2: what any flow rate gets.
     #[tactic(auto, using(crate::proofs::TermsLaws::performance_laws))]
     pub fn performance_at(&self, v: FlowRate) -> Performance
         ensures { result ≡ performance self.now.curve v }
@@ -87,7 +87,8 @@ impl CurveTerms {
         }
     }
 
-    /// Whether a flow rate keeps to capacity and to a density of at most 450. On kind F nothing is divided.
+    /// VOLUME-1, LETTER-1: whether a flow rate keeps to capacity and to a density of at most the limit. On
+    /// kind F nothing is divided.
     #[tactic(auto, using(crate::proofs::TermsLaws::limit_laws))]
     pub fn meets_limit(&self, v: FlowRate, limit: Density) -> bool
         requires { limit ≤ 450 }

@@ -1,4 +1,4 @@
-//! Speed on a curve, as an exact fraction of thousandths of mi/h.
+//! CURVE-3: speed on a curve, as an exact fraction of thousandths of mi/h.
 
 ghost use Rattle.std.specs.Prelude.{◌≡◌, ◌*◌, ◌-◌, ◌/◌, ◌≤◌};
 ghost use Rattle.curve.specs.Curves.{WellFormed, Sized};
@@ -10,7 +10,7 @@ use crate::{Curve, power};
 use numbers::Fraction;
 use numbers::units::{Capacity, FlowRate};
 
-/// A curve with what its speeds have in common, worked out once.
+/// CURVE-3: a curve with what its speeds have in common, worked out once.
 #[derive(Clone, Copy)]
 pub struct CurveTerms {
     pub curve: Curve,
@@ -20,7 +20,7 @@ pub struct CurveTerms {
     pub span: Capacity,
     /// the denominator of w
     pub share_denominator: u64,
-    /// 9F times that
+    /// 9F times the denominator of w
     pub free_flow_term: u64,
     /// 9F - 2c
     pub fall_term: u64,
@@ -56,7 +56,8 @@ impl Curve {
 }
 
 impl CurveTerms {
-    /// The terms of a curve whose breakpoint is below its capacity, within the sizes that 64 bits take.
+    /// CURVE-3: the terms of a curve whose breakpoint is below its capacity, within the sizes that 64 bits
+    /// take.
     pub fn new(curve: Curve) -> CurveTerms
         requires well_formed { WellFormed curve }
         requires sized { Sized curve }
@@ -74,7 +75,7 @@ impl CurveTerms {
         }
     }
 
-    /// The numerator of w, its denominator being in the terms.
+    /// CURVE-4, CURVE-5: the numerator of w, its denominator being in the terms.
     #[tactic(auto, using(numbers::proofs::DivisionLaws::divisions), unfolding(crate::specs::Speed::fall_share_by))]
     fn share_numerator(&self, v: FlowRate) -> u64
         requires { 100 * v ≤ self.now.curve.capacity }
@@ -87,7 +88,7 @@ impl CurveTerms {
         }
     }
 
-    /// F - (F - 2c/9) x w, over 9 times the denominator of w.
+    /// CURVE-3: F - (F - 2c/9) x w, over 9 times the denominator of w.
     #[tactic(auto, using(crate::proofs::TermsLaws::terms_fit))]
     pub(crate) fn exact_speed(&self, v: FlowRate) -> Fraction
         requires { 100 * v ≤ self.now.curve.capacity }

@@ -1,4 +1,5 @@
--- The answer by its refusals (specs/Daily), and the daily service volumes by those in the engine's answer.
+-- The answer by its refusals (specs/Daily), and the daily service volumes by those in the engine's answer,
+-- which is that of crates/answer with the hourly demand.
 use Rattle.std.proofs.Common.{◌≡◌, refl, sym, ap, subst, ◌∙◌, ◌↔◌, ℕ, zero, suc, ◌+◌, ◌≤◌, ◌<◌, List, [], ◌∷◌, ◌++◌, T, leb, Result, Ok, Err}
 use Rattle.std.proofs.Common.{⊎_elim, eq-zero-or-pos, arith, rules, le_refl, le_trans, leb→le, lit≤, get_or}
 use native.Mathlib.Decide.{dec_le}

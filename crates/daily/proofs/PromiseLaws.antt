@@ -1,5 +1,5 @@
--- The promises of specs/Promises, proved. MeetsUpToTheServiceVolume and NoBetterUnderMoreLoad, demand 3's
--- parts 2 and 1, carry the two about letters.
+-- The promises of specs/Promises, proved. MeetsUpToTheServiceVolume (SHAPE-2) and NoBetterUnderMoreLoad
+-- (SHAPE-1) carry the two about letters.
 use Rattle.std.proofs.Common.{◌≡◌, refl, sym, ap, ◌∙◌, ◌↔◌, inr, ◌++◌, map, ℕ, ◌+◌, ◌≤◌, arith, rules, le_refl, drop, get_or, Ok}
 use Rattle.curve.proofs.ServiceLaws.{by-letter}
 use Rattle.road.specs.declared.Case.{Case}

@@ -1,4 +1,4 @@
--- Daily volumes for the yearly table.
+-- Daily traffic.
 -- hourly demand, daily service volumes, refusals 20 and 21, the answer
 pub mod Daily
 -- the greatest daily traffic whose hourly demand is at most a volume

@@ -1,6 +1,6 @@
--- The daily traffic that a service volume lets pass. It is no part of the request: proofs/DailyLaws shows
--- that a daily service volume is it, of the service volume in the engine's answer, and proofs/WithinLaws that
--- a division finds it.
+-- The daily traffic that a service volume lets pass: proofs/DailyLaws shows that a daily service volume is
+-- it, of the service volume in the answer with the hourly demand, and proofs/WithinLaws that a division finds
+-- it.
 use Rattle.std.specs.Prelude.{ℕ, [], ◌∷◌, nat_le, drop}
 use Rattle.numbers.specs.Bounds.{AllAtMost}
 use Rattle.numbers.specs.Search.{greatest}
@@ -9,17 +9,17 @@ use Rattle.answer.specs.Laws.{figure_ends}
 use Rattle.daily.specs.declared.Shares.{Shares}
 use Rattle.daily.specs.Daily.{greatest_daily_traffic, hourly_demand}
 
--- the greatest daily traffic whose hourly demand is at most a volume
+-- DAILY-2: the greatest daily traffic whose hourly demand is at most a volume
 unfoldable pub traffic_within : Shares → ℕ → ℕ
 traffic_within shares volume =
     greatest (λ daily. nat_le (hourly_demand shares daily) volume) greatest_daily_traffic
 
--- the service volumes A to E are within the ends that FiguresWithinEnds gives
+-- ANSWER-2: the service volumes A to E are within the ends that FiguresWithinEnds gives
 abbrev pub VolumesFit : Volumes → Type 0
 VolumesFit volumes =
     AllAtMost (volumes.a ∷ volumes.b ∷ volumes.c ∷ volumes.d ∷ volumes.e ∷ []) (drop 6 figure_ends)
 
--- traffic_within of each of them
+-- DAILY-2: traffic_within of each service volume, A to E
 abbrev pub volumes_within : Shares → Volumes → Volumes
 volumes_within shares volumes =
     record {

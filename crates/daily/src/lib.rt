@@ -21,28 +21,28 @@ use refusals::Refusal;
 use road::Case;
 use text::buffer;
 
-/// The greatest daily traffic that 21 lets pass.
+/// REFUSAL-21: the greatest daily traffic that 21 lets pass.
 pub const GREATEST_DAILY_TRAFFIC: DailyTraffic = 4_000_000_000;
 
-/// What one is in millionths, the unit of K × D.
+/// DAILY-1: what one is in millionths, the unit of K × D.
 const MILLION: u64 = 1_000_000;
 
-/// How many numbers an answer is: eleven figures and five daily service volumes.
+/// DAILY-3: how many numbers an answer is: eleven figures and five daily service volumes.
 pub const FIGURE_COUNT: usize = 16;
 
-/// The shares K and D.
+/// DAILY-1: the shares K and D.
 #[derive(Clone, Copy, PartialEq, Eq)]
 pub struct Shares {
     /// K: the peak hour's share of the daily traffic
     pub peak: Share,
-    /// D: the direction's share of the peak hour
+    /// D: the busier direction's share of the peak hour
     pub direction: Share,
 }
 
-/// A daily traffic or a daily service volume, in vehicles a day.
+/// DAILY-1, DAILY-2, UNIT-1: a daily traffic or a daily service volume, in vehicles a day.
 pub type DailyTraffic = u64;
 
-/// What a case gets with a daily traffic.
+/// DAILY-3: what a case gets with a daily traffic.
 #[derive(Clone, Copy, PartialEq, Eq)]
 pub struct DailyGrade {
     /// with the hourly demand
@@ -52,7 +52,7 @@ pub struct DailyGrade {
 }
 
 impl Shares {
-    /// Asks 20, of shares that are not from 1 to 1,000, and then 21, of a daily traffic above 4,000,000,000.
+    /// DAILY-6: asks 20, of shares that are not from 1 to 1,000, and then 21, of a traffic above its end.
     #[tactic(auto, unfolding(crate::specs::Daily::shares_unfit, crate::specs::Daily::traffic_refusals))]
     fn check_traffic(self, daily_traffic: DailyTraffic) -> Result<(), Refusal>
         ensures { refusal_number result ≡ first_refusal (traffic_refusals self daily_traffic) }
@@ -67,7 +67,7 @@ impl Shares {
         Ok(())
     }
 
-    /// The hourly demand of a daily traffic: rounded up once, behind both shares.
+    /// DAILY-1: the hourly demand of a daily traffic: rounded up once, behind both shares.
     #[tactic(auto, using(crate::proofs::WithinLaws::rounded_up), unfolding(crate::specs::Daily::hourly_demand))]
     fn hourly_demand(self, daily_traffic: DailyTraffic) -> Demand
         requires { TrafficFits self daily_traffic }
@@ -76,7 +76,7 @@ impl Shares {
         (daily_traffic * self.peak * self.direction).div_ceil(MILLION)
     }
 
-    /// The greatest daily traffic whose hourly demand is at most a volume.
+    /// DAILY-2, DAILY-3: the greatest daily traffic whose hourly demand is at most a volume, by division.
     #[tactic(auto, using(crate::proofs::WithinLaws::by_division))]
     fn traffic_within(self, volume: Demand) -> DailyTraffic
         requires { SharesInRange self × (volume ≤ greatest_demand) }
@@ -85,8 +85,7 @@ impl Shares {
         (volume * MILLION / (self.peak * self.direction)).min(GREATEST_DAILY_TRAFFIC)
     }
 
-    /// The same of each service volume. No search: what the engine promises of its volumes carries over to
-    /// the daily traffic.
+    /// DAILY-2: `traffic_within` of each service volume. No search: SHAPE-2 carries over to the daily traffic.
     fn volumes_within(self, volumes: Volumes) -> Volumes
         requires { SharesInRange self × VolumesFit volumes }
         ensures { result ≡ volumes_within self volumes }
@@ -102,8 +101,8 @@ impl Shares {
 }
 
 impl DailyGrade {
-    /// Puts its sixteen numbers: the eleven figures of its grade, the letter by its number, and the daily
-    /// service volumes A to E. Answers how many they are.
+    /// DAILY-3: puts its sixteen numbers: the eleven figures of its grade, the letter by its number, and the
+    /// daily service volumes A to E. Answers how many they are.
     pub fn put_figures(&self, out: &mut [u64]) -> usize
         requires { figure_count ≤ length out.old }
         ensures { Wrote (daily_figures (Ok self.now)) out.old out.new result }
@@ -114,8 +113,8 @@ impl DailyGrade {
     }
 }
 
-/// What the case gets with a daily traffic, or the first refusal: 20 of the shares, 21 of the daily traffic,
-/// and those of the case with the hourly demand. The case's own demand is not read.
+/// DAILY-3, DAILY-6: what the case gets with a daily traffic, or the first refusal: 20 of the shares, 21 of
+/// the daily traffic, and those of the case with the hourly demand. The case's own demand is not read.
 #[tactic(auto, using(crate::proofs::DailyLaws::by_engine))]
 pub fn evaluate_daily(
     case: Case,

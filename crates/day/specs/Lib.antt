@@ -1,4 +1,4 @@
--- A whole day in one call.
+-- A day of demands.
 -- the answers, refusal 18, and what the lent answers hold afterwards
 pub mod Days
 -- the refusal with a demand, by the one with none

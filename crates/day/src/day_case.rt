@@ -16,7 +16,7 @@ use refusals::Refusal;
 use road::Case;
 use road::refusal::GREATEST_DEMAND;
 
-/// A case that is accepted with no demand, and its service volumes.
+/// DAY-1: a case that is accepted with no demand, and its service volumes.
 #[derive(Clone, Copy)]
 pub(crate) struct DayCase {
     pub accepted: AcceptedCase,
@@ -25,7 +25,7 @@ pub(crate) struct DayCase {
 }
 
 impl DayCase {
-    /// The case with no demand, or the first of 1 to 6, 8, 9, 19 and 10 that refuses it.
+    /// DAY-3: the case with no demand, or the first of 1 to 6, 8, 9, 19 and 10 that refuses it.
     pub(crate) fn of(case: Case) -> Result<DayCase, Refusal>
         ensures refusal { refusal_number result ≡ refusal (with_demand case 0) }
         ensures kept { IfOk result (λ day_case. day_case.accepted.case ≡ with_demand case 0) }
@@ -35,7 +35,7 @@ impl DayCase {
         Ok(DayCase { accepted, volumes })
     }
 
-    /// The answer with a demand, or 7.
+    /// DAY-1, REFUSAL-7: the answer with a demand, or 7.
     pub(crate) fn answer_with(&self, demand: Demand) -> Result<Grade, Refusal>
         ensures { result ≡ answer_to (with_demand self.now.accepted.case demand) }
     {
@@ -45,8 +45,8 @@ impl DayCase {
         Ok(Grade::new(self.accepted.measures_at(demand), self.volumes))
     }
 
-    /// Of a case that is refused with no demand: its refusal with a demand, which is 7 where that comes
-    /// first.
+    /// DAY-3: of a case that is refused with no demand, its refusal with a demand, which is 7 where that
+    /// comes first.
     pub(crate) fn refusal_with(refusal: Refusal, demand: Demand) -> Refusal
         ensures { number result ≡ refusal_with (number refusal) demand }
     {

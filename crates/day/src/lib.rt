@@ -1,5 +1,4 @@
-//! A whole day in one call: the answers to up to 24 demands on one road, with its lanes, peak-hour factor,
-//! heavy share, terrain and weather.
+//! A day: the answers to up to 24 demands on one case.
 
 #![tactic(auto)]
 
@@ -19,10 +18,10 @@ use numbers::units::Demand;
 use refusals::Refusal;
 use road::Case;
 
-/// The most demands of a day.
+/// DAY-1: the most demands of a day.
 pub const MOST_DEMANDS: usize = 24;
 
-/// How many numbers an answer is: its refusal's number, 0 for none, and eleven figures.
+/// DAY-2: how many numbers an answer is: its refusal's number, 0 for none, and eleven figures.
 pub const FIGURE_COUNT: usize = 12;
 
 #[tactic(auto, unfolding(crate::specs::Days::lent_unfit))]
@@ -32,8 +31,8 @@ fn lent_unfit(demands: usize, numbers: usize) -> bool
     !(1..=MOST_DEMANDS).contains(&demands) || numbers / FIGURE_COUNT < demands
 }
 
-/// Asks whether so many demands and so many lent numbers make a day: 18 for no demand, for more than 24, and
-/// for fewer than twelve numbers a demand.
+/// REFUSAL-18: asks whether so many demands and so many lent numbers make a day: not so with no demand, with
+/// more than 24, and with fewer than twelve numbers a demand.
 #[tactic(auto, unfolding(crate::specs::Days::lent_refusals))]
 pub fn check_lent(demands: usize, numbers: usize) -> Result<(), Refusal>
     ensures { refusal_number result ≡ first_refusal (lent_refusals demands numbers) }
@@ -44,7 +43,7 @@ pub fn check_lent(demands: usize, numbers: usize) -> Result<(), Refusal>
     Ok(())
 }
 
-/// Puts a refusal's number, or 0, and figures behind it; answers how many numbers these are.
+/// DAY-2: puts a refusal's number, or 0, and figures behind it; answers how many numbers these are.
 fn put_position(number: u64, figures: &[u64], out: &mut [u64]) -> usize
     requires { length figures.now < length out.old }
     ensures { Wrote (number ∷ figures.now) out.old out.new result }
@@ -53,7 +52,7 @@ fn put_position(number: u64, figures: &[u64], out: &mut [u64]) -> usize
     1 + text::buffer::put_numbers(figures, &mut out[1..])
 }
 
-/// Puts the twelve numbers of an answer; behind a refusal's number they are 0.
+/// DAY-2: puts the twelve numbers of an answer; behind a refusal's number they are 0.
 fn put_answer(answer: Result<Grade, Refusal>, out: &mut [u64]) -> usize
     requires { figure_count ≤ length out.old }
     ensures { Wrote (answer_figures answer) out.old out.new result }
@@ -64,9 +63,9 @@ fn put_answer(answer: Result<Grade, Refusal>, out: &mut [u64]) -> usize
     }
 }
 
-/// Puts the answer to the case with each demand in its position, twelve numbers each; numbers behind them
-/// stay as they are. The case's own demand is not read, and a demand that 7 refuses has 7 in its position
-/// alone. What `check_lent` refuses is not put.
+/// DAY-1, DAY-3, CALL-5: puts the answer to the case with each demand in its position, twelve numbers each;
+/// numbers behind them stay as they are. The case's own demand is not read, and a demand that 7 refuses has
+/// 7 in its position alone. What `check_lent` refuses is not put.
 pub fn put_day(case: Case, demands: &[Demand], answers: &mut [u64])
     requires { LentFits (length demands.now) (length answers.old) }
     ensures { answers.new ≡ day_written case demands.now answers.old }

@@ -1,5 +1,5 @@
 -- The two ends of a forecast that is accepted: the letters there are the best and the worst (specs/Ends).
--- NoBetterUnderMoreLoad, demand 3's part 1, carries ends-between, by its name.
+-- SHAPE-1, by its name NoBetterUnderMoreLoad, carries ends-between.
 use Rattle.std.proofs.Common.{◌≡◌, refl, sym, ap, ◌∙◌, Bool, ◌↔◌, inr, ℕ, ◌≤◌, ◌<◌, arith, le_refl, T, Ok}
 use Rattle.numbers.proofs.SearchLaws.{least-eq}
 use Rattle.refusals.specs.Refusals.{first_refusal}

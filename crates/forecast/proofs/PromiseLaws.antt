@@ -1,5 +1,5 @@
--- The promises of specs/Promises, proved. NoBetterUnderMoreLoad, demand 3's part 1, carries those about
--- letters. proofs/RefusedExactly has the last one.
+-- The promises of specs/Promises, proved. SHAPE-1 (NoBetterUnderMoreLoad) carries those about letters.
+-- proofs/RefusedExactly has the last one.
 use Rattle.std.proofs.Common.{◌≡◌, refl, sym, ap, ◌∙◌, T, cond, ⊎_elim, eq-zero-or-pos, List, [], ◌∷◌, ◌++◌, ℕ, arith, le_trans}
 use Rattle.std.proofs.Common.{lt_of_not-le, get_or}
 use Rattle.std.proofs.lemmas.Bool.Decides.{nat_tests}

@@ -1,5 +1,5 @@
--- What a reader of an answer is promised (document 02, T-07), over the definitions that the contract of
--- `evaluate_forecast` cites and the engine's own; the functions of src/promises.rt ensure each.
+-- What a reader of an answer is promised, over the definitions that the contract of `evaluate_forecast` cites
+-- and the engine's own; the functions of src/promises.rt ensure each.
 use Rattle.std.specs.Prelude.{◌≡◌, ◌↔◌, [], ◌∷◌, map, ℕ, ◌≤◌, ◌<◌, get_or, Result}
 use Rattle.refusals.specs.declared.Refusal.{Refusal}
 use Rattle.refusals.specs.Refusals.{first_refusal}
@@ -15,31 +15,31 @@ use Rattle.forecast.specs.declared.Forecast.{Forecast}
 use Rattle.forecast.specs.declared.Outcomes.{Outcomes}
 use Rattle.forecast.specs.Forecasts.{forecast_of, Within, forecast_refusals, forecast_answer, outcome_figures}
 
--- nothing refuses the case with the forecast
+-- FORECAST-4: nothing refuses the case with the forecast
 abbrev pub AcceptedForecast : Case → Forecast → Type 0
 AcceptedForecast case forecast = refusal_number (forecast_answer case forecast) ≡ 0
 
--- the number of the best letter in an answer, the first of its eight figures
+-- FORECAST-3, FORM-10: the number of the best letter in an answer, the first of its eight figures
 abbrev pub best_letter_in : Result Outcomes Refusal → ℕ
 best_letter_in answer = get_or (outcome_figures answer) 0 0
 
--- and of the worst, the fifth
+-- FORECAST-3, FORM-10: the number of the worst letter in an answer, the fifth of its eight figures
 abbrev pub worst_letter_in : Result Outcomes Refusal → ℕ
 worst_letter_in answer = get_or (outcome_figures answer) 4 0
 
--- the case with these three in the place of its own, by the base definition and not by this crate's own
--- with_combination
+-- FORECAST-1, CASE-3: the case with this demand, share and factor in the place of its own, by with_load and
+-- not by this crate's with_combination
 abbrev pub case_with : Case → (demand share factor : ℕ) → Case
 case_with case demand share factor = with_load case demand factor share
 
--- P holds of every whole combination within the ends
+-- FORECAST-1: P holds of every whole combination within the ends
 abbrev pub EveryInside : Forecast → ((demand share factor : ℕ) → Type 0) → Type 0
 EveryInside forecast P =
     (demand share factor : ℕ) → Within forecast.demand demand → Within forecast.heavy_share share
     → Within forecast.peak_hour_factor factor → P demand share factor
 
--- every whole combination within the ends is accepted, and its letter is no better than the best and no worse
--- than the worst
+-- FORECAST-5, FORECAST-2: every whole combination within the ends is accepted, and its letter is no better
+-- than the best and no worse than the worst
 abbrev pub EveryLetterBetween : Type 0
 EveryLetterBetween =
     (case : Case) (forecast : Forecast) → AcceptedForecast case forecast
@@ -49,7 +49,7 @@ EveryLetterBetween =
     × (best_letter_in (forecast_answer case forecast) ≤ letter_in (answer_to inside))
     × (letter_in (answer_to inside) ≤ worst_letter_in (forecast_answer case forecast)))
 
--- the eight figures: the engine's letters at the two ends, each with its combination
+-- FORECAST-3, FORECAST-2: the eight figures: the engine's letters at the two ends, each with its combination
 abbrev pub ShownAtTheEnds : Type 0
 ShownAtTheEnds =
     (case : Case) (demand_low demand_high share_low share_high factor_low factor_high : ℕ)
@@ -62,10 +62,8 @@ ShownAtTheEnds =
     ∷ demand_high ∷ share_high ∷ factor_low
     ∷ []
 
--- a letter is met by every combination exactly when the worst meets it, and by none exactly when the best
--- does not
--- The planner's corollary: the two letters tell of a target, A to E, whether it is kept whatever comes, and
--- whether it is missed whatever comes.
+-- FORECAST-5: a letter is met by every combination exactly when the worst letter meets it, and by none
+-- exactly when the best does not
 abbrev pub MetThroughout : Type 0
 MetThroughout =
     (case : Case) (forecast : Forecast) → AcceptedForecast case forecast → (n : ℕ)
@@ -74,14 +72,13 @@ MetThroughout =
     × ((n < best_letter_in (forecast_answer case forecast))
     ↔ EveryInside forecast (λ demand share factor. Meets (case_with case demand share factor) n → ⊥))
 
--- the case's own demand, share and factor as both ends
+-- FORECAST-5: the case's own demand, share and factor as both ends
 abbrev pub own_ends : Case → Forecast
 own_ends case =
     forecast_of case.demand case.demand case.heavy_share case.heavy_share
     case.peak_hour_factor case.peak_hour_factor
 
--- equal ends give the plain letter twice, or the refusal of the plain case
--- "Equal ends give the plain letter twice": of the case itself, which by OwnLoadIsNotRead may carry any load
+-- FORECAST-5: the case's own load as both ends gives its plain letter twice, or its plain refusal
 abbrev pub EqualEnds : Type 0
 EqualEnds =
     (case : Case)
@@ -93,21 +90,22 @@ EqualEnds =
     ≡ letter ∷ case.demand ∷ case.heavy_share ∷ case.peak_hour_factor
     ∷ letter ∷ case.demand ∷ case.heavy_share ∷ case.peak_hour_factor ∷ [])
 
--- cases that agree in road, lanes, terrain and weather get one answer
+-- FORECAST-1: cases that agree in road, lanes, terrain and weather get one answer, whatever load they carry
 abbrev pub OwnLoadIsNotRead : Type 0
 OwnLoadIsNotRead =
     (c d : Case)
     → c.road ≡ d.road → c.lanes ≡ d.lanes → c.terrain ≡ d.terrain → c.weather ≡ d.weather
     → (forecast : Forecast) → forecast_answer c forecast ≡ forecast_answer d forecast
 
--- no low end is above its high end
+-- REFUSAL-22: no low end is above its high end
 abbrev pub Ordered : Forecast → Type 0
 Ordered forecast =
     (forecast.demand.low ≤ forecast.demand.high)
     × (forecast.heavy_share.low ≤ forecast.heavy_share.high)
     × (forecast.peak_hour_factor.low ≤ forecast.peak_hour_factor.high)
 
--- accepted exactly when no range is reversed and every whole combination within the ends is accepted
+-- FORECAST-4: accepted exactly when no range is reversed and every whole combination within the ends is
+-- accepted
 abbrev pub AcceptedExactly : Type 0
 AcceptedExactly =
     (case : Case) (forecast : Forecast)
@@ -115,8 +113,8 @@ AcceptedExactly =
     ↔ (Ordered forecast
     × EveryInside forecast (λ demand share factor. Accepted (case_with case demand share factor)))
 
--- the list has these numbers, in this order
--- 22 for each range, 7 to 9 for each end, and 10 before the weather's factor and after it
+-- FORECAST-4, ORDER-1: the number is the first of the list, which has 22 for each range, 7 to 9 for each end,
+-- and 10 before the speed factor and after it
 abbrev pub RefusalsInOrder : Type 0
 RefusalsInOrder =
     (case : Case) (forecast : Forecast)
@@ -124,27 +122,26 @@ RefusalsInOrder =
     × (map (λ r. r.number) (forecast_refusals case forecast)
     ≡ 1 ∷ 2 ∷ 3 ∷ 4 ∷ 5 ∷ 6 ∷ 22 ∷ 22 ∷ 22 ∷ 7 ∷ 7 ∷ 8 ∷ 8 ∷ 9 ∷ 9 ∷ 19 ∷ 10 ∷ 10 ∷ [])
 
--- no end is above a number
+-- FORECAST-4: neither end of a range is above a number
 abbrev pub BothAtMost : ℕ → Range → Type 0
 BothAtMost most range = (range.low ≤ most) × (range.high ≤ most)
 
--- 7 lets both ends of the demand pass
--- "Checks 7 to 9 hold for both ends"
+-- FORECAST-4, REFUSAL-7: 7 lets both ends of the demand pass
 abbrev pub DemandPasses : Forecast → Type 0
 DemandPasses forecast = BothAtMost greatest_demand forecast.demand
 
--- 8 both ends of the peak-hour factor
+-- FORECAST-4, REFUSAL-8: 8 lets both ends of the peak-hour factor pass
 abbrev pub FactorPasses : Forecast → Type 0
 FactorPasses forecast =
     let range = forecast.peak_hour_factor in
     (250 ≤ range.low) × (250 ≤ range.high) × BothAtMost 1000 range
 
--- and 9 both ends of the heavy share
+-- FORECAST-4, REFUSAL-9: 9 lets both ends of the heavy share pass
 abbrev pub SharePasses : Forecast → Type 0
 SharePasses forecast = BothAtMost 1000 forecast.heavy_share
 
--- 1 to 6 as the engine has them, whatever the ends; then 22 exactly by a reversed range; then 7, 8 and 9 each
--- exactly by an end; then 19 and 10 as the engine has them
+-- FORECAST-4, REFUSAL-22, REFUSAL-7 to REFUSAL-9: 1 to 6 as the engine has them, whatever the ends; then 22
+-- exactly by a reversed range; then 7, 8 and 9 each exactly by an end; then 19 and 10 as the engine has them
 abbrev pub RefusedExactly : Type 0
 RefusedExactly =
     (case : Case) (forecast : Forecast)

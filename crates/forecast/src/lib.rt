@@ -23,17 +23,18 @@ use road::Case;
 use road::refusal::{FitCase, GREATEST_DEMAND};
 use text::buffer;
 
-/// How many numbers an answer is: two letters, each with a demand, a heavy share and a peak-hour factor.
+/// FORECAST-3: how many figures an answer has: two letters, each with a demand, a heavy share and a peak-hour
+/// factor.
 pub const FIGURE_COUNT: usize = 8;
 
-/// Every whole number from the low to the high end.
+/// FORECAST-1: every whole number from the low to the high end.
 #[derive(Clone, Copy, PartialEq, Eq)]
 pub struct Range {
     pub low: u64,
     pub high: u64,
 }
 
-/// What a forecast knows of a case.
+/// FORECAST-1: what a forecast knows of a case.
 #[derive(Clone, Copy, PartialEq, Eq)]
 pub struct Forecast {
     /// vehicles per hour
@@ -44,7 +45,7 @@ pub struct Forecast {
     pub peak_hour_factor: Range,
 }
 
-/// One number of each range.
+/// FORECAST-1: one number of each range.
 #[derive(Clone, Copy, PartialEq, Eq)]
 pub struct Combination {
     pub demand: Demand,
@@ -52,14 +53,14 @@ pub struct Combination {
     pub peak_hour_factor: Share,
 }
 
-/// A letter, and a combination that gets it.
+/// FORECAST-3: a letter, and a combination that gets it.
 #[derive(Clone, Copy, PartialEq, Eq)]
 pub struct Outcome {
     pub letter: Letter,
     pub combination: Combination,
 }
 
-/// What a case gets at best and at worst.
+/// FORECAST-2: what a case gets at best and at worst.
 #[derive(Clone, Copy, PartialEq, Eq)]
 pub struct Outcomes {
     pub best: Outcome,
@@ -67,6 +68,7 @@ pub struct Outcomes {
 }
 
 impl Range {
+    /// REFUSAL-22.
     fn is_reversed(self) -> bool
         ensures { result ≡ is_reversed self }
     {
@@ -75,7 +77,7 @@ impl Range {
 }
 
 impl Forecast {
-    /// Low demand, low share and high factor.
+    /// FORECAST-3: low demand, low share and high factor.
     fn best_combination(self) -> Combination
         ensures { result ≡ best_combination self }
     {
@@ -86,7 +88,7 @@ impl Forecast {
         }
     }
 
-    /// The opposite ends.
+    /// FORECAST-3: the opposite ends.
     fn worst_combination(self) -> Combination
         ensures { result ≡ worst_combination self }
     {
@@ -97,7 +99,7 @@ impl Forecast {
         }
     }
 
-    /// Asks 22 of the ranges, and then 7, 8 and 9, each of both ends of its range.
+    /// FORECAST-4: 22 of the ranges, and then 7, 8 and 9, each of both ends of its range.
     #[tactic(auto, unfolding(crate::specs::Forecasts::range_refusals, road::specs::Refusals::load_refusals))]
     fn check_ranges(self) -> Result<(), Refusal>
         ensures { (case : Case) → refusal_number result ≡ first_refusal (range_refusals case self) }
@@ -122,7 +124,7 @@ impl Forecast {
         Ok(())
     }
 
-    /// The case at its best, or the first refusal: 1 to 6, 22, 7 to 9 of both ends, 19, 10.
+    /// FORECAST-4: the case at its best, or the first refusal: 1 to 6, 22, 7 to 9 of both ends, 19, 10.
     #[tactic(auto, using(crate::proofs::ForecastLaws::in_their_order), unfolding(crate::specs::Forecasts::forecast_refusals))]
     fn check(self, case: Case) -> Result<AcceptedCase, Refusal>
         ensures refusal { refusal_number result ≡ first_refusal (forecast_refusals case self) }
@@ -138,7 +140,7 @@ impl Forecast {
 }
 
 impl Outcome {
-    /// What an accepted case gets, and its own load.
+    /// FORECAST-3: what an accepted case gets, and its own load.
     fn of(accepted: &AcceptedCase) -> Outcome
         ensures { result ≡ outcome_of accepted.now.case }
     {
@@ -160,7 +162,7 @@ impl Outcome {
 }
 
 impl Outcomes {
-    /// The eight figures, letters by their numbers.
+    /// FORECAST-3: the eight figures, letters by their numbers.
     pub fn figures(&self) -> [u64; FIGURE_COUNT]
         ensures { result ≡ outcome_figures (Ok self.now) }
     {
@@ -177,7 +179,7 @@ impl Outcomes {
         ]
     }
 
-    /// Puts the eight figures at the start of lent numbers; answers how many they are.
+    /// FORECAST-3, TEXT-5: puts the eight figures at the start of lent numbers; answers how many they are.
     pub fn put_figures(&self, out: &mut [u64]) -> usize
         requires { figure_count ≤ length out.old }
         ensures { Wrote (outcome_figures (Ok self.now)) out.old out.new result }
@@ -186,6 +188,7 @@ impl Outcomes {
     }
 }
 
+/// FORECAST-1, CASE-3.
 fn with_combination(case: Case, combination: Combination) -> Case
     ensures { result ≡ with_combination case combination }
 {
@@ -196,10 +199,9 @@ fn with_combination(case: Case, combination: Combination) -> Case
     )
 }
 
-/// The best and the worst letter over all whole combinations within the ranges, each with a combination that
-/// gets it, or the first refusal: 1 to 6, 22 of a low end above its high end, 7 to 9 of both ends, 19, 10.
-/// The case's own demand, share and factor are not read. Two combinations are looked at, on one curve: what
-/// the engine promises of more load carries over to all.
+/// FORECAST-2: the letters nearest to A and to F that any combination within the ranges gets, each with a
+/// combination that gets it, or the first refusal, in the order of FORECAST-4. The case's own demand, share
+/// and factor are not read. Two combinations are looked at, on one curve: SHAPE-1 carries over to all.
 pub fn evaluate_forecast(case: Case, forecast: Forecast) -> Result<Outcomes, Refusal>
     ensures { result ≡ forecast_answer case forecast }
 {

@@ -219,7 +219,7 @@ demand-on-a-line bs case e =
     let r = read-values bs case e in
     omega (arith, ap (λ c. c.demand) r.2, (values_of-fits layout (completed (parts tab bs)) r.0 r.1).1 9 (omega arith))
 
--- ---- the demand before T-09
+-- ---- LINE-7: the demand of an older reader
 number-shorter : (k : ℕ) (bs : List ℕ) → length bs ≤ k → number (suc k) bs ≡ number k bs
 unfolding number
 number-shorter k bs h = grind (arith, common_steps)

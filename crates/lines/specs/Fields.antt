@@ -1,5 +1,4 @@
--- The fields of a line (document 01, "Lines", and document 02, T-03 and T-09).
--- A letter's value is its byte.
+-- The fields of a line. A letter's value is its byte.
 use Rattle.std.specs.Prelude.{ℕ, ◌+◌, ◌-◌, ◌*◌, Bool, if◌then◌else◌, ◌&&◌, ◌||◌, Option, Some, None, List, [], ◌∷◌, ◌++◌}
 use Rattle.std.specs.Prelude.{◌==◌, nat_le, nat_lt, length, get_or}
 use Rattle.std.specs.List.{list_any}
@@ -9,15 +8,14 @@ use Rattle.text.specs.Decimal.{decimal}
 use Rattle.curve.specs.Weather.{clear}
 use Rattle.refusals.specs.Refusals.{outside}
 
--- one of some letters, or a number with at most so many digits
+-- LINE-2, LINE-3: one of some letters, or a number with at most so many digits
 pub data Field : Type 0 where
   letters : List ℕ → Field
   digits : ℕ → Field
 
--- the 15 fields
--- "kind F or M; E or G; speed; width; right clearance; left clearance; median U, D or T; ramps in six miles
--- (F) or access points per mile (M); lanes; V; H; P; terrain L or R"; "two fields at its end, speed factor
--- and capacity factor"; "A number has one to five digits"; of V "its field may have six digits"
+-- LINE-1, LINE-2: the 15 fields: kind F or M; way E or G; speed; width; right and left clearance; median U, D
+-- or T; ramps or access points; lanes; demand, with up to six digits; peak-hour factor; heavy share; terrain
+-- L or R; speed and capacity factor
 unfoldable pub layout : List Field
 layout =
     letters (bytes_of "FM") ∷ letters (bytes_of "EG")
@@ -27,53 +25,52 @@ layout =
     ∷ letters (bytes_of "LR")
     ∷ digits 5 ∷ digits 5 ∷ []
 
--- the last two fields of a line that has 13: the factors of clear weather
--- "Lines of 13 fields mean 1,000 for both"
+-- LINE-4, WEATHER-1: the last two fields of a line that has 13: the factors of clear weather
 abbrev pub clear_factors : List (List ℕ)
 clear_factors = decimal clear.speed_factor ∷ decimal clear.capacity_factor ∷ []
 
--- the parts ps of a line, with these where they are 13
+-- LINE-4: the parts ps of a line, with the factors of clear weather behind them where they are 13
 unfoldable pub completed : List (List ℕ) → List (List ℕ)
 completed ps = if length ps == 13 then ps ++ clear_factors else ps
 
--- the byte b is a decimal digit
+-- LINE-2: the byte b is a decimal digit
 abbrev pub digit : ℕ → Bool
 digit b = nat_le (code "0") b && nat_le b (code "9")
 
--- the number that the digits bs spell, read on from n
+-- LINE-2: the number that the digits bs spell, read on from n; none where a byte is no digit
 unfoldable pub spelled : ℕ → List ℕ → Option ℕ
 spelled n [] = Some n
 spelled n (b ∷ bs) = if digit b then spelled (10 * n + (b - code "0")) bs else None
 
--- bs begins with the digit 0 and has more than that
+-- LINE-2: bs begins with the digit 0 and has more than that
 abbrev pub leading_zero : List ℕ → Bool
 leading_zero bs = nat_lt 1 (length bs) && get_or bs 0 0 == code "0"
 
--- the number of one to k digits that bs is
--- "one to five digits with no leading zero, save 0 itself", with k in the place of five
+-- LINE-2: the number of one to k digits that bs is, none where it is no such; 0 begins one only as its one
+-- digit
 unfoldable pub number : ℕ → List ℕ → Option ℕ
 number k bs = if outside 1 k (length bs) || leading_zero bs then None else spelled 0 bs
 
--- b is one of ls
+-- LINE-3: b is one of ls
 abbrev pub one_of : ℕ → List ℕ → Bool
 one_of b ls = list_any (λ l. l == b) ls
 
--- the letter, one of ls, that bs is
+-- LINE-3: the letter, one of ls, that bs is; none where bs is no such letter
 unfoldable pub letter : List ℕ → List ℕ → Option ℕ
 letter ls bs = if length bs == 1 && one_of (get_or bs 0 0) ls then Some (get_or bs 0 0) else None
 
--- the value that bs has as field f, none where it is malformed
+-- LINE-2, LINE-3: the value that bs has as field f, none where it is malformed
 unfoldable pub field_as : Field → List ℕ → Option ℕ
 field_as (letters ls) bs = letter ls bs
 field_as (digits k) bs = number k bs
 
--- a field's value before those of the fields after it
+-- LINE-1: a field's value before those of the fields after it; none where a field is malformed
 abbrev pub joined : Option ℕ → Option (List ℕ) → Option (List ℕ)
 joined None vs = None
 joined (Some v) None = None
 joined (Some v) (Some vs) = Some (v ∷ vs)
 
--- the values of the parts ps as the fields fs, where there is a part for each and all are well formed
+-- LINE-1: the values of the parts ps as the fields fs, where there is a part for each and all are well formed
 unfoldable pub values_of : List Field → List (List ℕ) → Option (List ℕ)
 values_of [] [] = Some []
 values_of [] (p ∷ ps) = None

@@ -9,13 +9,13 @@ ghost use Rattle.lines.specs.ReadSoFar.{left, letter_among, ReadsOne};
 use curve::kind::Kind;
 use road::{Median, Terrain, Way};
 
-/// "A number has one to five digits"
+/// LINE-2: the most digits of a number.
 const MOST_DIGITS: usize = 5;
 
-/// "V may reach 999,999 and its field may have six digits"
+/// LINE-2: the most digits of the demand.
 const MOST_DEMAND_DIGITS: usize = 6;
 
-/// Whether digits are a number: there is one at least, and no zero before another.
+/// LINE-2: whether digits are a number: there is one at least, and no zero before another.
 fn is_number(digits: &[u8]) -> bool
     ensures { result ≡ not (length digits.now == 0 || leading_zero digits.now) }
 {
@@ -25,7 +25,7 @@ fn is_number(digits: &[u8]) -> bool
     }
 }
 
-/// A type whose values stand on a line as one letter each, out of an alphabet.
+/// LINE-3: a type whose values stand on a line as one letter each, out of an alphabet.
 pub(crate) trait Lettered: Sized {
     ghost alphabet: { List ℕ };
 
@@ -92,16 +92,16 @@ impl Lettered for Terrain {
     }
 }
 
-/// What is left of a line, its fields parted by tabs; none where no field is left. The readers are inlined,
-/// so that it stays in registers.
+/// LINE-1: what is left of a line, its fields parted by tabs; none where no field is left. The readers are
+/// inlined, so that it stays in registers.
 #[derive(Drop)]
 pub(crate) struct Fields<'a> {
     pub(crate) rest: Option<&'a [u8]>,
 }
 
 impl<'a> Fields<'a> {
-    /// The first field that is left, a number of one to so many digits, in one pass over its bytes; none
-    /// where it is malformed.
+    /// LINE-2: the first field that is left, a number of one to so many digits, in one pass over its bytes;
+    /// none where it is malformed.
     #[inline(always)]
     fn number_up_to(&mut self, most_digits: usize) -> Option<u64>
         requires fits { most_digits ≤ 19 }
@@ -124,7 +124,7 @@ impl<'a> Fields<'a> {
         is_number(&line[..length]).then_some(value)
     }
 
-    /// A number of one to five digits.
+    /// LINE-2: a number of one to five digits.
     #[inline(always)]
     pub(crate) fn number(&mut self) -> Option<u64>
         ensures { ReadsOne (digits 5) result (left self.old) (left self.new) }
@@ -132,7 +132,7 @@ impl<'a> Fields<'a> {
         self.number_up_to(MOST_DIGITS)
     }
 
-    /// A number of one to six digits.
+    /// LINE-2: the demand, a number of one to six digits.
     #[inline(always)]
     pub(crate) fn demand(&mut self) -> Option<u64>
         ensures { ReadsOne (digits 6) result (left self.old) (left self.new) }
@@ -140,7 +140,7 @@ impl<'a> Fields<'a> {
         self.number_up_to(MOST_DEMAND_DIGITS)
     }
 
-    /// A letter, as a value of the type that is asked for.
+    /// LINE-3: a letter, as a value of the type that is asked for.
     #[inline(always)]
     pub(crate) fn letter<T: Lettered>(&mut self) -> Option<T>
         ensures { ReadsOne (letters T.alphabet) (option_map T.byte result) (left self.old) (left self.new) }

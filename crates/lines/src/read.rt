@@ -10,11 +10,11 @@ use curve::Weather;
 use refusals::Refusal;
 use road::{Case, Road};
 
-/// The most bytes of a line: "Longer than 80 bytes is malformed".
+/// LINE-5: the most bytes of a line; a longer one is malformed.
 pub const LONGEST_LINE: usize = 80;
 
 impl<'a> Fields<'a> {
-    /// Both factors.
+    /// LINE-1: both factors.
     #[inline(always)]
     #[tactic(auto, unfolding(crate::specs::Fields::layout))]
     fn factors(&mut self) -> Option<Weather>
@@ -26,7 +26,7 @@ impl<'a> Fields<'a> {
         })
     }
 
-    /// Both factors, or clear weather where no field is left.
+    /// LINE-4: both factors, or clear weather where no field is left.
     #[inline(always)]
     #[tactic(auto, using(crate::proofs::FieldsLaws::weather_laws))]
     fn weather(&mut self) -> Option<Weather>
@@ -55,7 +55,7 @@ impl<'a> Fields<'a> {
         })
     }
 
-    /// The first 13 fields, in clear weather.
+    /// LINE-1: the first 13 fields, in clear weather.
     #[tactic(auto, unfolding(crate::specs::Fields::layout))]
     fn in_clear_weather(&mut self) -> Option<Case>
         ensures { Reads (take 13 layout) (option_map clear_values result) (left self.old) (left self.new) }
@@ -83,9 +83,9 @@ impl<'a> Fields<'a> {
     }
 }
 
-/// The case of a line without its newline, 13 or 15 fields parted by tabs; 15 where the line is malformed or
-/// longer than 80 bytes. What the numbers may be is not asked. Not inlined, so that the engine that a caller
-/// goes on to has the registers.
+/// LINE-6, REFUSAL-15, FORM-4: the case of a line without its newline, 13 or 15 fields parted by tabs; 15
+/// where the line is malformed or longer than 80 bytes. What the numbers may be is not asked. Not inlined, so
+/// that the engine that a caller goes on to has the registers.
 #[inline(never)]
 #[tactic(auto, using(crate::proofs::FieldsLaws::line_laws), unfolding(crate::specs::Reading::read_values))]
 pub fn read_line(line: &[u8]) -> Result<Case, Refusal>
@@ -97,7 +97,7 @@ pub fn read_line(line: &[u8]) -> Result<Case, Refusal>
     let mut fields = Fields { rest: Some(line) };
     match (fields.case(), fields.rest) {
         (Some(case), None) => Ok(case),
-        // malformed, or a field too many
+        // malformed, or a field too many (LINE-4)
         _ => Err(Refusal::LineMalformed),
     }
 }

@@ -1,6 +1,4 @@
-//! los: reads lines from standard input and prints one answer a line; a refused line prints X, tab and its
-//! number. What it prints is proved of `answer_input`. Where its input can't be read or its output can't be
-//! written it says so.
+//! LOS-2: los answers each line of its input. What it prints is proved of `answer_input`. LOS-4: where its input can't be read or its output can't be written it says so.
 
 #![tactic(auto)]
 
@@ -8,8 +6,8 @@ use replies::stream::answer_input;
 use std::io::Write;
 use text::stream::Stop;
 
-/// Tells on standard error what stopped it, as far as that can be written. Where nobody reads its output it
-/// says nothing.
+/// LOS-4: tells on standard error what stopped it, as far as that can be written. Where nobody reads its
+/// output it says nothing.
 fn tell(rt: HostRuntime, stop: Stop) {
     let message: &[u8] = match stop {
         Stop::InputUnread => b"los: standard input can't be read\n",

@@ -5,7 +5,7 @@ pub mod Calls
 pub mod Laws
 -- the shape of the method, as a host meets it
 pub mod Shape
--- the boundary sections of documents 01 and 02
+-- figures of all layers, one list
 pub mod Boundary
 -- what the call that counts the tried demands hands back
 pub mod Tries

@@ -13,23 +13,23 @@ use Rattle.lines.specs.Boundary.{printed_line, printed_line_with}
 use Rattle.replies.specs.Texts.{letter_byte, longest_answer}
 use Rattle.marehour.specs.Calls.{answer_call, lanes_call, call_result, content}
 
--- the buffer after the call for the answer to a line, if it held old
+-- SHAPE-4, CALL-1: the buffer after the call for the answer to a line, if it held old
 abbrev pub answered : List ℕ → List ℕ → List ℕ
 answered line old = content (answer_call line (length old)) old
 
--- its first byte, the letter of the answer
+-- SHAPE-4: the first byte of the buffer after the call for the answer to a line: the letter
 abbrev pub letter_written : List ℕ → List ℕ → ℕ
 letter_written line old = get_or (answered line old) 0 0
 
--- c has no more load than d: no more demand, no greater share, no harder terrain, no lower peak-hour factor
--- and no fewer lanes
+-- SHAPE-4, SHAPE-1: c has no more load than d: no more demand, no greater share, no harder terrain, no lower
+-- peak-hour factor and no fewer lanes
 abbrev pub NoMoreLoad : Case → Case → Type 0
 NoMoreLoad c d =
     (c.demand ≤ d.demand) × (c.heavy_share ≤ d.heavy_share) × (hardness c.terrain ≤ hardness d.terrain)
     × (d.peak_hour_factor ≤ c.peak_hour_factor) × (d.lanes ≤ c.lanes)
 
--- two lines of accepted cases, of the same road under one weather, where lanes are comparable: the one with
--- no less load is not answered with the better letter
+-- SHAPE-4, SHAPE-1: two lines of accepted cases, of the same road under one weather, where lanes are
+-- comparable: the one with no less load is not answered with the better letter
 abbrev pub NoBetterLetterWritten : Type 0
 NoBetterLetterWritten =
     (line other old kept : List ℕ) (c d : Case) → longest_answer ≤ length old → longest_answer ≤ length kept
@@ -37,14 +37,15 @@ NoBetterLetterWritten =
     → SameRoad c d → c.weather ≡ d.weather → LanesComparable c d → NoMoreLoad c d
     → letter_written line old ≤ letter_written other kept
 
--- the call for the answer to a line is not refused, and writes letter number n or a better one
+-- SHAPE-4, VOLUME-1: the call for the answer to a line is not refused, and writes letter number n or a better
+-- one
 abbrev pub LineMeets : List ℕ → List ℕ → ℕ → Type 0
 LineMeets line old n =
     (count : ℕ)
     × ((call_result (answer_call line (length old)) ≡ pos count) × (letter_written line old ≤ letter_byte n))
 
--- the answer to a line of an accepted case is a letter and ten numbers, of which the last five say up to
--- which demand a line of that case with another demand meets each letter, A to E
+-- SHAPE-4, SHAPE-2: the answer to a line of an accepted case is a letter and ten numbers, of which the last
+-- five say up to which demand a line of that case with another demand meets each letter, A to E
 abbrev pub MeetsUpToTheWrittenVolume : Type 0
 MeetsUpToTheWrittenVolume =
     (line old : List ℕ) (c : Case) → longest_answer ≤ length old → read_line line ≡ Ok c → Accepted c
@@ -56,14 +57,15 @@ MeetsUpToTheWrittenVolume =
     → longest_answer ≤ length kept → read_line other ≡ Ok (with_demand c demand) → 1 ≤ n → n ≤ 5
     → LineMeets other kept n ↔ (demand ≤ get_or numbers (4 + n) 0)))
 
--- count is accepted and meets letter number n, and no smaller accepted count does
+-- SHAPE-4, SHAPE-3: count is accepted and meets letter number n, and no smaller accepted count does
 abbrev pub LeastCount : Case → ℕ → ℕ → Type 0
 LeastCount case n count =
     AcceptedCount case count × Meets (with_lanes case count) n
     × ((fewer : ℕ) → AcceptedCount case fewer → fewer < count → Meets (with_lanes case fewer) n → ⊥)
 
--- a line whose fields fit, and a letter A to E: the lanes question writes the digit of a count exactly where
--- it is the least accepted count that meets the letter, and is refused with 14 exactly where none does
+-- SHAPE-4, SHAPE-3: a line whose fields fit, and a letter A to E: the lanes question writes the digit of a
+-- count exactly where it is the least accepted count that meets the letter, and is refused with 14 exactly
+-- where none does
 abbrev pub LanesDigitIsTheLeastCount : Type 0
 LanesDigitIsTheLeastCount =
     (line old : List ℕ) (case : Case) (n : ℕ) → longest_answer ≤ length old → read_line line ≡ Ok case
@@ -75,8 +77,8 @@ LanesDigitIsTheLeastCount =
     × ((call_result reply ≡ neg_ℤ (pos 14))
     ↔ ((count : ℕ) → AcceptedCount case count → Meets (with_lanes case count) n → ⊥))
 
--- the printed line is answered C, and with 2,643 D; with 2,642 it meets C, with 2,643 it does not, where C
--- takes 3 lanes, and with 999,999 no lane count does
+-- SHAPE-4, SHAPE-2, SHAPE-3: the printed line is answered C, and with demand 2,643 D; it meets C with 2,642
+-- and not with 2,643, with which C takes 3 lanes; with 999,999 no lane count meets C
 abbrev pub PrintedLineMeetsUpTo2642 : Type 0
 PrintedLineMeetsUpTo2642 =
     (old : List ℕ) → longest_answer ≤ length old

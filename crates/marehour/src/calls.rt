@@ -11,7 +11,7 @@ use refusals::Refusal;
 use replies::write;
 use replies::write::LONGEST_ANSWER;
 
-/// Room for so many bytes or numbers at least, or 17.
+/// REFUSAL-17: room for so many bytes or numbers at least, or 17.
 #[tactic(auto, unfolding(crate::specs::Calls::buffer_refusals))]
 pub(crate) fn check_room(room: usize, least: usize) -> Result<(), Refusal>
     ensures { refusal_number result ≡ first_refusal (buffer_refusals least room) }
@@ -22,7 +22,7 @@ pub(crate) fn check_room(room: usize, least: usize) -> Result<(), Refusal>
     Ok(())
 }
 
-/// The number that the host gets: what was found, or minus the number of the refusal.
+/// CALL-3: the number that the host gets: what was found, or minus the number of the refusal.
 pub(crate) fn handed_back(found: Result<usize, Refusal>) -> i32
     requires { CanBeHandedBack found }
     ensures { result ≡ handed_back found }
@@ -33,7 +33,7 @@ pub(crate) fn handed_back(found: Result<usize, Refusal>) -> i32
     }
 }
 
-/// How many bytes of the answer are written; 17, 15, or one of 1 to 6, 8, 9, 19 and 10.
+/// CALL-1, CALL-4: how many bytes of the answer are written; 17, 15, or one of 1 to 6, 8, 9, 19 and 10.
 #[tactic(auto, using(crate::proofs::CallLaws::call_laws))]
 fn answer_in(line: &[u8], answer: &mut [u8]) -> Result<usize, Refusal>
     ensures fits { CanBeHandedBack result }
@@ -47,7 +47,7 @@ fn answer_in(line: &[u8], answer: &mut [u8]) -> Result<usize, Refusal>
     Ok(write::write_grade(&grade, answer))
 }
 
-/// A digit and a newline, two bytes; 17, 15, 16, one of 1 to 6, 8, 9 and 19, or 14.
+/// CALL-2, CALL-4: a digit and a newline, two bytes; 17, 15, 16, one of 1 to 6, 8, 9 and 19, or 14.
 #[tactic(auto, using(crate::proofs::CallLaws::call_laws))]
 fn lanes_in(line: &[u8], letter: u64, answer: &mut [u8]) -> Result<usize, Refusal>
     ensures fits { CanBeHandedBack result }
@@ -63,8 +63,9 @@ fn lanes_in(line: &[u8], letter: u64, answer: &mut [u8]) -> Result<usize, Refusa
     Ok(2)
 }
 
-/// The answer to a line without its newline, as text: its letter, free-flow speed, capacity, flow rate,
-/// speed, density and service volumes. The count of its bytes, or minus the refusal's number.
+/// CALL-1, SAFE-1, FORM-1: the answer to a line without its newline, as text: its letter, free-flow
+/// speed, capacity, flow rate, speed, density and service volumes. The count of its bytes, or minus the
+/// refusal's number.
 #[unsafe(no_mangle)]
 pub extern "C" fn marehour_answer(line: &[u8], answer: &mut [u8]) -> i32
     ensures result { result ≡ call_result (answer_call line.now (length answer.old)) }
@@ -74,8 +75,8 @@ pub extern "C" fn marehour_answer(line: &[u8], answer: &mut [u8]) -> i32
     handed_back(answer_in(line, answer))
 }
 
-/// The least lane count with which a line's section meets a letter, 1 for A to 5 for E, as text: 2 for its
-/// two bytes, or minus the refusal's number.
+/// CALL-2, SAFE-1, FORM-1: the least lane count with which a line's section meets a letter, 1 for A to 5
+/// for E, as text: 2 for its two bytes, or minus the refusal's number.
 #[unsafe(no_mangle)]
 pub extern "C" fn marehour_lanes(line: &[u8], letter: u32, answer: &mut [u8]) -> i32
     ensures result { result ≡ call_result (lanes_call line.now letter (length answer.old)) }

@@ -9,7 +9,7 @@ use daily::{FIGURE_COUNT, Shares};
 use lines::read;
 use refusals::Refusal;
 
-/// Sixteen numbers; 17, 15, 20, 21, or one of 1 to 9, 19 and 10.
+/// CALL-8, CALL-4: sixteen numbers; 17, 15, 20, 21, or one of 1 to 9, 19 and 10.
 #[tactic(auto, using(crate::proofs::CallLaws::call_laws))]
 fn daily_in(
     line: &[u8],
@@ -29,8 +29,9 @@ fn daily_in(
     Ok(grade.put_figures(figures))
 }
 
-/// The answer to the line's section with the hourly demand of a daily traffic, in vehicles per day, and its
-/// daily service volumes. The shares are in thousandths. 16, or minus the refusal's number.
+/// CALL-8, SAFE-1: the answer to the line's section with the hourly demand of a daily traffic, in
+/// vehicles per day, and its daily service volumes. The shares are in thousandths. 16, or minus the
+/// refusal's number.
 #[unsafe(no_mangle)]
 pub extern "C" fn marehour_daily(
     line: &[u8],

@@ -7,7 +7,7 @@ use crate::calls::handed_back;
 use lines::read;
 use refusals::Refusal;
 
-/// As many answers as demands; 18 or 15. A refusal of the case stands in its position.
+/// CALL-7, CALL-4: as many answers as demands; 18 or 15. A refusal of the case stands in its position.
 #[tactic(auto, using(crate::proofs::CallLaws::call_laws))]
 fn day_in(line: &[u8], demands: &[u64], answers: &mut [u64]) -> Result<usize, Refusal>
     ensures fits { CanBeHandedBack result }
@@ -21,8 +21,8 @@ fn day_in(line: &[u8], demands: &[u64], answers: &mut [u64]) -> Result<usize, Re
     Ok(demands.len())
 }
 
-/// The answers to the line's section with each demand, in vehicles per hour, in its position. The count of
-/// the answers, or minus the refusal's number.
+/// CALL-7, SAFE-1: the answers to the line's section with each demand, in vehicles per hour, in its
+/// position. The count of the answers, or minus the refusal's number.
 #[unsafe(no_mangle)]
 pub extern "C" fn marehour_day(line: &[u8], demands: &[u64], answers: &mut [u64]) -> i32
     ensures result { result ≡ day_result (day_call line.now demands.now (length answers.old)) }

@@ -9,7 +9,7 @@ use forecast::{FIGURE_COUNT, Forecast, Range};
 use lines::read;
 use refusals::Refusal;
 
-/// Eight numbers; 17, 15, one of 1 to 6, 22, one of 7 to 9, 19 or 10.
+/// CALL-9, CALL-4: eight numbers; 17, 15, one of 1 to 6, 22, one of 7 to 9, 19 or 10.
 #[tactic(auto, using(crate::proofs::CallLaws::call_laws))]
 fn forecast_in(line: &[u8], forecast: Forecast, figures: &mut [u64]) -> Result<usize, Refusal>
     ensures fits { CanBeHandedBack result }
@@ -23,9 +23,9 @@ fn forecast_in(line: &[u8], forecast: Forecast, figures: &mut [u64]) -> Result<u
     Ok(outcomes.put_figures(figures))
 }
 
-/// The best and the worst letter of the line's section within the ends of its demand, in vehicles per hour,
-/// its heavy share and its peak-hour factor, in thousandths, each with the combination that gets it. 8, or
-/// minus the refusal's number.
+/// CALL-9, SAFE-1: the best and the worst letter of the line's section within the ends of its demand, in
+/// vehicles per hour, its heavy share and its peak-hour factor, in thousandths, each with the combination
+/// that gets it. 8, or minus the refusal's number.
 #[unsafe(no_mangle)]
 pub extern "C" fn marehour_forecast(
     line: &[u8],

@@ -1,4 +1,5 @@
-//! The calls that a host in C makes: the static library. include/marehour.h documents them.
+//! The calls that a host in C makes: the static library. include/marehour.h describes them. None of them has a
+//! `requires`, so each holds its contract whatever is handed over.
 
 #![tactic(auto)]
 

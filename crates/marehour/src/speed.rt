@@ -9,7 +9,7 @@ use crate::calls::handed_back;
 use refusals::Refusal;
 use survey::{Survey, SurveyedSpeed};
 
-/// Thousandths of mi/h; 11, 12 or 13.
+/// CALL-6: thousandths of mi/h; 11, 12 or 13.
 fn survey_speed(speed: SurveyedSpeed, cars: u32, flow: u32) -> Result<usize, Refusal>
     ensures fits { CanBeHandedBack result }
     ensures result { handed_back result
@@ -24,8 +24,8 @@ fn survey_speed(speed: SurveyedSpeed, cars: u32, flow: u32) -> Result<usize, Ref
     Ok(thousandths as usize)
 }
 
-/// The exact value of a float in miles per hour, rounded down, of so many cars at a flow rate in passenger
-/// cars per hour per lane. The speed, or minus the refusal's number.
+/// CALL-6, SAFE-1: the exact value of a float in miles per hour, rounded down, of so many cars at a flow
+/// rate in passenger cars per hour per lane. The speed, or minus the refusal's number.
 #[unsafe(no_mangle)]
 pub extern "C" fn marehour_survey_mph(speed: f32, cars: u32, flow: u32) -> i32
     ensures { result
@@ -34,7 +34,7 @@ pub extern "C" fn marehour_survey_mph(speed: f32, cars: u32, flow: u32) -> i32
     handed_back(survey_speed(SurveyedSpeed::MilesPerHour(speed), cars, flow))
 }
 
-/// The same of a float in kilometres per hour.
+/// CALL-6, SAFE-1: as `marehour_survey_mph`, of a float in kilometres per hour.
 #[unsafe(no_mangle)]
 pub extern "C" fn marehour_survey_kmh(speed: f32, cars: u32, flow: u32) -> i32
     ensures { result

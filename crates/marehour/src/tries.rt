@@ -9,7 +9,7 @@ use answer::evaluate;
 use lines::read;
 use refusals::Refusal;
 
-/// The count; 15, or one of 1 to 6, 8, 9, 19 and 10.
+/// CALL-10, CALL-4: the count; 15, or one of 1 to 6, 8, 9, 19 and 10.
 #[tactic(auto, using(crate::proofs::CallLaws::call_laws))]
 fn tries_for(line: &[u8]) -> Result<usize, Refusal>
     ensures fits { CanBeHandedBack result }
@@ -21,8 +21,8 @@ fn tries_for(line: &[u8]) -> Result<usize, Refusal>
     Ok(counted.tries as usize)
 }
 
-/// How many demands are tried for the service volumes of a line's section, 1 to 80, or minus the refusal's
-/// number.
+/// CALL-10, SAFE-1: how many demands are tried for the service volumes of a line's section, 1 to 80, or
+/// minus the refusal's number.
 #[unsafe(no_mangle)]
 pub extern "C" fn marehour_tries(line: &[u8]) -> i32
     ensures { result ≡ tries_call line.now }

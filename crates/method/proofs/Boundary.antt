@@ -1,4 +1,4 @@
--- The boundary sections (specs/Boundary), shown.
+-- The figures of a case (specs/Boundary), shown.
 use Rattle.std.proofs.Common.{◌≡◌, arith}
 use Rattle.numbers.specs.Division.{div_up}
 use Rattle.numbers.specs.Search.{starts_at}

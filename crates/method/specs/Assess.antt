@@ -7,7 +7,7 @@ use Rattle.method.specs.declared.accepted.Measures.{Measures}
 use Rattle.method.specs.Checked.{case_curve}
 use Rattle.method.specs.Flow.{case_flow_rate}
 
--- the curve, flow rate and performance of a case
+-- ANSWER-1: the curve, flow rate and performance of a case
 unfoldable pub measures : Case → Measures
 measures case =
     record {
@@ -16,7 +16,7 @@ measures case =
       performance = performance (case_curve case) (case_flow_rate case);
     }
 
--- letter, F, c, v, speed and density; of a refusal no value
+-- ANSWER-1, FORM-10: letter, F, c, v, speed and density; of a refusal no value
 abbrev pub measure_figures : Result Measures Refusal → List ℕ
 measure_figures (Ok m) =
     letter_number m.performance.letter ∷ m.curve.free_flow_speed ∷ m.curve.capacity ∷ m.flow_rate

@@ -1,5 +1,5 @@
--- The boundary sections of document 01 and of document 02, as far as a case alone decides them, with those of
--- the layer below: one list, which the layers above make longer.
+-- Figures that a case alone decides, with those of the layer below: one list, which the layers above make
+-- longer.
 use Rattle.std.specs.Prelude.{List, [], ◌∷◌, ◌++◌, map, ℕ, Result, Ok, Err}
 use Rattle.refusals.specs.Facts.{Fact, fact}
 use Rattle.refusals.specs.declared.Refusal.{Refusal}
@@ -25,64 +25,64 @@ use Rattle.method.specs.Checked.{case_curve}
 use Rattle.method.specs.declared.accepted.Measures.{Measures}
 use Rattle.method.specs.Assess.{measures, measure_figures}
 
--- density and letter at v
+-- CURVE-7, LETTER-1: density and letter at v, in clear weather
 abbrev density_and_letter : Kind → ℕ → ℕ → List ℕ
 density_and_letter kind f v =
     shown_density (curve_at kind f) v ∷ letter_number (letter_at (curve_at kind f) v) ∷ []
 
--- a road of given speed f and lane width w
+-- CASE-1: a road of given speed f and lane width w
 abbrev pub given : Kind → ℕ → ℕ → Road
 given kind f w = road kind Way.Given f w 60 60 Median.Divided 0
 
--- its case with two lanes and demand v, no heavy vehicles, level, under weather
--- N = 2, H = 1,000, P = 0, level
+-- CASE-2: the case of a road with two lanes and a demand, peak-hour factor 1,000, no heavy vehicles, level,
+-- under weather
 abbrev pub two_lanes_under : Weather → Road → ℕ → Case
 two_lanes_under weather road demand = loaded road 2 demand 1000 0 Terrain.Level weather
 
--- the same in clear weather
+-- CASE-2: the case of a road with two lanes and a demand, factor 1,000, no heavy vehicles, level, in clear
+-- weather
 abbrev pub two_lanes : Road → ℕ → Case
 two_lanes = two_lanes_under clear
 
--- the printed line's case
--- the line F E 75400 110 20 0 D 24 2 2000 920 50 R
+-- CASE-2: the case of the line F E 75400 110 20 0 D 24 2 2000 920 50 R
 abbrev pub example : Case
 example =
     loaded (road Kind.Freeway Way.Estimated 75400 110 20 0 Median.Divided 24) 2 2000 920 50 Terrain.Rolling clear
 
--- M, E, 60,000, width 110, right 40, left 20, 10 access points
+-- CASE-1: M, E, 60,000, width 110, right 40, left 20, 10 access points
 abbrev multilane : Median → Road
 multilane m = road Kind.Multilane Way.Estimated 60000 110 40 20 m 10
 
--- the number of the refusal of a case, 0 for none, and its measures
+-- FORM-10: the number of the refusal of a case, 0 for none, and its measures
 abbrev assessed : Case → List ℕ
 assessed case =
     let got : Result Measures Refusal = ok_unless (refusal case) (measures case) in
     refusal_number got ∷ measure_figures got
 
--- F, c and b of a curve; of a refusal no value
+-- FORM-10: F, c and b of a curve; of a refusal no value
 abbrev curve_figures : Result Curve Refusal → List ℕ
 curve_figures (Ok curve) = curve.free_flow_speed ∷ curve.capacity ∷ curve.breakpoint ∷ []
 curve_figures (Err r) = []
 
--- the number of the refusal of a case, 0 for none, and its curve
+-- FORM-10: the number of the refusal of a case, 0 for none, and its curve
 abbrev checked_as : Case → List ℕ
 checked_as case =
     let curve : Result Curve Refusal = ok_unless (refusal case) (case_curve case) in
     refusal_number curve ∷ curve_figures curve
 
--- a case of kind F with these fields, level, with a speed factor
+-- ORDER-2: a case of kind F with these fields, level, with a speed factor
 abbrev faulty : (speed width right : ℕ) → Median → (access lanes demand factor share speed_factor : ℕ) → Case
 faulty speed width right median access lanes demand factor share speed_factor =
     loaded (road Kind.Freeway Way.Given speed width right 0 median access) lanes demand factor share Terrain.Level
     (factors speed_factor 1000)
 
--- a case that breaks 1 to 9, 19 and 10
+-- ORDER-2: a case that breaks 1 to 9, 19 and 10
 abbrev pub refused_by_all : Case
 refused_by_all = faulty 0 99 401 Median.Undivided 49 1 1000000 249 1001 499
 
--- The numbers that 1 to 9 leave at the ends of each range, and those past them: speed, width, clearance on
--- either side, medians of kind F and of kind M, ramps and access, lanes of kind F and of kind M, demand,
--- peak-hour factor, heavy share. 10 refuses a given speed of 30,000.
+-- REFUSAL-1 to REFUSAL-10: the numbers at the ends of each range, and those past them: speed, width,
+-- clearance on either side, medians of kind F and of kind M, ramps and access, lanes of kind F and of kind M,
+-- demand, peak-hour factor, heavy share. 10 refuses a given speed of 30,000.
 unfoldable pub limit_facts : List Fact
 limit_facts =
     fact (map (λ f. refusal (two_lanes (given Kind.Freeway f 120) 0)) (29999 ∷ 30000 ∷ 90000 ∷ 90001 ∷ []))
@@ -117,8 +117,7 @@ limit_facts =
     loaded_by kind lanes demand factor share =
         refusal (loaded (given kind 60000 120) lanes demand factor share Terrain.Level clear)
 
--- The order of refusals: a case that breaks all of 1 to 9, 19 and 10, and then without its first fault, again
--- and again.
+-- ORDER-2: a case that breaks all of 1 to 9, 19 and 10, and then without its first fault, again and again.
 unfoldable pub order_facts : List Fact
 order_facts =
     fact (
@@ -139,10 +138,10 @@ order_facts =
     (1 ∷ 2 ∷ 3 ∷ 4 ∷ 5 ∷ 6 ∷ 7 ∷ 8 ∷ 9 ∷ 19 ∷ 10 ∷ 0 ∷ [])
     ∷ []
 
--- Under snow or rain (document 02, T-03): b rounded down once; b and c from F after its factor, below the
--- breakpoint and past it; F, c and b each with a fraction above a half; the upper end before the factor; F, c
--- and both factors at once; 50,000 after the factor, and 55,000 before it; the ends of the factors, on kind M
--- too; 19 before 10 on kind M.
+-- WEATHER-1 to WEATHER-3, FFS-10, REFUSAL-10, REFUSAL-19, ORDER-2: under snow or rain: b rounded down once; b
+-- and c from F after its factor, below the breakpoint and past it; F, c and b each with a fraction above a
+-- half; the upper end before the factor; F, c and both factors at once; 50,000 after the factor, and 55,000
+-- before it; the ends of the factors, on kind M too; 19 before 10 on kind M.
 unfoldable pub weather_facts : List Fact
 weather_facts =
     fact (checked_as (snow 67855 1000 942 3534)) (0 ∷ 67855 ∷ 224059 ∷ 114097 ∷ [])
@@ -177,7 +176,7 @@ weather_facts =
     on_multilane : ℕ → ℕ → ℕ → Case
     on_multilane f s k = two_lanes_under (factors s k) (given Kind.Multilane f 120) 0
 
--- The ends of F: with 24 ramps on kind F, and given on kind M.
+-- FFS-10, REFUSAL-10, KIND-1: the ends of F: with 24 ramps on kind F, and given on kind M.
 unfoldable pub end_facts : List Fact
 end_facts =
     fact (map (λ base. refusal (two_lanes (with_24_ramps base) 1000)) (65318 ∷ 65317 ∷ [])) (0 ∷ 10 ∷ [])
@@ -187,11 +186,10 @@ end_facts =
     ∷ fact (checked_as (two_lanes (given Kind.Multilane 70001 120) 0)) (0 ∷ 70000 ∷ 230000 ∷ 140000 ∷ [])
     ∷ []
 
--- Of a case that is accepted 0, and then letter, F, c, v, speed and density, of one that is refused its
--- number. A is 1 and F is 6. Starred in document 01: all down to the right clearance of 59, which takes off
--- 60 by document 02; by document 02 the printed line and 24 ramps have other figures too. Not starred: no
--- demand; two letters that the shown speed would miss; a case that breaks 1 and 2; the curve of a case and
--- its refusal.
+-- FFS-1 to FFS-9, FLOW-1, FLOW-2, CURVE-1 to CURVE-7, LETTER-1, LETTER-2, REFUSAL-10, ORDER-2: of an accepted
+-- case 0, and then letter (A is 1 and F is 6), F, c, v, speed and density, of one that is refused its number.
+-- The last six: no demand; two letters that the shown speed would miss; a case that breaks 1 and 2; the curve
+-- of a case, and its refusal.
 unfoldable pub section_facts : List Fact
 section_facts =
     fact (assessed example) (0 ∷ 3 ∷ 60782 ∷ 230782 ∷ 1196 ∷ 60782 ∷ 197 ∷ [])
@@ -222,10 +220,10 @@ section_facts =
     ∷ fact (checked_as (two_lanes (given Kind.Freeway 54999 120) 0)) (10 ∷ [])
     ∷ []
 
--- those of a case
+-- FIGURE-1: all figures that a case decides
 abbrev pub case_facts : List Fact
 case_facts = section_facts ++ (end_facts ++ (weather_facts ++ (order_facts ++ limit_facts)))
 
--- all of them
+-- FIGURE-1: all figures of a road and of a case
 abbrev pub boundary_facts : List Fact
 boundary_facts = road_facts ++ case_facts

@@ -1,4 +1,4 @@
--- The method of documents 01 and 02 from a case to its letter, over the layers below, a file for each part.
+-- The method from a case to its letter, over the layers below, a file for each part.
 -- 10 after 1 to 9 and 19, and what is accepted
 pub mod Refusals
 -- the curve of a case, and 10 in its place
@@ -9,5 +9,5 @@ pub mod Flow
 pub mod Assess
 -- the laws of the method, stated
 pub mod Laws
--- the boundary sections that a case alone decides
+-- figures that a case alone decides
 pub mod Boundary

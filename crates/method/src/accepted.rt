@@ -1,4 +1,4 @@
-//! A case that nothing refuses, and what it gets.
+//! CASE-4: a case that nothing refuses, and what it gets.
 
 ghost use Rattle.std.specs.Prelude.{◌≡◌, ◌≤◌, IfOk};
 ghost use Rattle.refusals.specs.Numbers.{refusal_number};
@@ -19,7 +19,7 @@ use refusals::Refusal;
 use road::Case;
 use road::refusal::FitCase;
 
-/// What demands have in common, worked out once: a curve and a load.
+/// CURVE-3, FLOW-2: what demands have in common, worked out once: a curve and a load.
 #[derive(Clone, Copy)]
 pub struct CaseTerms {
     pub curve_terms: CurveTerms,
@@ -27,7 +27,7 @@ pub struct CaseTerms {
     pub ghost load_sized: { LoadSized load },
 }
 
-/// A case that none of 1 to 9, 19 and 10 refuses, with what its demands have in common.
+/// CASE-4: a case that none of 1 to 9, 19 and 10 refuses, with what its demands have in common.
 #[derive(Clone, Copy)]
 pub struct AcceptedCase {
     pub case: Case,
@@ -37,7 +37,7 @@ pub struct AcceptedCase {
     pub ghost own_load: { terms.load ≡ load_of case case.lanes },
 }
 
-/// What a case gets: its curve, its flow rate, and what that gets on the curve.
+/// ANSWER-1: what a case gets: its curve, its flow rate, and what that gets on the curve.
 #[derive(Clone, Copy)]
 pub struct Measures {
     pub curve: Curve,
@@ -46,7 +46,7 @@ pub struct Measures {
 }
 
 impl AcceptedCase {
-    /// The case, or the first of 1 to 9, 19 and 10 that refuses it.
+    /// ORDER-2, CASE-4: the case, or the first of 1 to 9, 19 and 10 that refuses it.
     #[tactic(auto, using(refusals::proofs::NumberLaws::in_turn), unfolding(crate::specs::Refusals::refusals))]
     pub fn check(case: Case) -> Result<AcceptedCase, Refusal>
         ensures refusal { refusal_number result ≡ refusal case }
@@ -55,7 +55,7 @@ impl AcceptedCase {
         AcceptedCase::of(FitCase::check(case)?)
     }
 
-    /// The case that is fit, or 10.
+    /// REFUSAL-10: the case that is fit, or 10.
     #[tactic(auto, using(crate::proofs::CheckedLaws::accepted_laws))]
     pub fn of(fit: FitCase) -> Result<AcceptedCase, Refusal>
         ensures refusal { refusal_number result ≡ refusal fit.case }
@@ -72,8 +72,8 @@ impl AcceptedCase {
         })
     }
 
-    /// The case under another load that 7 to 9 let pass: another demand, peak-hour factor and heavy share.
-    /// The curve is kept.
+    /// CASE-3, FORECAST-1: the case under another load that 7 to 9 let pass: another demand, peak-hour factor
+    /// and heavy share. The curve is kept.
     #[tactic(auto, using(crate::proofs::CheckedLaws::another_load), unfolding(crate::specs::Checked::curve_of))]
     pub fn with_load(
         &self,
@@ -94,7 +94,7 @@ impl AcceptedCase {
         }
     }
 
-    /// What the case gets with a demand in the place of its own.
+    /// ANSWER-1, CASE-3: what the case gets with a demand in the place of its own.
     #[tactic(auto, unfolding(crate::specs::Assess::measures, crate::specs::Flow::heavy_factor_of))]
     pub fn measures_at(&self, demand: Demand) -> Measures
         requires { demand ≤ greatest_demand }
@@ -108,7 +108,7 @@ impl AcceptedCase {
         }
     }
 
-    /// What the case gets.
+    /// ANSWER-1: what the case gets.
     #[tactic(auto, using(crate::proofs::RefusalLaws::accepted_ends))]
     pub fn measures(&self) -> Measures
         ensures { result ≡ measures self.now.case }

@@ -1,4 +1,4 @@
-//! Refusal 10, and the curve of a case that it lets pass.
+//! REFUSAL-10, and the curve of a case that it lets pass.
 
 ghost use Rattle.std.specs.Prelude.{◌≡◌};
 ghost use Rattle.method.specs.Checked.{checked_curve};
@@ -7,7 +7,7 @@ use curve::Curve;
 use refusals::Refusal;
 use road::refusal::FitCase;
 
-/// The curve of a fit case with a lane count, or 10.
+/// REFUSAL-10: the curve of a fit case with a lane count, or 10.
 #[tactic(auto, using(crate::proofs::RefusalLaws::ten_laws), unfolding(crate::specs::Refusals::speed_refusals, crate::specs::Checked::curve_of))]
 pub fn checked_curve(fit: &FitCase, lanes: u64) -> Result<Curve, Refusal>
     ensures { result ≡ checked_curve fit.now.case.road fit.now.case.weather lanes }

@@ -1,4 +1,4 @@
-//! The flow rate of a demand, by the load of a case.
+//! FLOW-2: the flow rate of a demand, by the load of a case.
 
 ghost use Rattle.std.specs.Prelude.{◌≡◌, ◌≤◌};
 ghost use Rattle.curve.specs.Kinds.{fewest_lanes, most_lanes};
@@ -9,15 +9,16 @@ use numbers::units::{Demand, FlowRate, Share};
 use road::Terrain;
 use road::refusal::FitCase;
 
-/// What turns a demand into a flow rate.
+/// FLOW-2: what turns a demand into a flow rate.
 #[derive(Clone, Copy)]
 pub struct Load {
-    /// what a vehicle counts for, of a passenger car
+    /// FLOW-1: what a vehicle counts for, of a passenger car
     pub heavy_factor: Share,
     /// peak-hour factor times lanes
     pub divisor: Share,
 }
 
+/// FLOW-1: E, how many passenger cars a heavy vehicle counts for.
 fn truck_equivalent(terrain: Terrain) -> u64
     ensures { result ≡ truck_equivalent terrain }
 {
@@ -28,7 +29,7 @@ fn truck_equivalent(terrain: Terrain) -> u64
 }
 
 impl Load {
-    /// The load of a fit case with a lane count of its kind.
+    /// FLOW-1, FLOW-2: the load of a fit case with a lane count of its kind.
     #[tactic(auto, using(crate::proofs::FlowLaws::load_laws), unfolding(crate::specs::Flow::heavy_factor_of))]
     pub fn of(fit: &FitCase, lanes: u64) -> Load
         requires fewest { fewest_lanes fit.now.case.road.kind ≤ lanes }
@@ -42,7 +43,7 @@ impl Load {
         }
     }
 
-    /// The flow rate of a demand.
+    /// FLOW-2: the flow rate of a demand.
     #[tactic(auto, using(numbers::proofs::DivisionLaws::divisions), unfolding(crate::specs::Flow::flow_rate_of))]
     pub fn flow_rate(&self, demand: Demand) -> FlowRate
         requires sized { LoadSized self.now }

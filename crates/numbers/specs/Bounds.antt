@@ -1,7 +1,7 @@
 -- Lists of numbers compared place by place.
 use Rattle.std.specs.Prelude.{List, [], ◌∷◌, ℕ, ◌≤◌}
 
--- the lists have one length, and each number of ms is at most the one at its place in ns
+-- ANSWER-2: the lists have one length, and each number of ms is at most the one at its place in ns
 abbrev pub AllAtMost : List ℕ → List ℕ → Type 0
 AllAtMost [] [] = Unit {0}
 AllAtMost [] (n ∷ ns) = ⊥

@@ -5,7 +5,7 @@
 
 pub mod units;
 
-/// An exact fraction, not reduced.
+/// UNIT-2: an exact fraction, not reduced.
 #[derive(Clone, Copy)]
 pub struct Fraction {
     pub numerator: u64,

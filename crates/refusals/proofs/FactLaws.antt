@@ -1,4 +1,4 @@
--- Facts of boundary sections (specs/Facts).
+-- Figures (specs/Facts).
 use Rattle.std.proofs.Common.{◌≡◌, refl, Bool, true, false, ◌&&◌, List, [], ◌∷◌, ◌++◌, ℕ, T, eqb, eqb→eq}
 use Rattle.numbers.proofs.BoolLaws.{and-left, and-right}
 use Rattle.refusals.specs.Facts.{Fact, Shown}

@@ -1,7 +1,7 @@
--- Refusals, and facts of boundary sections.
+-- Refusals, and figures.
 -- a list of refusals, the first that is met, and an answer unless one is
 pub mod Refusals
--- the documents' number of each refusal, and an answer or its refusal
+-- the number of each refusal, and an answer or its refusal
 pub mod Numbers
--- facts of boundary sections
+-- figures: what the definitions give beside what is printed
 pub mod Facts

@@ -1,10 +1,9 @@
--- The documents' number of each refusal (document 01, "Refused, by who can cause it", and document 02), and
--- an answer unless one is met.
+-- The number of each refusal (docs/REFUSALS.md), and an answer unless one is met.
 use Rattle.std.specs.Prelude.{ℕ, ◌-◌, List, [], ◌∷◌, slice_index_or, Result, Ok, Err}
 use Rattle.refusals.specs.declared.Refusal.{Refusal}
 use Rattle.refusals.specs.Refusals.{unless_refused}
 
--- the number of refusal r
+-- ORDER-1, FORM-10: the number of refusal r
 abbrev pub number : Refusal → ℕ
 number Refusal.SpeedOutOfRange = 1
 number Refusal.WidthOutOfRange = 2
@@ -29,7 +28,7 @@ number Refusal.SharesUnfit = 20
 number Refusal.DailyTrafficTooLarge = 21
 number Refusal.EndsReversed = 22
 
--- the refusals, in the order of their numbers
+-- ORDER-1: the refusals, in the order of their numbers
 unfoldable pub in_order : List Refusal
 in_order =
     Refusal.SpeedOutOfRange ∷ Refusal.WidthOutOfRange ∷ Refusal.ClearanceTooLarge ∷ Refusal.MedianUnfit
@@ -39,17 +38,16 @@ in_order =
     ∷ Refusal.LetterUnknown ∷ Refusal.BufferTooShort ∷ Refusal.DayUnfit ∷ Refusal.WeatherUnfit
     ∷ Refusal.SharesUnfit ∷ Refusal.DailyTrafficTooLarge ∷ Refusal.EndsReversed ∷ []
 
--- the refusal of number n, from 1 to 22
+-- ORDER-1: the refusal of number n
 -- 0 has the first, and any number above 22 the last: no refusal has such a number
 unfoldable pub refusal_of : ℕ → Refusal
 refusal_of n = slice_index_or in_order (n - 1) Refusal.EndsReversed
 
--- the number of an answer's refusal, 0 where there is none
+-- FORM-10: the number of an answer's refusal, 0 where there is none
 abbrev pub refusal_number : {A : Type 0} → Result A Refusal → ℕ
 refusal_number (Ok a) = 0
 refusal_number (Err r) = number r
 
--- a where the number n is 0, else the refusal of that number
--- "Every refusal hands back its number and nothing else"
+-- ORDER-1: a where the number n is 0, else the refusal of that number
 abbrev pub ok_unless : {A : Type 0} → ℕ → A → Result A Refusal
 ok_unless n a = unless_refused n (Ok a) (λ n. Err (refusal_of n))

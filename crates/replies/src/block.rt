@@ -9,15 +9,15 @@ ghost use Rattle.replies.specs.Output.{line_texts};
 
 use crate::write::{LONGEST_ANSWER, answer_line};
 
-/// How far a block was answered: the bytes of its answered lines with their newlines, and the bytes of the
-/// answers.
+/// LOS-2: how far a block was answered: the bytes of its answered lines with their newlines, and the bytes of
+/// the answers.
 #[derive(Clone, Copy)]
 pub(crate) struct Progress {
     pub(crate) read: usize,
     pub(crate) written: usize,
 }
 
-/// Answers the whole lines at the start of a block, while there is room for an answer.
+/// LOS-2: answers the whole lines at the start of a block, while there is room for an answer.
 pub(crate) fn answer_block(block: &[u8], out: &mut [u8]) -> Progress
     requires { longest_answer ≤ length out.old }
     ensures read { result.read ≡ size (answered line_texts (length out.old) block.now) }
@@ -39,8 +39,8 @@ pub(crate) fn answer_block(block: &[u8], out: &mut [u8]) -> Progress
     Progress { read, written }
 }
 
-/// Answers what is held at the end of the input, a last line without newline or nothing; answers how many
-/// bytes it wrote.
+/// LOS-1: answers what is held at the end of the input, a last line without newline or nothing; answers how
+/// many bytes it wrote.
 #[tactic(auto, using(crate::proofs::TextsLaws::by_last))]
 pub(crate) fn answer_last(held: &[u8], out: &mut [u8]) -> usize
     requires { (longest_answer ≤ length out.old) × IsHalfLine held.now }

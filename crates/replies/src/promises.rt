@@ -2,7 +2,7 @@
 
 ghost use Rattle.replies.specs.Output.{OutputOfAnyPieces};
 
-/// Whatever pieces an input comes in, what a run over them prints is the answers of its lines.
+/// LOS-3: whatever pieces an input comes in, what a run over them prints is the answers of its lines.
 pub fn output_of_any_pieces()
     ensures { OutputOfAnyPieces }
 {}

@@ -18,8 +18,8 @@ use text::stream::{Held, Stop, write_whole};
 /// How many bytes of answers are written at once.
 const ANSWERS: usize = 131072;
 
-/// Answers whole lines that are held, while there is room, and carries over the rest; answers how many bytes
-/// it wrote.
+/// LOS-2, LOS-3: answers whole lines that are held, while there is room, and carries over the rest; answers
+/// how many bytes it wrote.
 #[tactic(auto, unfolding(text::specs::Held::carried))]
 fn answer_turn(held: &mut Held, out: &mut [u8]) -> usize
     requires { longest_answer ≤ length out.old }
@@ -35,8 +35,8 @@ fn answer_turn(held: &mut Held, out: &mut [u8]) -> usize
     written
 }
 
-/// Answers all whole lines that are held. Where the output can't be written, a start of their answers was
-/// appended.
+/// LOS-2, LOS-4: answers all whole lines that are held. Where the output can't be written, a start of their
+/// answers was appended.
 fn answer_lines<W: Write>(
     held: &mut Held,
     output: &mut W,
@@ -58,10 +58,10 @@ fn answer_lines<W: Write>(
     }
 }
 
-/// Answers the lines of an input, one answer a line, to its end. Where it stops early, a start of the answers
-/// was appended, and nothing twice: where the input can't be read, the answers of the whole lines that were
-/// read, and half a line is not answered. 65,536 bytes of the input are held at most. The output is not
-/// flushed.
+/// LOS-2: answers the lines of an input, one answer a line, to its end, in whatever pieces it comes (LOS-3).
+/// LOS-4: where it stops early, a start of the answers was appended, and nothing twice: where the input can't
+/// be read, the answers of the whole lines that were read, and half a line is not answered. 65,536 bytes of
+/// the input are held at most. The output is not flushed.
 #[tactic(auto, using(text::proofs::AnsweringLaws::stopped))]
 pub fn answer_input<R: Read, W: Write>(input: &mut R, output: &mut W) -> Result<(), Stop>
     ensures answered { OnOk result (AnswersInput line_texts (R.remaining input.old) (R.remaining input.new)

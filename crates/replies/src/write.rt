@@ -12,7 +12,7 @@ use curve::service::Letter;
 use lines::read;
 use refusals::Refusal;
 
-/// How many bytes any answer has at most.
+/// TEXT-4: how many bytes any answer has at most.
 pub const LONGEST_ANSWER: usize = 64;
 
 fn letter_byte(letter: Letter) -> u8
@@ -28,8 +28,8 @@ fn letter_byte(letter: Letter) -> u8
     }
 }
 
-/// Writes the letter and the ten numbers of an answer to the start of a buffer that has room for them;
-/// answers how many bytes it wrote.
+/// TEXT-2: writes the letter and the ten numbers of an answer to the start of a buffer that has room for
+/// them; answers how many bytes it wrote.
 #[tactic(auto, unfolding(crate::specs::Texts::text_of))]
 pub fn write_grade(grade: &Grade, out: &mut [u8]) -> usize
     requires { length (answer_text (Ok grade.now)) ≤ length out.old }
@@ -38,6 +38,7 @@ pub fn write_grade(grade: &Grade, out: &mut [u8]) -> usize
     text::decimal::put_row(letter_byte(grade.letter), &grade.figures()[1..], out)
 }
 
+/// TEXT-3.
 #[tactic(auto, using(text::proofs::RowLaws::pieces), unfolding(crate::specs::Texts::refusal_text))]
 fn write_refusal(refusal: Refusal, out: &mut [u8]) -> usize
     requires { length (refusal_text (number refusal)) ≤ length out.old }
@@ -46,8 +47,8 @@ fn write_refusal(refusal: Refusal, out: &mut [u8]) -> usize
     text::decimal::put_row(b'X', &[refusal.number()], out)
 }
 
-/// Writes an answer, or X and its refusal's number, to the start of a buffer that has room for it; answers
-/// how many bytes it wrote.
+/// TEXT-2, TEXT-3: writes an answer, or X and its refusal's number, to the start of a buffer that has room
+/// for it; answers how many bytes it wrote.
 #[tactic(auto, unfolding(crate::specs::Texts::text_of))]
 pub fn write_answer(answer: Result<Grade, Refusal>, out: &mut [u8]) -> usize
     requires { length (answer_text answer) ≤ length out.old }
@@ -59,14 +60,15 @@ pub fn write_answer(answer: Result<Grade, Refusal>, out: &mut [u8]) -> usize
     }
 }
 
-/// Writes the answer to a line to the start of a buffer of 64 bytes or more; answers how many bytes it wrote.
-/// A line that can't be read gets X and 15.
+/// LOS-2: writes the answer to a line to the start of a buffer of 64 bytes or more; answers how many bytes it
+/// wrote. A malformed line gets X and 15.
 #[tactic(auto, using(crate::proofs::TextsLaws::by_line))]
 pub fn answer_line(line: &[u8], out: &mut [u8]) -> usize
     requires { longest_answer ≤ length out.old }
     ensures { Wrote (line_text line.now) out.old out.new result }
 {
     let read = read::read_line(line);
+    // FORM-4: taken apart before evaluation
     let Ok(case) = read else {
         return write_refusal(read.unwrap_err(), out);
     };

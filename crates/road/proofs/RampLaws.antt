@@ -1,4 +1,4 @@
--- The ramp term (specs/RampTerm): the table's rule, by one test that is computed over all 49 entries.
+-- The ramp term (specs/RampTerm). FORM-8: the table's rule, by one test that is computed over all 49 entries.
 use Rattle.std.proofs.Common.{◌≡◌, refl, Bool, ◌&&◌, ℕ, zero, suc, ◌+◌, ◌*◌, ◌-◌, ◌^◌, ◌≤◌, ◌<◌, arith, T, leb, ltb}
 use Rattle.std.proofs.Common.{leb→le, ltb→lt, eqb→eq, le_trans, le_antisymm, lt_of_lt_of_le, lt_irrefl, mul-le-mul_left, mul-le-mul_right}
 use Rattle.std.proofs.Common.{lit≤, get_or, length}

@@ -1,5 +1,4 @@
--- The boundary sections of document 01 as far as a road alone decides them, with clearances and ramps by
--- document 02.
+-- Figures that a road alone decides.
 use Rattle.std.specs.Prelude.{List, [], ◌∷◌, ◌++◌, map, ℕ}
 use Rattle.refusals.specs.Facts.{Fact, fact}
 use Rattle.curve.specs.declared.kind.Kind.TheVariants as Kind
@@ -11,19 +10,19 @@ use Rattle.road.specs.Adjustments.{lane_width_adjustment, right_clearance_adjust
 use Rattle.road.specs.RampTerm.{ramp_term}
 use Rattle.road.specs.FreeFlowSpeed.{free_flow_speed_of}
 
--- what right clearance r takes off with 2 to 8 lanes
+-- FFS-4: what right clearance r takes off with 2 to 8 lanes
 abbrev pub right_off : ℕ → List ℕ
 right_off r = map (right_clearance_adjustment r) (2 ∷ 3 ∷ 4 ∷ 5 ∷ 6 ∷ 7 ∷ 8 ∷ [])
 
--- what right clearance r and left clearance l take off with 2 and with 3 lanes
+-- FFS-5: what right clearance r and left clearance l take off with 2 and with 3 lanes
 abbrev total_off : Median → ℕ → ℕ → List ℕ
 total_off m r l = map (λ n. total_clearance_adjustment n (total_clearance m r l)) (2 ∷ 3 ∷ [])
 
--- F E base 120 60 60 D 24: a road that ramps alone make slower
+-- FFS-8: F E base 120 60 60 D 24: a road that ramps alone make slower
 abbrev pub with_24_ramps : ℕ → Road
 with_24_ramps base = road Kind.Freeway Way.Estimated base 120 60 60 Median.Divided 24
 
--- Clearances between the table's entries, at its ends and past them (document 02, T-02).
+-- FFS-4, FFS-5, FFS-9: clearances between the table's entries, at its ends and past them.
 unfoldable pub clearance_facts : List Fact
 clearance_facts =
     fact (right_off 0) (3600 ∷ 2400 ∷ 1200 ∷ 600 ∷ 600 ∷ 600 ∷ 600 ∷ [])
@@ -40,7 +39,7 @@ clearance_facts =
     ∷ fact (total_off Median.Divided 0 400) (1300 ∷ 1300 ∷ [])
     ∷ []
 
--- Ramps (document 02, T-08): the terms of the fewest and the most, and of 10 and 36, whose exact terms,
+-- FFS-8, FFS-2, FFS-10: the terms of the fewest and the most ramps, and of 10 and 36, whose exact terms,
 -- 4,945.48 and 14,504.51, are nearest a half; with 24, the bases whose estimate is the lower end of F, one
 -- less, the upper end, one less and one more.
 unfoldable pub ramp_facts : List Fact
@@ -50,8 +49,9 @@ ramp_facts =
     (55000 ∷ 54999 ∷ 75000 ∷ 74999 ∷ 75000 ∷ [])
     ∷ []
 
--- F with such clearances and by the lanes; the worst road fields, which take off nothing from a given speed;
--- the upper end of F on kind M; what lane widths take off at the ends of their ranges.
+-- FFS-1 to FFS-7, FFS-9, FFS-10, CASE-1: F with a total clearance between the entries, by the median; F by
+-- the lanes; the worst road fields, which take off nothing from a given speed; the upper end of F on kind M;
+-- what lane widths take off at the ends of their ranges.
 unfoldable pub speed_facts : List Fact
 speed_facts =
     fact (free_flow_speed_of (road Kind.Multilane Way.Estimated 60000 120 30 7 Median.Undivided 0) 2 ∷ [])
@@ -72,6 +72,6 @@ speed_facts =
     (6600 ∷ 6600 ∷ 1900 ∷ 1900 ∷ 0 ∷ 0 ∷ [])
     ∷ []
 
--- all of them
+-- FIGURE-1: all figures of a road
 abbrev pub road_facts : List Fact
 road_facts = clearance_facts ++ (ramp_facts ++ speed_facts)

@@ -1,4 +1,4 @@
--- Free-flow speed F, in thousandths of mi/h (document 01, "Free-flow speed F"), before the weather's factor.
+-- Free-flow speed F, in thousandths of mi/h, before the weather's factor.
 use Rattle.std.specs.Prelude.{ℕ, ◌-◌, min}
 use Rattle.curve.specs.declared.kind.Kind.{Kind}
 use Rattle.road.specs.declared.Way.{Way}
@@ -8,8 +8,7 @@ use Rattle.road.specs.Adjustments.{lane_width_adjustment, right_clearance_adjust
 use Rattle.road.specs.Adjustments.{median_adjustment, access_adjustment}
 use Rattle.road.specs.RampTerm.{ramp_term}
 
--- "Estimated (E), kind F: base speed − width − right clearance − ramp term"
--- "Estimated (E), kind M: base speed − width − total clearance − median − access"
+-- FFS-2: the base speed less what is taken off, by the kind, with n lanes
 unfoldable pub estimated_by : Kind → Road → ℕ → ℕ
 estimated_by Kind.Freeway road n =
     road.speed - lane_width_adjustment road.lane_width - right_clearance_adjustment road.right_clearance n
@@ -20,20 +19,19 @@ estimated_by Kind.Multilane road n =
     - median_adjustment road.median
     - access_adjustment road.access
 
--- the base speed less what is taken off, with n lanes
+-- FFS-2: the estimate of a road with n lanes
 abbrev pub estimated_speed : Road → ℕ → ℕ
 estimated_speed road n = estimated_by road.kind road n
 
--- "Given (G): F is the speed field"
+-- FFS-1, CASE-1: the speed field, or the estimate, by the way
 unfoldable pub uncapped_by : Way → Road → ℕ → ℕ
 uncapped_by Way.Given road n = road.speed
 uncapped_by Way.Estimated road n = estimated_speed road n
 
--- F before its upper end
+-- FFS-1: F of a road with n lanes, before its upper end
 abbrev pub uncapped_speed : Road → ℕ → ℕ
 uncapped_speed road n = uncapped_by road.way road n
 
--- F
--- "A value above the upper end is taken as that end"
+-- FFS-1, FFS-10: F of a road with n lanes, at most the upper end
 unfoldable pub free_flow_speed_of : Road → ℕ → ℕ
 free_flow_speed_of road n = min (highest_speed road.kind) (uncapped_speed road n)

@@ -1,5 +1,5 @@
--- Roads and cases of document 01, with clearances, weather and ramps by document 02, a file for each part.
--- roads and cases by their fields, and with one field changed
+-- Roads and cases, free-flow speed, and what refuses a case's fields, a file for each part.
+-- roads and cases by their fields, and with some fields changed
 pub mod Cases
 -- the straight line between two entries of a table's row
 pub mod Interpolation
@@ -13,5 +13,5 @@ pub mod FreeFlowSpeed
 pub mod Refusals
 -- the laws of free-flow speed and of refusal 19, stated
 pub mod Laws
--- the boundary sections that a road alone decides
+-- figures that a road alone decides
 pub mod Boundary

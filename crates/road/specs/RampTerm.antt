@@ -1,16 +1,15 @@
--- The ramp term, in thousandths of mi/h, by whole powers (document 02, T-08).
+-- The ramp term, in thousandths of mi/h, by whole powers.
 use Rattle.std.specs.Prelude.{ℕ, zero, suc, ◌+◌, ◌*◌, ◌-◌, ◌^◌, Bool, ◌&&◌, nat_le, nat_lt, ◌==◌}
 use Rattle.numbers.specs.Search.{greatest}
 
--- t is the manual's 3.22 × (ramps per mile)^0.84 to the nearest thousandth, with k ramps in six miles
--- "the whole t with (2t − 1)^25 × 6^21 ≤ 6,440^25 × k^21 < (2t + 1)^25 × 6^21, and 0 for k = 0"
+-- FFS-8: t is the manual's 3.22 × (ramps per mile)^0.84 to the nearest thousandth, with k ramps in six miles
 unfoldable pub is_ramp_term : ℕ → ℕ → Bool
 is_ramp_term zero t = t == 0
 is_ramp_term (suc k) t =
     nat_le ((2 * t - 1) ^ 25 * 6 ^ 21) (6440 ^ 25 * suc k ^ 21)
     && nat_lt (6440 ^ 25 * suc k ^ 21) ((2 * t + 1) ^ 25 * 6 ^ 21)
 
--- that t
--- there is exactly one to k = 48 (specs/Laws), and none of these is above 19,000
+-- FFS-8: the ramp term of k ramps in six miles: to k = 48 exactly one t fits (specs/Laws), and none of these
+-- is above 19,000
 unfoldable pub ramp_term : ℕ → ℕ
 ramp_term k = greatest (is_ramp_term k) 19000

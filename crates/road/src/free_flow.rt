@@ -1,4 +1,4 @@
-//! Free-flow speed, given or estimated, before the weather's factor.
+//! FFS-1: free-flow speed, given or estimated, before the weather's factor.
 
 ghost use Rattle.std.specs.Prelude.{◌≡◌};
 ghost use Rattle.curve.specs.declared.kind.Kind.TheVariants as Kind;
@@ -12,6 +12,7 @@ use curve::kind::Kind;
 use numbers::units::Speed;
 
 impl Road {
+    /// FFS-2: kind F.
     #[tactic(auto, using(crate::proofs::FreeFlowSpeedLaws::estimate_terms), unfolding(crate::specs::FreeFlowSpeed::estimated_by))]
     fn freeway_estimate(&self, lanes: u64) -> Speed
         requires fits { RoadFits self.now }
@@ -24,6 +25,7 @@ impl Road {
             - ramp_term(self.access)
     }
 
+    /// FFS-2: kind M.
     #[tactic(auto, using(crate::proofs::FreeFlowSpeedLaws::estimate_terms), unfolding(crate::specs::FreeFlowSpeed::estimated_by))]
     fn multilane_estimate(&self, lanes: u64) -> Speed
         requires fits { RoadFits self.now }
@@ -37,6 +39,7 @@ impl Road {
             - self.access_adjustment()
     }
 
+    /// FFS-1: before the upper end.
     #[tactic(auto, unfolding(crate::specs::FreeFlowSpeed::uncapped_by))]
     fn uncapped_speed(&self, lanes: u64) -> Speed
         requires { RoadFits self.now }
@@ -51,7 +54,8 @@ impl Road {
 }
 
 impl FitCase {
-    /// F of the case's road with a lane count: given or estimated, and at most the kind's upper end.
+    /// FFS-1, FFS-10: F of the case's road with a lane count: given or estimated, and at most the kind's
+    /// upper end.
     #[tactic(auto, using(crate::proofs::RefusalLaws::fit_road), unfolding(crate::specs::FreeFlowSpeed::free_flow_speed_of))]
     pub fn free_flow_speed(&self, lanes: u64) -> Speed
         ensures { result ≡ free_flow_speed_of self.now.case.road lanes }

@@ -16,14 +16,14 @@ use curve::Weather;
 use curve::kind::Kind;
 use numbers::units::{Demand, Length, Share, Speed};
 
-/// Where free-flow speed comes from: estimated from a base speed (E), or given (G).
+/// CASE-1, FFS-1: where free-flow speed comes from: estimated from a base speed (E), or given (G).
 #[derive(Clone, Copy, PartialEq, Eq)]
 pub enum Way {
     Estimated,
     Given,
 }
 
-/// What parts the two directions: nothing (U), a median (D) or a two-way left-turn lane (T).
+/// CASE-1: what parts the two directions: nothing (U), a median (D) or a two-way left-turn lane (T).
 #[derive(Clone, Copy, PartialEq, Eq)]
 pub enum Median {
     Undivided,
@@ -31,15 +31,15 @@ pub enum Median {
     TwoWayLeftTurnLane,
 }
 
-/// General terrain: level (L) or rolling (R).
+/// CASE-2, FLOW-1: general terrain: level (L) or rolling (R).
 #[derive(Clone, Copy, PartialEq, Eq)]
 pub enum Terrain {
     Level,
     Rolling,
 }
 
-/// A road in one direction: what is equal on the same road. Any number may stand in a field; refusals 1 to 5
-/// say which are fit.
+/// CASE-1: a road in one direction: what is equal on the same road. Any number may stand in a field; refusals
+/// 1 to 5 say which are fit.
 #[derive(Clone, Copy, PartialEq, Eq)]
 pub struct Road {
     pub kind: Kind,
@@ -54,8 +54,8 @@ pub struct Road {
     pub access: u64,
 }
 
-/// A road with its lanes, its load and the weather. Any number may stand in a field; refusals 1 to 10 and 19
-/// say which are fit.
+/// CASE-2: a road with its lanes, its load and the weather. Any number may stand in a field; refusals 1 to 10
+/// and 19 say which are fit.
 #[derive(Clone, Copy, PartialEq, Eq)]
 pub struct Case {
     pub road: Road,
@@ -69,14 +69,14 @@ pub struct Case {
 }
 
 impl Case {
-    /// The case with a demand in the place of its own.
+    /// CASE-3: the case with a demand in the place of its own.
     pub fn with_demand(self, demand: Demand) -> Case
         ensures { result ≡ with_demand self demand }
     {
         Case { demand, ..self }
     }
 
-    /// The case with a demand, a peak-hour factor and a heavy share in the place of its own.
+    /// CASE-3: the case with a demand, a peak-hour factor and a heavy share in the place of its own.
     pub fn with_load(self, demand: Demand, peak_hour_factor: Share, heavy_share: Share) -> Case
         ensures { result ≡ with_load self demand peak_hour_factor heavy_share }
     {

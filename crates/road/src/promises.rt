@@ -3,25 +3,26 @@
 ghost use Rattle.road.specs.Laws.{StraightBetweenEntries, ClearancesAreWhole, RightClearanceByTenths, RampTermIsNearest};
 ghost use Rattle.road.specs.Laws.{EstimateNeverBelowZero, FreeFlowSpeedNeverFallsWithLanes, WeatherFitsExactly};
 
-/// What a clearance takes off lies straight between the entries of its row, and is whole: nothing is rounded.
+/// FFS-9, FFS-4, FFS-5: what a clearance takes off lies straight between the entries of its row, and is
+/// whole: nothing is rounded.
 pub fn clearances()
     ensures straight { StraightBetweenEntries }
     ensures whole { ClearancesAreWhole }
     ensures by_tenths { RightClearanceByTenths }
 {}
 
-/// The ramp term is the one whole number that fits its rule.
+/// FFS-8: the ramp term is the one whole number that fits its rule.
 pub fn ramps()
     ensures { RampTermIsNearest }
 {}
 
-/// No estimate of free-flow speed is cut at 0, and it never falls with more lanes.
+/// FFS-2: no estimate of free-flow speed is cut at 0, and free-flow speed never falls with more lanes.
 pub fn free_flow_speed()
     ensures above_zero { EstimateNeverBelowZero }
     ensures with_lanes { FreeFlowSpeedNeverFallsWithLanes }
 {}
 
-/// Refusal 19 lets pass exactly the factors within the kind's ends.
+/// REFUSAL-19, WEATHER-1: refusal 19 lets pass exactly the factors within the kind's ends.
 pub fn weather()
     ensures { WeatherFitsExactly }
 {}

@@ -12,15 +12,17 @@ use curve::kind::Kind;
 use numbers::units::Demand;
 use refusals::Refusal;
 
-/// The greatest demand that refusal 7 lets pass.
+/// REFUSAL-7: the greatest demand that 7 lets pass.
 pub const GREATEST_DEMAND: Demand = 999_999;
 
+/// REFUSAL-4: a median other than D on kind F.
 fn median_unfit(kind: Kind, median: Median) -> bool
     ensures { result ≡ median_unfit kind median }
 {
     kind == Kind::Freeway && median != Median::Divided
 }
 
+/// REFUSAL-5: the most ramps or access points that 5 lets pass.
 fn most_access(kind: Kind) -> u64
     ensures { result ≡ most_access kind }
 {
@@ -30,6 +32,7 @@ fn most_access(kind: Kind) -> u64
     }
 }
 
+/// REFUSAL-19: whether a factor is outside the kind's ends.
 #[tactic(auto, unfolding(crate::specs::Refusals::weather_unfit))]
 fn weather_unfit(kind: Kind, weather: Weather) -> bool
     ensures { result ≡ weather_unfit kind weather }
@@ -39,7 +42,7 @@ fn weather_unfit(kind: Kind, weather: Weather) -> bool
 }
 
 impl Road {
-    /// Whether the road is fit: the first of 1 to 5 that refuses it, if any does.
+    /// REFUSAL-1 to REFUSAL-5: whether the road is fit: the first of them that refuses it, if any does.
     #[tactic(auto, unfolding(crate::specs::Refusals::road_refusals))]
     fn check(&self) -> Result<(), Refusal>
         ensures { refusal_number result ≡ first_refusal (road_refusals self.now) }
@@ -64,7 +67,8 @@ impl Road {
 }
 
 impl Case {
-    /// Whether the section is fit: the first of 1 to 6 that refuses the case, if any does.
+    /// REFUSAL-1 to REFUSAL-6: whether the section is fit: the first of them that refuses the case, if any
+    /// does.
     #[tactic(auto, using(crate::proofs::RefusalLaws::section_in_turn))]
     pub fn check_section(&self) -> Result<(), Refusal>
         ensures { refusal_number result ≡ first_refusal (section_refusals self.now) }
@@ -77,7 +81,7 @@ impl Case {
         Ok(())
     }
 
-    /// Whether the load is fit: the first of 7 to 9 that refuses the case, if any does.
+    /// REFUSAL-7 to REFUSAL-9: whether the load is fit: the first of them that refuses the case, if any does.
     #[tactic(auto, unfolding(crate::specs::Refusals::load_refusals))]
     pub fn check_load(&self) -> Result<(), Refusal>
         ensures { refusal_number result ≡ first_refusal (load_refusals self.now) }
@@ -94,7 +98,7 @@ impl Case {
         Ok(())
     }
 
-    /// Whether the weather is fit, or 19.
+    /// REFUSAL-19: whether the weather is fit, or 19.
     pub fn check_weather(&self) -> Result<(), Refusal>
         ensures { refusal_number result ≡ first_refusal (weather_refusals self.now) }
     {
@@ -105,7 +109,7 @@ impl Case {
     }
 }
 
-/// A case that none of 1 to 9 nor 19 refuses.
+/// A case that none of REFUSAL-1 to REFUSAL-9 nor REFUSAL-19 refuses.
 #[derive(Clone, Copy)]
 pub struct FitCase {
     pub case: Case,
@@ -113,7 +117,7 @@ pub struct FitCase {
 }
 
 impl FitCase {
-    /// The case, or the first of 1 to 9 and 19 that refuses it.
+    /// ORDER-2: the case, or the first of 1 to 9 and 19 that refuses it.
     #[tactic(auto, using(crate::proofs::RefusalLaws::fields_in_turn), unfolding(crate::specs::Refusals::field_refusals))]
     pub fn check(case: Case) -> Result<FitCase, Refusal>
         ensures refusal { refusal_number result ≡ first_refusal (field_refusals case) }

@@ -5,5 +5,5 @@ pub mod Survey
 pub mod Units
 -- laws of the surveyed speed
 pub mod Laws
--- the boundary sections about it
+-- figures of it
 pub mod Boundary

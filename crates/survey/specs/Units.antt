@@ -1,12 +1,11 @@
--- What the code's helpers need and hand back. It is no part of the method: proofs/SurveyLaws shows where it
--- is the answer to a survey.
+-- What the code's helpers need and hand back; proofs/SurveyLaws shows where it is the answer to a survey.
 use Rattle.std.specs.Prelude.{ℕ, ◌*◌, ◌≤◌, ◌<◌, if◌then◌else◌, Result, Ok, Err}
 use Rattle.numbers.specs.declared.Fraction.{Fraction}
 use Rattle.refusals.specs.declared.Refusal.{Refusal}
 use Rattle.survey.specs.Survey.{RoundedSpeed, speed_refused, thousandths_in}
 
--- a unit for which no float below 1 or from 512 on comes to 30,000 to 90,000, and the code's products fit 64
--- bits. Both units of a survey are such.
+-- SURVEY-2, SAFE-1: a unit for which no float below 1 or from 512 on comes to 30,000 to 90,000, and
+-- the code's products fit 64 bits; both units of a survey are such
 pub record UnitFits (unit : Fraction) : Type 0 where
   pub denominator-pos : 0 < unit.denominator
   pub numerator-le : unit.numerator ≤ 1000000000
@@ -14,6 +13,6 @@ pub record UnitFits (unit : Fraction) : Type 0 where
   pub low-at-1 : unit.numerator < 30000 * unit.denominator
   pub high-at-512 : 90001 * unit.denominator ≤ 512 * unit.numerator
 
--- what 13 alone makes of a rounded speed
+-- REFUSAL-13: the thousandths of a rounded speed, or 13, which alone is asked
 abbrev pub speed_answer : RoundedSpeed → Result ℕ Refusal
 speed_answer r = if speed_refused r then Err Refusal.SurveyedSpeedOutOfRange else Ok (thousandths_in r)

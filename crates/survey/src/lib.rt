@@ -16,16 +16,16 @@ use numbers::Fraction;
 use numbers::units::{FlowRate, Speed};
 use refusals::Refusal;
 
-/// Fewer cars are refused with 11.
+/// REFUSAL-11: fewer cars are refused.
 const FEWEST_CARS: u64 = 100;
 
-/// A flow from here on is refused with 12.
+/// REFUSAL-12: a flow from here on is refused.
 const FLOW_LIMIT: FlowRate = 1_000;
 
 /// How many thousandths of mi/h one mi/h is.
 const THOUSANDTHS: u64 = 1_000;
 
-/// A mile in millimetres: 1 mi = 1.609344 km.
+/// SURVEY-2: a mile in millimetres: 1 mi = 1.609344 km.
 const MILE: u64 = 1_609_344;
 
 /// A kilometre in millimetres.
@@ -43,11 +43,11 @@ const KILOMETRE_AN_HOUR: Fraction = Fraction {
     denominator: MILE,
 };
 
-/// What the leading digit of an f32 weighs: of its bits 1 is the sign, 8 are the exponent, and 23 the digits
-/// behind the leading one.
+/// SURVEY-2: what the leading digit of an f32 weighs: of its bits 1 is the sign, 8 are the exponent, and 23 the
+/// digits behind the leading one.
 const LEADING: u64 = 1 << 23;
 
-/// A speed in the unit in which it was surveyed.
+/// SURVEY-1, FORM-9: a speed in the unit in which it was surveyed.
 #[derive(Clone, Copy, PartialEq)]
 pub enum SurveyedSpeed {
     /// mi/h
@@ -56,7 +56,7 @@ pub enum SurveyedSpeed {
     KilometresPerHour(f32),
 }
 
-/// What a survey holds.
+/// SURVEY-1, FORM-3: what a survey holds.
 #[derive(Clone, Copy, PartialEq)]
 pub struct Survey {
     pub speed: SurveyedSpeed,
@@ -65,7 +65,7 @@ pub struct Survey {
     pub flow: FlowRate,
 }
 
-/// The speed of a float with these bits, or 13.
+/// SURVEY-2, FORM-2: the speed of a float with these bits, or 13.
 #[tactic(auto, using(crate::proofs::FloatLaws::by_bits))]
 fn speed_of_bits(bits: u64, unit: Fraction) -> Result<Speed, Refusal>
     requires { UnitFits unit }
@@ -86,7 +86,7 @@ fn speed_of_bits(bits: u64, unit: Fraction) -> Result<Speed, Refusal>
     Ok(thousandths)
 }
 
-/// The speed of a float, or 13. A NaN has no bits of its own, so it is refused first.
+/// SURVEY-2, FORM-2: the speed of a float, or 13. A NaN has no bits of its own, so it is refused first.
 #[tactic(auto, using(crate::proofs::FloatLaws::by_float))]
 fn speed_of_float(x: f32, unit: Fraction) -> Result<Speed, Refusal>
     requires { UnitFits unit }
@@ -98,9 +98,9 @@ fn speed_of_float(x: f32, unit: Fraction) -> Result<Speed, Refusal>
     speed_of_bits(u64::from(x.to_bits()), unit)
 }
 
-/// The surveyed speed, from 30,000 to 90,000 thousandths of mi/h, or the first refusal: 11 for fewer than 100
-/// cars, 12 for a flow of 1,000 or more, 13 for a speed that is not finite or, rounded down, not within these
-/// ends.
+/// SURVEY-3, REFUSAL-11 to REFUSAL-13: the surveyed speed, from 30,000 to 90,000 thousandths of mi/h, or the first refusal: 11 for
+/// fewer than 100 cars, 12 for a flow of 1,000 or more, 13 for a speed that is not finite or, rounded down,
+/// not within these ends. FORM-3: the survey is handed over by value.
 #[tactic(auto, using(crate::proofs::SurveyLaws::by_survey))]
 pub fn surveyed_speed(survey: Survey) -> Result<Speed, Refusal>
     ensures value { result ≡ survey_answer survey }
@@ -112,6 +112,7 @@ pub fn surveyed_speed(survey: Survey) -> Result<Speed, Refusal>
     if survey.flow >= FLOW_LIMIT {
         return Err(Refusal::FlowTooLarge);
     }
+    // FORM-9: by the unit, before the exact conversion
     match survey.speed {
         SurveyedSpeed::MilesPerHour(x) => speed_of_float(x, MILE_AN_HOUR),
         SurveyedSpeed::KilometresPerHour(x) => speed_of_float(x, KILOMETRE_AN_HOUR),

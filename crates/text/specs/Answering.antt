@@ -6,29 +6,29 @@ use Rattle.text.specs.Bytes.{newline}
 use Rattle.text.specs.Held.{IsHalfLine}
 use Rattle.text.specs.Stream.{LineTexts, output_of}
 
--- a start of some bytes was appended, and nothing else
+-- LOS-4: a start of some bytes was appended, and nothing else
 pub record AppendsAStart (old new : Option (List ℕ)) (bytes : List ℕ) : Type 0 where
   pub start : List ℕ
   pub rest : List ℕ
   pub splits : bytes ≡ start ++ rest
   pub appended : Appends old new start
 
--- each line is ended by its newline
+-- LOS-4: each line is ended by its newline
 abbrev pub IsWholeLines : List ℕ → Type 0
 IsWholeLines bytes = (bytes ≡ []) ⊎ ((front : List ℕ) × (bytes ≡ front ++ newline ∷ []))
 
--- all of the input was read, and the texts of its lines were appended
+-- LOS-2: all of the input was read, and the texts of its lines were appended
 pub record AnswersInput (t : LineTexts) (input left old new : Option (List ℕ)) : Type 0 where
   pub bytes : List ℕ
   pub read : Consumes input left bytes
   pub ended : IsAtEnd left
   pub appended : Appends old new (output_of t bytes)
 
--- a start of the texts of the input's lines was appended
+-- LOS-4: a start of the texts of the input's lines was appended
 abbrev pub AnswersAStart : LineTexts → Option (List ℕ) → Option (List ℕ) → Option (List ℕ) → Type 0
 AnswersAStart t input old new = IfSome input (λ bytes. AppendsAStart old new (output_of t bytes))
 
--- of what was read, the whole lines were answered, and the half line after them was not
+-- LOS-4: of what was read, the whole lines were answered, and the half line after them was not
 pub record AnswersWholeLines (t : LineTexts) (input left old new : Option (List ℕ)) : Type 0 where
   pub whole : List ℕ
   pub half : List ℕ

@@ -6,57 +6,58 @@ use Rattle.text.specs.Parts.{parts, count_before}
 use Rattle.text.specs.Stream.{LineTexts, output_of}
 
 -- ---- one turn
--- the parts that a newline ends: all but the last
+-- LOS-1: the parts that a newline ends: all but the last
 unfoldable pub ended_parts : List (List ℕ) → List (List ℕ)
 ended_parts [] = []
 ended_parts (p ∷ []) = []
 ended_parts (p ∷ q ∷ ps) = p ∷ ended_parts (q ∷ ps)
 
--- of the lines ls, those that are answered in a buffer with this room
--- each line is answered while there is room for the longest text
+-- LOS-3: of the lines ls, those that are answered in a buffer with this room: each while there is room for
+-- the longest text
 unfoldable pub fitting : LineTexts → ℕ → List (List ℕ) → List (List ℕ)
 fitting t room [] = []
 fitting t room (l ∷ ls) =
     if nat_lt room t.longest_text then [] else l ∷ fitting t (room - length (t.text l)) ls
 
--- the lines of some bytes that a turn answers
+-- LOS-3: the lines of some bytes that a turn answers
 unfoldable pub answered : LineTexts → ℕ → List ℕ → List (List ℕ)
 answered t room bytes = fitting t room (ended_parts (parts newline bytes))
 
--- how many bytes the lines ls have, with their newlines
+-- LOS-3: how many bytes the lines ls have, with their newlines
 unfoldable pub size : List (List ℕ) → ℕ
 size [] = 0
 size (l ∷ ls) = length l + 1 + size ls
 
--- bytes that are no whole line, cut to so many
+-- LOS-3, LINE-5: bytes with no newline, cut to so many; others as they are
 unfoldable pub cut_off : ℕ → List ℕ → List ℕ
 cut_off kept bytes = if nat_lt (count_before newline bytes) (length bytes) then bytes else take kept bytes
 
--- what a turn carries over: of a line that is too long one byte more than the longest line
--- enough is kept to tell that the line is too long
+-- LOS-3, LINE-5: what a turn carries over: the bytes that it did not answer, but of a half line that is too
+-- long only one byte more than the longest line, enough to tell that it is too long
 unfoldable pub carried : LineTexts → ℕ → List ℕ → List ℕ
 carried t room bytes = cut_off (suc t.longest_line) (drop (size (answered t room bytes)) bytes)
 
 -- ---- what is held stands for all that was read
--- the last of some parts
+-- LOS-3: the last of some parts
 unfoldable pub last_part : List (List ℕ) → List ℕ
 last_part [] = []
 last_part (p ∷ []) = p
 last_part (p ∷ q ∷ ps) = last_part (q ∷ ps)
 
--- the half line at the end of some bytes: what follows their last newline
+-- LOS-3: the half line at the end of some bytes: what follows their last newline
 unfoldable pub half_line : List ℕ → List ℕ
 half_line bytes = last_part (parts newline bytes)
 
--- bytes with no newline
+-- LOS-3, LOS-4: bytes with no newline
 abbrev pub IsHalfLine : List ℕ → Type 0
 IsHalfLine bytes = count_before newline bytes ≡ length bytes
 
--- one line, or two that are too long
+-- LOS-3, LINE-5: one line, or two that are too long
 abbrev pub SameLine : LineTexts → List ℕ → List ℕ → Type 0
 SameLine t l m = (l ≡ m) ⊎ ((t.longest_line < length l) × (t.longest_line < length m))
 
--- once out is printed, the bytes held stand for the bytes read: whatever follows, the same is printed
+-- LOS-3: once out is printed, the bytes held stand for the bytes read: whatever follows, the same is printed,
+-- and both end in one half line, or in two that are too long
 pub record StandsFor (t : LineTexts) (read held out : List ℕ) : Type 0 where
   pub prints : (more : List ℕ) → output_of t (read ++ more) ≡ out ++ output_of t (held ++ more)
   pub half : SameLine t (half_line read) (half_line held)

@@ -4,7 +4,7 @@ ghost use Rattle.std.specs.Prelude.{◌≡◌, ◌≤◌, length};
 ghost use Rattle.text.specs.Decimal.{decimal, figures_text, row_text};
 ghost use Rattle.text.specs.Buffer.{Wrote};
 
-/// How many digits n has.
+/// TEXT-1: how many digits n has.
 #[tactic(auto, using(crate::proofs::DigitLaws::length_from_log))]
 fn digit_count(n: u64) -> usize
     ensures { result ≡ length (decimal n) }
@@ -12,7 +12,7 @@ fn digit_count(n: u64) -> usize
     n.checked_ilog10().unwrap_or(0) as usize + 1
 }
 
-/// Writes a number to the start of a buffer that has room for it; answers how many bytes it wrote.
+/// TEXT-1: writes a number to the start of a buffer that has room for it; answers how many bytes it wrote.
 /// Its digits come from the last to the first, as the divisions leave them: `los` takes 2 % longer with a
 /// `for` over the places.
 #[tactic(auto, using(crate::proofs::RowLaws::filling))]
@@ -32,8 +32,8 @@ pub fn put_number(n: u64, out: &mut [u8]) -> usize
     count
 }
 
-/// Writes each number of a slice after a tab to the start of a buffer that has room for them; answers how
-/// many bytes it wrote.
+/// TEXT-2: writes each number of a slice after a tab to the start of a buffer that has room for them; answers
+/// how many bytes it wrote.
 #[tactic(auto, using(crate::proofs::RowLaws::pieces))]
 pub fn put_figures(figures: &[u64], out: &mut [u8]) -> usize
     requires { length (figures_text figures.now) ≤ length out.old }
@@ -48,8 +48,8 @@ pub fn put_figures(figures: &[u64], out: &mut [u8]) -> usize
     count
 }
 
-/// Writes a byte, each number after a tab, and a newline to the start of a buffer that has room for them;
-/// answers how many bytes it wrote.
+/// TEXT-2, TEXT-3: writes a byte, each number after a tab, and a newline to the start of a buffer that has
+/// room for them; answers how many bytes it wrote.
 #[tactic(auto, using(crate::proofs::RowLaws::pieces))]
 pub fn put_row(first: u8, figures: &[u64], out: &mut [u8]) -> usize
     requires { length (row_text first figures.now) ≤ length out.old }

@@ -2,8 +2,8 @@
 
 ghost use Rattle.text.specs.Runs.{AnyPieces, SomeRun};
 
-/// Whatever pieces an input comes in, what a run over them prints is the texts of its lines. For any pieces
-/// there is a run.
+/// LOS-3: whatever pieces an input comes in, what a run over them prints is the texts of its lines. For any
+/// pieces there is a run.
 pub fn input_in_any_pieces()
     ensures any { AnyPieces }
     ensures some { SomeRun }

@@ -9,7 +9,7 @@ ghost use Rattle.text.specs.Answering.{AppendsAStart};
 use std::io::{ErrorKind, Read, Write};
 use std::marker::Model;
 
-/// What stops a program before it has read and written all.
+/// LOS-4: what stops a program before it has read and written all.
 #[derive(Clone, Copy, Debug)]
 pub enum Stop {
     /// The input can't be read.
@@ -20,10 +20,10 @@ pub enum Stop {
     NobodyReads,
 }
 
-/// How many bytes are held at most.
+/// LOS-3: how many bytes are held at most.
 pub const HELD: usize = 65536;
 
-/// The bytes of an input that are held, at most 65,536.
+/// LOS-3: the bytes of an input that are held, at most 65,536.
 #[derive(Drop)]
 pub struct Held {
     buffer: [u8; HELD],
@@ -39,7 +39,7 @@ impl Model for Held {
 }
 
 impl Held {
-    /// No bytes.
+    /// LOS-3: no bytes.
     pub fn new() -> Held
         ensures { result ≡ [] }
     {
@@ -49,16 +49,16 @@ impl Held {
         }
     }
 
-    /// The bytes held.
+    /// LOS-3: the bytes held.
     pub fn bytes(&self) -> &[u8]
         ensures { result.now ≡ self.now }
     {
         &self.buffer[..self.count]
     }
 
-    /// Reads a piece behind the bytes held, and tells whether there may be more: nothing read is the end of
-    /// the input, and nothing else is. There has to be room. A read that fails changes nothing; one that a
-    /// signal interrupts is tried again.
+    /// LOS-3, LOS-4: reads a piece behind the bytes held, and tells whether there may be more: nothing read
+    /// is the end of the input, and nothing else is. There has to be room. A read that fails changes nothing;
+    /// one that a signal interrupts is tried again.
     pub fn read_more<R: Read>(&mut self, input: &mut R) -> Result<bool, Stop>
         requires { length self.old < HELD }
         ensures piece { OnOk result ((piece : List ℕ) × (self.new ≡ self.old ++ piece)
@@ -74,8 +74,8 @@ impl Held {
         Ok(0 < n)
     }
 
-    /// Lets go of the bytes before `from`. Where more than `kept` are left, and no newline among them, only
-    /// `kept` stay: enough to tell that a line is too long.
+    /// LOS-3, LINE-5: lets go of the bytes before `from`. Where more than `kept` are left, and no newline
+    /// among them, only `kept` stay: enough to tell that a line is too long.
     pub fn carry_over(&mut self, from: usize, kept: usize)
         requires { from ≤ length self.old }
         ensures { self.new ≡ cut_off kept (drop from self.old) }
@@ -84,7 +84,8 @@ impl Held {
     }
 }
 
-/// Reads once into the start of a buffer; answers how many bytes were read.
+/// LOS-4: reads once into the start of a buffer, again where a signal interrupts; answers how many bytes were
+/// read.
 fn read_piece<R: Read>(input: &mut R, room: &mut [u8]) -> Result<usize, Stop>
     ensures count { IfOk result (λ n. n ≤ length room.new) }
     ensures piece { IfOk result (λ n.
@@ -131,8 +132,8 @@ fn move_to_start(held: &mut [u8], from: usize, kept: usize) -> usize
     n
 }
 
-/// Appends bytes to an output. Where that fails, a start of them was appended, and nothing twice. A write
-/// that a signal interrupts is tried again.
+/// LOS-4: appends bytes to an output. Where that fails, a start of them was appended, and nothing twice. A
+/// write that a signal interrupts is tried again.
 pub fn write_whole<W: Write>(output: &mut W, bytes: &[u8]) -> Result<(), Stop>
     ensures whole { OnOk result (Appends (W.contents output.old) (W.contents output.new) bytes.now) }
     ensures start { OnErr result (AppendsAStart (W.contents output.old) (W.contents output.new) bytes.now) }
