@@ -13,8 +13,8 @@
 enum { MOST_DAYS = 20000, NUMBERS = DAY_DEMANDS * DAY_FIGURES, DEMAND_FIELD = 9, LONGEST_LINE = 80, WAYS = 3 };
 
 /* A made-up day: hundredths of the line's own demand. */
-static const uint64_t shares[DAY_DEMANDS] = {15, 10, 8, 8, 12, 30, 60, 95, 100, 80, 70, 68,
-                                             70, 72, 75, 80, 95, 100, 85, 60, 45, 35, 28, 20};
+static const uint64_t shares[DAY_DEMANDS] = {15, 10, 8,  8,  12, 30,  60, 95, 100, 80, 70, 68,
+                                             70, 72, 75, 80, 95, 100, 85, 60, 45,  35, 28, 20};
 
 /* A road with its demands, and the lines of the single calls. */
 struct day {

@@ -45,11 +45,11 @@ static void put_line(void)
     put_number(0, 400);       /* right clearance */
     put_number(0, 400);       /* left clearance */
     put_letter(freeway ? 'D' : draw_letter("UDT", 3), '\t');
-    put_number(0, freeway ? 48 : 200); /* ramps in six miles, or access points per mile */
-    put_number(2, freeway ? 8 : 3);    /* lanes */
+    put_number(0, freeway ? 48 : 200);                /* ramps in six miles, or access points per mile */
+    put_number(2, freeway ? 8 : 3);                   /* lanes */
     put_number(0, draw(0, 15) == 0 ? 999999 : 20000); /* demand */
-    put_number(250, 1000);             /* peak-hour factor */
-    put_number(0, 1000);               /* heavy share */
+    put_number(250, 1000);                            /* peak-hour factor */
+    put_number(0, 1000);                              /* heavy share */
     put_letter(draw_letter("LR", 2), '\n');
 }
 

@@ -4,7 +4,7 @@ set -eu
 build=$1 los=$2
 shift 2
 runs=${RUNS:-7}
-before=${BEFORE:-} # another los to run beside this one, as that of the landing before
+before=${BEFORE:-} # another los to run beside this one, as that of an earlier tree
 lines=$build/lines.tsv
 few=$build/few.tsv
 count=$(wc -l <"$lines")

@@ -31,9 +31,9 @@ struct section {
 struct curve {
     bool freeway;
     uint64_t speed, capacity, breakpoint;
-    uint64_t most_flow;             /* the greatest flow rate up to capacity */
-    uint64_t span;                  /* c - b */
-    uint64_t whole, free, fall;     /* the denominator of w, 9F times that, 9F - 2c */
+    uint64_t most_flow;         /* the greatest flow rate up to capacity */
+    uint64_t span;              /* c - b */
+    uint64_t whole, free, fall; /* the denominator of w, 9F times that, 9F - 2c */
 };
 
 struct load {
@@ -44,7 +44,7 @@ struct speed {
     uint64_t numerator, denominator;
 };
 
-/* What a flow rate gets; A is 1. */
+/* What a flow rate gets; A is 1 (LETTER-3). */
 struct performance {
     uint64_t letter, speed, density;
 };
@@ -85,7 +85,7 @@ static bool read_letter(struct cursor *line, uint8_t *letter)
     return true;
 }
 
-/* One to five digits with no leading zero, of a demand one to six. */
+/* LINE-2: up to five digits, of a demand six; 0 begins a number only as its one digit. */
 static bool read_number(struct cursor *line, uint64_t *numbers, enum number place)
 {
     const uint8_t *start = line->at;
@@ -110,13 +110,13 @@ static bool read_numbers(struct cursor *line, uint64_t *numbers, enum number fir
     return true;
 }
 
-/* The two factors at a line's end, 1,000 for both where it ends before them. */
+/* LINE-4: the two factors at a line's end, 1,000 for both where it ends before them. */
 static bool read_weather(struct cursor *line, uint64_t *numbers)
 {
     numbers[SPEED_FACTOR] = numbers[CAPACITY_FACTOR] = 1000;
     return line->at == line->end
-        || (pass_tab(line) && read_numbers(line, numbers, SPEED_FACTOR, CAPACITY_FACTOR)
-            && read_number(line, numbers, CAPACITY_FACTOR) && line->at == line->end);
+        || (pass_tab(line) && read_numbers(line, numbers, SPEED_FACTOR, CAPACITY_FACTOR) && read_number(line, numbers, CAPACITY_FACTOR)
+            && line->at == line->end);
 }
 
 static bool read_section(const uint8_t *bytes, size_t length, struct section *section)
@@ -139,7 +139,7 @@ static bool read_section(const uint8_t *bytes, size_t length, struct section *se
         && (section->median == 'U' || section->median == 'D' || section->median == 'T');
 }
 
-/* Refusals 1 to 6, 8, 9 and 19, 0 where none holds */
+/* ORDER-2: refusals 1 to 6, 8, 9 and 19, 0 where none holds */
 
 /* 1 to 6. */
 static int32_t road_refusal(const struct section *s)
@@ -210,7 +210,7 @@ static uint64_t freeway_estimate(const uint64_t *n, uint64_t lanes)
     return n[SPEED] - width_term(n[WIDTH]) - missing * per_tenth[lesser(lanes, 5) - 2] - ramp_terms[n[ACCESS]];
 }
 
-/* For 12, 10, 8, 6, 4, 2 and 0 feet, and straight between them; the last entry once more, for 0 feet. */
+/* FFS-5, FFS-9: for 12, 10, 8, 6, 4, 2 and 0 feet, and straight between them; the last entry once more, for 0 feet. */
 static uint64_t clearance_term(uint64_t total, uint64_t lanes)
 {
     static const uint64_t clearance[2][8] = {{0, 400, 900, 1300, 1800, 3600, 5400, 5400}, {0, 400, 900, 1300, 1700, 2800, 3900, 3900}};
@@ -222,8 +222,7 @@ static uint64_t multilane_estimate(const uint64_t *n, uint8_t median, uint64_t l
 {
     uint64_t left = median == 'D' ? lesser(60, n[LEFT]) : 60;
     uint64_t total = lesser(60, n[RIGHT]) + left;
-    return n[SPEED] - width_term(n[WIDTH]) - clearance_term(total, lanes) - (median == 'U' ? 1600 : 0)
-        - lesser(10000, 250 * n[ACCESS]);
+    return n[SPEED] - width_term(n[WIDTH]) - clearance_term(total, lanes) - (median == 'U' ? 1600 : 0) - lesser(10000, 250 * n[ACCESS]);
 }
 
 static uint64_t free_flow_speed(const struct section *s, uint64_t lanes)
@@ -235,7 +234,8 @@ static uint64_t free_flow_speed(const struct section *s, uint64_t lanes)
     return lesser(s->freeway ? 75000 : 70000, speed);
 }
 
-/* The curve, with what its speeds have in common; false where F is below its lower end, before its factor or after it. */
+/* CURVE-1, CURVE-2, WEATHER-2, WEATHER-3: the curve, with what its speeds have in common; false where F is below its lower end, before its
+   factor or after it. */
 static bool make_curve(const struct section *s, uint64_t lanes, struct curve *curve)
 {
     uint64_t before = free_flow_speed(s, lanes), factor = s->numbers[CAPACITY_FACTOR];
@@ -273,7 +273,7 @@ static uint64_t flow_rate(const struct load *load, uint64_t demand)
     return div_up(demand * load->heavy_factor, load->divisor);
 }
 
-/* F - (F - 2c/9) x w at a flow rate up to capacity. */
+/* CURVE-3: F - (F - 2c/9) x w at a flow rate up to capacity. */
 static struct speed speed_at(const struct curve *curve, uint64_t v)
 {
     uint64_t flow = 100 * v, fallen;
@@ -314,7 +314,7 @@ static struct performance performance_at(const struct curve *curve, uint64_t v)
     return (struct performance){density_letter(density), speed.numerator / speed.denominator, density};
 }
 
-/* The greatest demand up to the end that keeps to a density, by halving. */
+/* TRIES-1: the greatest demand up to the end that keeps to a density, by halving. */
 static uint64_t greatest_meeting(const struct curve *curve, const struct load *load, uint64_t limit, uint64_t end)
 {
     uint64_t low = 0, high = end + 1;
@@ -329,7 +329,7 @@ static uint64_t greatest_meeting(const struct curve *curve, const struct load *l
     return low;
 }
 
-/* A to E; from E down, each up to the one found before. */
+/* TRIES-2: A to E; from E down, each up to the one found before. */
 static void service_volumes(const struct curve *curve, const struct load *load, uint64_t *volumes)
 {
     uint64_t end = GREATEST_DEMAND;
@@ -420,7 +420,7 @@ static void put_figures(uint64_t *answer, const struct curve *curve, uint64_t v,
     }
 }
 
-/* A road that is refused: a demand that is too large has 7, unless one of 1 to 6 comes before it. */
+/* DAY-3: a road that is refused: a demand that is too large has 7, unless one of 1 to 6 comes before it. */
 static void put_refused_day(uint64_t number, const uint64_t *demands, size_t demand_count, uint64_t *answers)
 {
     for (size_t i = 0; i < demand_count; i++) {
@@ -504,7 +504,7 @@ int32_t plain_daily(const uint8_t *line, size_t line_length, uint64_t daily_traf
     return DAILY_FIGURES;
 }
 
-/* 22, then 7 to 9 at both ends: the low ends of demand and share pass where the high ones do. */
+/* FORECAST-4: 22, then 7 to 9 at both ends: the low ends of demand and share pass where the high ones do. */
 static int32_t range_refusal(uint64_t demand_low, uint64_t demand_high, uint64_t share_low, uint64_t share_high, uint64_t factor_low,
                              uint64_t factor_high)
 {

@@ -1,10 +1,10 @@
-/* Checks the calls of include/marehour.h from C, at the project's root.
+/* SAFE-1, CALL-1 to CALL-10: checks the calls of include/marehour.h from C, at the project's root.
 
    Vectors: crates/los/stdin with crates/los/stdout, tests/lanes.tsv, tests/surveys.tsv. In the latter two a row that begins with # is a
    comment.
 
-   Line, demands and buffer each lie between two pages that cannot be accessed: once they begin right behind the first, once they end right
-   before the second. Line and demands are read-only while they are lent. The buffer and what is around it is filled with a pattern before a
+   SAFE-1: line, demands and buffer each lie between two pages that cannot be accessed: once they begin right behind the first, once they end right
+   before the second. Line and demands are read-only while they are lent. CALL-5: the buffer and what is around it is filled with a pattern before a
    call and compared byte by byte after it. A day asks a line with its own demand, with one that 7 refuses, and with its own again. It is
    asked with a daily traffic whose hourly demand is its own, too, with forecasts that are its own load, end at it or begin there, and with
    traffics and forecasts that are refused. What these must answer is had from the line's own answer. Each set of checks runs in a child.
@@ -32,7 +32,7 @@ _Static_assert(MAREHOUR_GREATEST_DEMAND == GREATEST_DEMAND, "the header names an
 /* Where a line's own load stands, from 0 on. */
 enum { DEMAND_FIELD = 9, FACTOR_FIELD, SHARE_FIELD };
 
-/* Pages that can be accessed between two that cannot. */
+/* SAFE-1: pages that can be accessed between two that cannot. */
 struct fence {
     uint8_t *start;
     size_t size;
@@ -46,7 +46,7 @@ struct vector {
     size_t length;
     bool asks_lanes;
     uint32_t letter;
-    int32_t result; /* count of bytes, or minus the refusal */
+    int32_t result; /* CALL-3: count of bytes, or minus the refusal */
     const uint8_t *text;
 };
 
@@ -110,7 +110,7 @@ static struct text read_file(const char *path)
     return text;
 }
 
-/* Takes the next line off a text, without its newline; false at the end. A last line without newline counts. */
+/* Takes the next line off a text, without its newline; false at the end. Bytes behind the last newline are a line. */
 static bool next_line(struct text *text, struct text *line)
 {
     if (text->length == 0) {
@@ -268,12 +268,12 @@ static void check(bool holds, const char *format, ...)
     }
 }
 
-/* Whether the buffer's pages hold the text at its start and the pattern everywhere else. */
+/* CALL-5, TEXT-5: whether the buffer's pages hold the text at its start and the pattern everywhere else. */
 static bool holds_only(const uint8_t *buffer, const uint8_t *text, size_t count)
 {
     size_t before = (size_t)(buffer - buffer_fence.start), after = before + count;
-    return memcmp(buffer_fence.start, pattern, before) == 0 && (count == 0 || memcmp(buffer, text, count) == 0) &&
-           memcmp(buffer_fence.start + after, pattern + after, buffer_fence.size - after) == 0;
+    return memcmp(buffer_fence.start, pattern, before) == 0 && (count == 0 || memcmp(buffer, text, count) == 0)
+        && memcmp(buffer_fence.start + after, pattern + after, buffer_fence.size - after) == 0;
 }
 
 /* A buffer with the pattern in it and around it. */
@@ -294,6 +294,7 @@ static void check_figures(const struct vector *vector, const char *asked, size_t
           "other numbers of a %s in %zu numbers for %.*s", asked, room, width, shown);
 }
 
+/* CALL-1, CALL-2, FORM-1; REFUSAL-17 is first of all (CALL-4). */
 static void check_buffer(const struct calls *calls, const struct vector *vector, const uint8_t *line, size_t length, enum side side)
 {
     uint8_t *buffer = fresh_buffer(length, side);
@@ -307,6 +308,7 @@ static void check_buffer(const struct calls *calls, const struct vector *vector,
           shown);
 }
 
+/* TEXT-4: every length below 64, and 64 and more. */
 static void check_vector(const struct calls *calls, const struct vector *vector)
 {
     static const size_t enough[] = {MAREHOUR_ANSWER_SIZE, MAREHOUR_ANSWER_SIZE + 1, 100, LONGEST_BUFFER};
@@ -322,6 +324,7 @@ static void check_vector(const struct calls *calls, const struct vector *vector)
     }
 }
 
+/* CALL-1 */
 static void check_answers(const struct calls *calls)
 {
     for (size_t i = 0; i < answer_count; i++) {
@@ -329,6 +332,7 @@ static void check_answers(const struct calls *calls)
     }
 }
 
+/* CALL-2 */
 static void check_lanes(const struct calls *calls)
 {
     for (size_t i = 0; i < lanes_count; i++) {
@@ -338,7 +342,7 @@ static void check_lanes(const struct calls *calls)
 
 /* A line's own letter and numbers */
 
-/* The letter of a line that is accepted. */
+/* LETTER-3: the letter of a line that is accepted. */
 static uint64_t own_letter(const struct vector *vector)
 {
     return (uint64_t)(vector->text[0] - 'A') + MAREHOUR_LETTER_A;
@@ -359,8 +363,8 @@ static uint64_t own_number(const struct vector *vector, int field)
 
 /* Days */
 
-/* The numbers of a position: of a line that one of 1 to 6 refuses its number; of a demand that is too large 7; else what the line's answer
-   says. */
+/* DAY-2, DAY-3: the numbers of a position: of a line that one of 1 to 6 refuses its number; of a demand that is too large 7; else what the line's
+   answer says. */
 static void expect_position(const struct vector *vector, uint64_t demand, uint64_t *figures)
 {
     uint64_t number = vector->result < 0 ? (uint64_t)-vector->result : 0;
@@ -379,7 +383,7 @@ static void expect_position(const struct vector *vector, uint64_t demand, uint64
     }
 }
 
-/* A call with some demands and room for some numbers. */
+/* CALL-7, REFUSAL-18: a call with some demands and room for some numbers. */
 static void check_room(const struct calls *calls, const struct vector *vector, const uint8_t *line, const uint64_t *demands, size_t count,
                        size_t room, enum side side)
 {
@@ -417,7 +421,7 @@ static void check_day(const struct calls *calls, const struct vector *vector)
     }
 }
 
-/* Every count of demands, with every room from none to what they need and one number more. */
+/* REFUSAL-18, CALL-4: every count of demands, with every room from none to what they need and one number more. */
 static void check_counts(const struct calls *calls, const struct vector *vector)
 {
     uint64_t demands[MORE_DEMANDS];
@@ -433,7 +437,7 @@ static void check_counts(const struct calls *calls, const struct vector *vector)
     }
 }
 
-/* Where the sixth digit begins and ends, and the seventh begins, on the first line, the printed one: the refusal, the letter and the flow
+/* REFUSAL-7: where the sixth digit begins and ends, and the seventh begins, on the first line, the printed one: the refusal, the letter and the flow
    rate. */
 static void check_long_demands(const struct calls *calls)
 {
@@ -468,17 +472,18 @@ static void check_days(const struct calls *calls)
 
 /* Daily traffics */
 
-/* With shares of a half and a whole the hourly demand is half of the daily traffic, and a daily service volume twice the service volume. */
+/* DAILY-1, DAILY-2: with shares of a half and a whole the hourly demand is half of the daily traffic, and a daily service volume twice the service
+   volume. */
 enum { HALF = 500, WHOLE = 1000 };
 
-/* A daily traffic and its shares, and which of 20 and 21 refuses them; 0 for none. */
+/* DAILY-6: a daily traffic and its shares, and which of 20 and 21 refuses them; 0 for none. */
 struct traffic {
     uint64_t daily;
     uint32_t peak_share, direction_share;
     int32_t refusal;
 };
 
-/* What a call hands back that is lent enough for a line that is not malformed; with the figures where it is no refusal. */
+/* DAILY-3, DAILY-6: what a call hands back that is lent enough for a line that is not malformed; with the figures where it is no refusal. */
 static int32_t expect_daily(const struct vector *vector, const struct traffic *traffic, uint64_t *figures)
 {
     uint64_t position[MAREHOUR_DAY_FIGURES];
@@ -496,6 +501,7 @@ static int32_t expect_daily(const struct vector *vector, const struct traffic *t
     return MAREHOUR_DAILY_FIGURES;
 }
 
+/* CALL-8, REFUSAL-17 */
 static void check_traffic(const struct calls *calls, const struct vector *vector, const uint8_t *line, const struct traffic *traffic,
                           size_t room, enum side side)
 {
@@ -564,8 +570,8 @@ static uint64_t greater(uint64_t a, uint64_t b)
     return a > b ? a : b;
 }
 
-/* The line's own load, two that end at it and one that begins there: demand 0 gets A, and the greatest demand F, on eight lanes too. A
-   factor or share that 8 or 9 refuses stays an end. Then loads that are refused, most of them by several numbers, with the first. */
+/* FORECAST-2, FORECAST-4: the line's own load, two that end at it and one that begins there: demand 0 gets A, and the greatest demand F, on eight
+   lanes too. A factor or share that 8 or 9 refuses stays an end. Then loads that are refused, most of them by several numbers, with the first. */
 static void make_forecasts(const struct vector *vector, struct forecast *forecasts)
 {
     uint64_t v = own_number(vector, DEMAND_FIELD), p = own_number(vector, SHARE_FIELD), h = own_number(vector, FACTOR_FIELD);
@@ -590,7 +596,7 @@ static void make_forecasts(const struct vector *vector, struct forecast *forecas
     memcpy(forecasts, made, sizeof made);
 }
 
-/* What a call hands back that is lent enough; with the figures where it is no refusal. */
+/* FORECAST-3, FORECAST-4: what a call hands back that is lent enough; with the figures where it is no refusal. */
 static int32_t expect_forecast(const struct vector *vector, const struct forecast *forecast, uint64_t *figures)
 {
     int32_t own = vector->result;
@@ -609,6 +615,7 @@ static int32_t expect_forecast(const struct vector *vector, const struct forecas
     return MAREHOUR_FORECAST_FIGURES;
 }
 
+/* CALL-9, REFUSAL-17 */
 static void check_ends(const struct calls *calls, const struct vector *vector, const uint8_t *line, const struct forecast *forecast,
                        size_t room, enum side side)
 {
@@ -657,7 +664,8 @@ static void check_forecasts(const struct calls *calls)
     }
 }
 
-/* Counts of tried demands: 67 for the first line, the printed one; the others within their ends. tests/compare/tries.rs works each out. */
+/* CALL-10, TRIES-3: counts of tried demands: 67 for the first line, the printed one; the others within their ends. tests/compare/tries.rs works each
+   out. */
 static void check_tries(const struct calls *calls)
 {
     check(calls->tries(answers[0].line, answers[0].length) == 67, "not 67 tries for the first line");
@@ -672,6 +680,7 @@ static void check_tries(const struct calls *calls)
     }
 }
 
+/* CALL-6 */
 static void check_surveys(const struct calls *calls)
 {
     for (size_t i = 0; i < survey_count; i++) {
@@ -681,7 +690,7 @@ static void check_surveys(const struct calls *calls)
     }
 }
 
-/* NULL with length 0, and a line with its newline, which is a byte that no field has. */
+/* SAFE-1, CALL-4: NULL with length 0, and a line with its newline, which is a byte that no field has. */
 static void check_edges(const struct calls *calls)
 {
     const struct vector *first = &answers[0];
@@ -845,14 +854,8 @@ static int run_library(long *made)
         const char *name;
         void (*checks)(const struct calls *);
     } sets[] = {
-        {"lines", check_answers},
-        {"lanes questions", check_lanes},
-        {"days", check_days},
-        {"daily traffics", check_dailies},
-        {"forecasts", check_forecasts},
-        {"tries", check_tries},
-        {"surveys", check_surveys},
-        {"edges", check_edges},
+        {"lines", check_answers},       {"lanes questions", check_lanes}, {"days", check_days},       {"daily traffics", check_dailies},
+        {"forecasts", check_forecasts}, {"tries", check_tries},           {"surveys", check_surveys}, {"edges", check_edges},
     };
     int failures = 0;
     for (size_t i = 0; i < sizeof sets / sizeof sets[0]; i++) {
@@ -880,11 +883,8 @@ static int run_faults(int *run)
         const char *name;
         void (*checks)(const struct calls *);
     } lending[] = {
-        {"lines", check_answers},
-        {"lanes questions", check_lanes},
-        {"days", check_days},
-        {"daily traffics", check_dailies},
-        {"forecasts", check_forecasts},
+        {"lines", check_answers},          {"lanes questions", check_lanes}, {"days", check_days},
+        {"daily traffics", check_dailies}, {"forecasts", check_forecasts},
     };
     int failures = run_each(&one_too_much, 1, "surveys", check_surveys, run) + run_each(&one_too_much, 1, "tries", check_tries, run);
     failures += run_each(line_faults, line_fault_count, "tries", check_tries, run);

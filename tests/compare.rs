@@ -1,9 +1,9 @@
-// Compares the engine, linked as an archive, with the second implementation of document 01 and of requests T-01 to T-03 and T-05 to T-09
-// (tests/second). What it must count of T-04 is had from that one's service volumes (tests/compare/tries.rs).
+// Compares the engine, linked as an archive, with the second implementation of the rules of docs/METHOD.md (tests/second). How many demands it
+// must try (TRIES-3) is had from that one's service volumes (tests/compare/tries.rs).
 //
-//   compare quick         the documents' figures, the traps, the manual's examples, curves by a stride, random cases, floats, the laws,
+//   compare quick         figures worked out by hand, the traps, the manual's examples, curves by a stride, random cases, floats, the laws,
 //                         whole days, how many demands are tried, how far multilane speeds are below the manual's curve, daily volumes,
-//                         those of E that source document 001 prints, forecasts, the vectors
+//                         those of E that are published, forecasts, the vectors
 //   compare full-curves   every free-flow speed with every flow rate up to capacity and one more
 //   compare full-floats   every float in both units
 //   compare full-distances  every multilane speed past the breakpoint beside the manual's curve, by whole powers
@@ -26,13 +26,13 @@ mod compare {
     pub mod laws;
     pub mod lent;
     pub mod los;
-    pub mod paper;
     pub mod printed;
     pub mod random;
     pub mod tally;
     pub mod traps;
     pub mod tries;
     pub mod vectors;
+    pub mod worked;
 }
 mod second;
 
@@ -41,10 +41,10 @@ use compare::days::Days;
 use compare::distances::Distances;
 use compare::draw::Draw;
 use compare::forecasts::Forecasts;
-use compare::paper::Paper;
 use compare::random::Random;
 use compare::tally::{Outcomes, Tally};
 use compare::tries::Tries;
+use compare::worked::Worked;
 use compare::{curves, distances, falls, floats, laws, los, printed, traps, vectors};
 use second::method::{Kind, Method};
 use second::survey::Unit;
@@ -144,21 +144,21 @@ fn forecasts(method: &Method) -> Tally {
 }
 
 fn boundary_sections(method: &Method) -> Tally {
-    let mut paper = Paper { method, tally: Tally::default() };
-    paper.boundary_sections();
-    paper.tally
+    let mut worked = Worked { method, tally: Tally::default() };
+    worked.boundary_sections();
+    worked.tally
 }
 
 fn examples(method: &Method) -> Tally {
-    let mut paper = Paper { method, tally: Tally::default() };
-    paper.examples();
-    paper.tally
+    let mut worked = Worked { method, tally: Tally::default() };
+    worked.examples();
+    worked.tally
 }
 
 fn quick(total: &mut Tally) {
     let method = &Method::new();
     println!("seed {SEED}");
-    group(total, "figures of documents 01 and 02", || boundary_sections(method));
+    group(total, "figures worked out by hand", || boundary_sections(method));
     group(total, "traps", || filled(|tally| traps::traps(method, tally)));
     group(total, "examples of chapter 26", || examples(method));
     group(total, "curves by a stride", || filled(|tally| curves::by_stride(method, tally)));
@@ -172,7 +172,7 @@ fn quick(total: &mut Tally) {
     group(total, "demands tried", || tries(method));
     group(total, "distances from the curve", || distances(method));
     group(total, "daily volumes", || daily_volumes(method));
-    group(total, "daily volumes of E in source 001", || filled(printed::daily_volumes));
+    group(total, "published daily volumes of E", || filled(printed::daily_volumes));
     group(total, "forecasts", || forecasts(method));
     group(total, "vectors", || filled(|tally| vectors::check(method, tally)));
 }

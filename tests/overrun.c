@@ -1,4 +1,4 @@
-/* Calls that are wrong on purpose: the library's, with a fault before or after. tests/calls.c must notice each. */
+/* SAFE-1, CALL-3, CALL-5: calls that are wrong on purpose: the library's, with a fault before or after. tests/calls.c must notice each. */
 #include "calls.h"
 #include "marehour.h"
 #include <string.h>
@@ -164,19 +164,15 @@ static int32_t faulty_lanes(const uint8_t *line, size_t line_length, uint32_t le
 static int32_t faulty_day(const uint8_t *line, size_t line_length, const uint64_t *demands, size_t demand_count, uint64_t *answers,
                           size_t answers_length)
 {
-    struct lent lent = {line,
-                        line_length,
-                        (const uint8_t *)demands,
-                        demand_count * sizeof *demands,
-                        (uint8_t *)answers,
-                        answers_length * sizeof *answers};
+    struct lent lent = {
+        line, line_length, (const uint8_t *)demands, demand_count * sizeof *demands, (uint8_t *)answers, answers_length * sizeof *answers};
     active->before(&lent);
     int32_t result = marehour_day(line, line_length, demands, demand_count, answers, answers_length);
     return active->after(result, bytes_written(result, MAREHOUR_DAY_FIGURES * sizeof *answers), &lent);
 }
 
-static int32_t faulty_daily(const uint8_t *line, size_t line_length, uint64_t daily_traffic, uint32_t peak_share,
-                            uint32_t direction_share, uint64_t *figures, size_t figures_length)
+static int32_t faulty_daily(const uint8_t *line, size_t line_length, uint64_t daily_traffic, uint32_t peak_share, uint32_t direction_share,
+                            uint64_t *figures, size_t figures_length)
 {
     struct lent lent = {line, line_length, NULL, 0, (uint8_t *)figures, figures_length * sizeof *figures};
     active->before(&lent);

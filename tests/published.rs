@@ -1,15 +1,16 @@
-// Compares the answers of the program los with figures that others published, at the project's root; its path is the argument.
-//   br101.tsv          nine sections of a multilane highway, worked out with another program; F given, and F estimated
-//   service_flows.tsv  25 maximum service flows of freeways
-//   section_5001.tsv   a freeway section, worked out figure by figure
-//   sections.tsv       freeway sections of a practical application
-// The headers of these files, in tests/published, say where the figures stand, how they are converted and how near an answer must come.
+// FIGURE-1: compares the answers of the program los with figures that others published, at the project's root; its path is the argument.
+//   br101.tsv          FFS-5, CURVE-5: nine sections of a multilane highway, worked out with another program; F given, and F estimated
+//   service_flows.tsv  VOLUME-2: 25 maximum service flows of freeways
+//   section_5001.tsv   ANSWER-1: a freeway section, worked out figure by figure
+//   sections.tsv       ANSWER-1: freeway sections of a practical application
+// The headers of these files, in tests/published, say who printed the figures and where, how they are converted and how near an answer must
+// come.
 // It is wrong, and the run fails, when
 //   - a converted column is not what the published one converts to;
 //   - a figure is outside its tolerance and not marked, or marked and not outside;
 //   - the cause of a mark does not account for the difference, or one does and the mark says unexplained;
 //   - a section of the multilane highway is answered otherwise with its F estimated than with it given;
-//   - the source's own steps, worked out anew, do not give the figures it prints (the sections of document 001).
+//   - the source's own steps, worked out anew, do not give the figures it prints (sections.tsv, section_5001.tsv).
 
 use std::collections::BTreeMap;
 use std::io::Write;
@@ -26,7 +27,7 @@ type Figures = [Option<i64>; FIGURES];
 const TOLERANCES: [(i64, i64); FIGURES] =
     [(0, 0), (-60, 60), (-99, 99), (0, 1), (-60, 60), (0, 0), (-10, 10), (-10, 10), (-10, 10), (-10, 10), (-10, 10)];
 
-// Of every line of document 001's sections: base speed, peak-hour factor, share of the busier direction in hundredths.
+// Of every line of the sections' files: base speed, peak-hour factor, share of the busier direction in hundredths.
 const BASE_SPEED: i64 = 75_400;
 const FACTOR: i64 = 940;
 const DIRECTION: i64 = 55;
@@ -47,7 +48,7 @@ struct Row {
     faults: Vec<String>,
 }
 
-// The causes of differences, each explained in sections.tsv.
+// The causes of differences, each explained in sections.tsv with its rule.
 #[derive(Clone, Copy, PartialEq)]
 enum Cause {
     Whole,
@@ -143,7 +144,11 @@ fn published_letter(text: &str) -> Option<i64> {
 }
 
 fn display(figure: usize, value: i64) -> String {
-    if figure == 0 { char::from(value as u8).to_string() } else { value.to_string() }
+    if figure == 0 {
+        char::from(value as u8).to_string()
+    } else {
+        value.to_string()
+    }
 }
 
 // The faults of converted columns, given what they should be.
@@ -166,36 +171,35 @@ fn columns<const N: usize>(file: &str, row: Vec<String>) -> [String; N] {
 
 // Of each section a row with F given and one with F estimated.
 fn br101() -> Vec<Row> {
-    rows_of("br101.tsv").into_iter().flat_map(|row| br101_rows(&columns::<45>("br101.tsv", row))).collect()
+    rows_of("br101.tsv").into_iter().flat_map(|row| br101_rows(&columns::<43>("br101.tsv", row))).collect()
 }
 
-fn br101_rows(row: &[String; 45]) -> [Row; 2] {
+fn br101_rows(row: &[String; 43]) -> [Row; 2] {
     let number = |at: usize| Decimal::read(&row[at]);
-    let (access, left) = (number(8).nearest(25, 10) * 100, number(9).whole(1));
+    let (access, left) = (number(6).nearest(25, 10) * 100, number(7).whole(1));
     let clearance = match left {
         3 => 650,
         6 => 0,
         _ => fail(&format!("br101.tsv: no left clearance of {left} ft expected")),
     };
-    let base = number(7).whole(1000) - access;
-    let terrain = match row[5].as_str() {
+    let base = number(5).whole(1000) - access;
+    let terrain = match row[3].as_str() {
         "Plano" => "L",
         "Ondulado" => "R",
         terrain => fail(&format!("br101.tsv: unknown terrain {terrain}")),
     };
-    let (demand, factor, share) = (number(3).whole(1), number(4).whole(1000), number(6).whole(10));
-    let line = |way: &str, speed: i64| {
-        format!("M\t{way}\t{speed}\t110\t60\t{}\tD\t0\t2\t{demand}\t{factor}\t{share}\t{terrain}", left * 10)
-    };
+    let (demand, factor, share) = (number(1).whole(1), number(2).whole(1000), number(4).whole(10));
+    let line =
+        |way: &str, speed: i64| format!("M\t{way}\t{speed}\t110\t60\t{}\tD\t0\t2\t{demand}\t{factor}\t{share}\t{terrain}", left * 10);
     let mut published = [None; FIGURES];
-    published[0] = published_letter(&row[14]);
-    published[2] = Some(number(10).whole(100));
-    published[3] = Some(number(11).whole(1));
-    published[4] = Some(number(12).whole(1000));
-    published[5] = Some(number(13).up(10, 1));
+    published[0] = published_letter(&row[12]);
+    published[2] = Some(number(8).whole(100));
+    published[3] = Some(number(9).whole(1));
+    published[4] = Some(number(10).whole(1000));
+    published[5] = Some(number(11).up(10, 1));
     let (given, estimated) = (line("G", base - 1900 - clearance), line("E", base));
     let expected = [texts(&published[2..6]), fields(&given), fields(&estimated)].concat();
-    [(given, faults_of(&row[15..], &expected)), (estimated, Vec::new())].map(|(line, faults)| Row {
+    [(given, faults_of(&row[13..], &expected)), (estimated, Vec::new())].map(|(line, faults)| Row {
         name: row[0].clone(),
         line,
         published,
@@ -205,7 +209,7 @@ fn br101_rows(row: &[String; 45]) -> [Row; 2] {
     })
 }
 
-// Whether both rows of each section have one answer.
+// FFS-1: whether both rows of each section have one answer.
 fn ways_agree(rows: &[Row], answers: &[String]) -> bool {
     let apart: Vec<_> = rows.chunks(2).zip(answers.chunks(2)).filter(|(_, answers)| answers[0] != answers[1]).collect();
     apart.iter().for_each(|(rows, answers)| println!("published: br101.tsv {}: WRONG {}, {}", rows[0].name, answers[0], answers[1]));
@@ -216,21 +220,21 @@ fn ways_agree(rows: &[Row], answers: &[String]) -> bool {
 // service_flows.tsv
 
 fn service_flows() -> Vec<Row> {
-    rows_of("service_flows.tsv").into_iter().map(|row| service_flows_row(&columns::<25>("service_flows.tsv", row))).collect()
+    rows_of("service_flows.tsv").into_iter().map(|row| service_flows_row(&columns::<24>("service_flows.tsv", row))).collect()
 }
 
-fn service_flows_row(row: &[String; 25]) -> Row {
-    let kilometres = Decimal::read(&row[1]).whole(1);
+fn service_flows_row(row: &[String; 24]) -> Row {
+    let kilometres = Decimal::read(&row[0]).whole(1);
     let in_fives = |speed: i64| Decimal { digits: i128::from(speed), unit: 1000 }.nearest(MILE, 5 * MILLION) * 5;
     let free_flow = [75_000, 70_000, 65_000, 60_000, 55_000].into_iter().find(|&speed| in_fives(speed) == kilometres);
     let free_flow = free_flow.unwrap_or_else(|| fail(&format!("service_flows.tsv: no speed is {kilometres} km/h")));
     let line = format!("F\tG\t{free_flow}\t120\t60\t60\tD\t0\t2\t0\t1000\t0\tL");
     let mut published = [None; FIGURES];
-    for (at, flow) in row[2..7].iter().enumerate() {
+    for (at, flow) in row[1..6].iter().enumerate() {
         published[6 + at] = Some(Decimal::read(flow).whole(2));
     }
     let expected = [texts(&published[6..]), fields(&line)].concat();
-    Row { name: row[0].clone(), line, published, marks: Marks::new(), section: None, faults: faults_of(&row[7..], &expected) }
+    Row { name: row[0].clone(), line, published, marks: Marks::new(), section: None, faults: faults_of(&row[6..], &expected) }
 }
 
 // sections.tsv and section_5001.tsv
@@ -290,8 +294,7 @@ impl Section {
 
     fn figures(&self) -> Figures {
         let speed = |number: Decimal| number.nearest(1000 * MILLION, MILE);
-        let convert: [fn(Decimal) -> i64; 5] =
-            [speed, |c| c.whole(100), |v| v.up(1, 1), speed, |density| density.up(10 * MILE, MILLION)];
+        let convert: [fn(Decimal) -> i64; 5] = [speed, |c| c.whole(100), |v| v.up(1, 1), speed, |density| density.up(10 * MILE, MILLION)];
         let mut figures = [None; FIGURES];
         figures[0] = published_letter(&self.letter);
         for (at, output) in self.outputs.iter().enumerate() {
@@ -333,7 +336,7 @@ impl Section {
         wrong
     }
 
-    // How far ours is from the source's figure, with the documents' way in the place of the step that the cause names.
+    // How far ours is from the source's figure, with the method's way in the place of the step that the cause names.
     fn left(&self, cause: Cause, figure: usize, ours: i64) -> i64 {
         ours - Steps::of(self, Some(cause)).figures(cause)[figure]
     }
@@ -356,7 +359,7 @@ struct Steps {
 }
 
 impl Steps {
-    // Document 001, equations E1, E2, E3, E5, E7, E8 and E9, with its factor 1.609.
+    // The source's equations E1, E2, E3, E5, E7, E8 and E9, with its factor 1.609.
     fn of(section: &Section, cause: Option<Cause>) -> Steps {
         let ramps = match cause {
             Some(Cause::Ramps) => section.ramps_in_six_miles() as f64 / 6.0,
@@ -376,7 +379,7 @@ impl Steps {
         Steps { free_flow, capacity, flow, speed, density: speed.map(|speed| flow / speed) }
     }
 
-    // Table 4 of document 001.
+    // The source's table 4.
     fn letter(&self) -> &'static str {
         match self.density {
             Some(density) => ["A", "B", "C", "D", "E", "F"][[7.0, 11.0, 16.0, 22.0, 28.0].iter().filter(|&&limit| density > limit).count()],
@@ -401,7 +404,7 @@ impl Steps {
     }
 }
 
-// Table 6 of document 001.
+// The source's table 6.
 fn width_takes(width: i64) -> f64 {
     match width {
         375.. => 0.0,
@@ -410,7 +413,7 @@ fn width_takes(width: i64) -> f64 {
     }
 }
 
-// Table 7 of document 001, as far as its sections need it.
+// The source's table 7, as far as its sections need it.
 fn clearance_takes(right: i64, lanes: i64) -> f64 {
     match (right, lanes) {
         (200.., _) => 0.0,
@@ -421,7 +424,7 @@ fn clearance_takes(right: i64, lanes: i64) -> f64 {
     }
 }
 
-// What document 02 has in the place of table 7: 0.06, 0.04, 0.02 or 0.01 mi/h for each tenth of a foot short of 6 feet.
+// FFS-4, in the place of table 7: 0.06, 0.04, 0.02 or 0.01 mi/h for each tenth of a foot short of 6 feet.
 fn by_tenths(right: i64, lanes: i64) -> f64 {
     let missing = 60 - (right / 3).min(60);
     let per_tenth = [0.06, 0.04, 0.02, 0.01][lanes.min(5) as usize - 2];
@@ -440,7 +443,7 @@ fn flow_of(section: &Section, cause: Option<Cause>) -> f64 {
     }
 }
 
-// The manual's limits, for a density in tenths.
+// LETTER-1: the manual's limits, for a density in tenths.
 fn letter_of(density: i64) -> i64 {
     let above = [110, 180, 260, 350, 450].iter().filter(|&&limit| density > limit).count();
     i64::from(b'A') + above as i64
@@ -462,26 +465,26 @@ fn marks_of(differs: &str) -> Marks {
 }
 
 fn sections() -> Vec<Row> {
-    rows_of("sections.tsv").into_iter().map(|row| sections_row(&columns::<37>("sections.tsv", row))).collect()
+    rows_of("sections.tsv").into_iter().map(|row| sections_row(&columns::<35>("sections.tsv", row))).collect()
 }
 
-fn sections_row(row: &[String; 37]) -> Row {
+fn sections_row(row: &[String; 35]) -> Row {
     let number = |at: usize| Decimal::read(&row[at]).whole(1);
     let section = Section {
-        area: row[3].clone(),
-        traffic: number(4),
-        heavy: Decimal::read(&row[5]),
-        lanes: number(6),
-        width: number(7),
-        left: number(8),
-        right: number(9),
-        ramps: Decimal::read(&row[10]),
-        terrain: row[11].clone(),
-        outputs: std::array::from_fn(|at| row[12 + at].clone()),
-        letter: row[17].clone(),
+        area: row[1].clone(),
+        traffic: number(2),
+        heavy: Decimal::read(&row[3]),
+        lanes: number(4),
+        width: number(5),
+        left: number(6),
+        right: number(7),
+        ramps: Decimal::read(&row[8]),
+        terrain: row[9].clone(),
+        outputs: std::array::from_fn(|at| row[10 + at].clone()),
+        letter: row[15].clone(),
     };
     let expected = [texts(&section.figures()[1..6]), fields(&section.line())].concat();
-    section.row(&row[0], &row[18], faults_of(&row[19..], &expected))
+    section.row(&row[0], &row[16], faults_of(&row[17..], &expected))
 }
 
 // One section, a figure a row: its name, what is published, its unit, what it converts to.

@@ -1,10 +1,10 @@
 // Checks how the program los reads and writes, at the project's root; its path is the argument.
-//   - crates/los/stdin gets crates/los/stdout, written at once and in pieces, with and without a last newline;
-//   - many lines of varied length get what each gets by itself, and so do lines around the end of a block;
-//   - an empty input prints nothing, and a line of ten million bytes is one malformed line;
-//   - when its output can't be written, in the middle or at the end, it says so once and ends;
-//   - when nobody reads its output, it ends and says nothing, whether SIGPIPE is ignored or not;
-//   - when its input can't be read, from the first read on or in the middle of a line, it says so and answers no half line.
+//   - LOS-1, LOS-2: crates/los/stdin gets crates/los/stdout, written at once and in pieces, with and without a last newline;
+//   - LOS-3: many lines of varied length get what each gets by itself, and so do lines around the end of a block;
+//   - LOS-1, LINE-5: an empty input prints nothing, and a line of ten million bytes is one malformed line;
+//   - LOS-4: when its output can't be written, in the middle or at the end, it says so once and ends;
+//   - LOS-4: when nobody reads its output, it ends and says nothing, whether SIGPIPE is ignored or not;
+//   - LOS-4: when its input can't be read, from the first read on or in the middle of a line, it says so and answers no half line.
 
 use std::fs::File;
 use std::io::{BufRead, BufReader, Read, Write};
@@ -46,7 +46,7 @@ fn start_with(mut command: Command, input: Stdio, output: Stdio) -> Child {
     started.unwrap_or_else(|error| fail(&format!("{command:?}: {error}")))
 }
 
-// Writes the input in pieces until it is all written or nobody reads, then closes it.
+// LOS-3: writes the input in pieces until it is all written or nobody reads, then closes it.
 fn feed(child: &mut Child, input: &Arc<Vec<u8>>, piece: usize) -> thread::JoinHandle<()> {
     let mut pipe = child.stdin.take().expect("piped");
     let input = Arc::clone(input);
@@ -111,7 +111,7 @@ fn first_difference(got: &[u8], expected: &[u8]) -> usize {
     }
 }
 
-// An input must get this output and nothing on standard error, with status 0.
+// LOS-2: an input must get this output and nothing on standard error, with status 0.
 fn expect(what: &str, los: &str, input: &Arc<Vec<u8>>, piece: usize, expected: &[u8]) {
     let outcome = run(los, input, piece);
     if outcome.output != expected {
@@ -122,7 +122,7 @@ fn expect(what: &str, los: &str, input: &Arc<Vec<u8>>, piece: usize, expected: &
     }
 }
 
-// Lines drawn from the vectors, each with its newline, and malformed ones of 0 to 199 bytes, with what they get.
+// LOS-1, LOS-2: lines drawn from the vectors, each with its newline, and malformed ones of 0 to 199 bytes, with what they get.
 fn many_lines(vectors: &[(&[u8], &[u8])], count: usize) -> (Vec<u8>, Vec<u8>) {
     let (mut input, mut expected) = (Vec::new(), Vec::new());
     let mut state = 1u32;
@@ -142,7 +142,7 @@ fn many_lines(vectors: &[(&[u8], &[u8])], count: usize) -> (Vec<u8>, Vec<u8>) {
     (input, expected)
 }
 
-// A line that begins with a block, a line across a block's end, and a malformed line whose last bytes, from a block's start on, look like a
+// LOS-3: a line that begins with a block, a line across a block's end, and a malformed line whose last bytes, from a block's start on, look like a
 // line of their own; for blocks of 512 bytes to a mebibyte.
 fn expect_around_blocks(los: &str, line: &[u8], answer: &[u8]) {
     for block in (9..=20).map(|bits| 1usize << bits) {
@@ -160,7 +160,7 @@ fn expect_around_blocks(los: &str, line: &[u8], answer: &[u8]) {
     }
 }
 
-// What los says when its output is always full; what gives it its input is held until it has ended.
+// LOS-4: what los says when its output is always full; what gives it its input is held until it has ended.
 fn expect_full<Held>(what: &str, los: &str, give: impl FnOnce(&mut Child) -> Held, message: &[u8]) {
     let full = File::options().write(true).open("/dev/full").unwrap_or_else(|error| fail(&format!("/dev/full: {error}")));
     let mut child = start_with(Command::new(los), Stdio::piped(), Stdio::from(full));
@@ -176,7 +176,7 @@ fn expect_full<Held>(what: &str, los: &str, give: impl FnOnce(&mut Child) -> Hel
     }
 }
 
-// Reads one line of the output and closes it while the input goes on.
+// LOS-4: reads one line of the output and closes it while the input goes on.
 fn expect_closed(what: &str, command: Command, input: &Arc<Vec<u8>>, first: &[u8]) {
     let mut child = start(command);
     let writer = feed(&mut child, input, 65_536);
@@ -196,7 +196,7 @@ fn expect_closed(what: &str, command: Command, input: &Arc<Vec<u8>>, first: &[u8
     }
 }
 
-// A folder can be opened and not read.
+// LOS-4: a folder can be opened and not read.
 fn expect_unreadable(los: &str) {
     let folder = File::open(".").unwrap_or_else(|error| fail(&error.to_string()));
     let outcome = Command::new(los).stdin(folder).output().unwrap_or_else(|error| fail(&error.to_string()));
@@ -216,7 +216,7 @@ fn collect_with_reset(mut pipe: impl Read + Send + 'static, count: usize, socket
     })
 }
 
-// The input is a socket. Its other end has a byte that nobody reads, so closing that end is a reset: after the bytes sent, reading fails.
+// LOS-4: the input is a socket. Its other end has a byte that nobody reads, so closing that end is a reset: after the bytes sent, reading fails.
 // It is closed when the answer has come. No other process has that end, since sockets are closed when a child's program starts.
 fn expect_reset(what: &str, los: &str, sent: &[u8], answer: &[u8]) {
     let (mut ours, mut theirs) = UnixStream::pair().unwrap_or_else(|error| fail(&error.to_string()));

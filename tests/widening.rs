@@ -1,11 +1,11 @@
-// Checks the example host examples/widening.c, at the project's root; the path of the built program is the argument.
+// CALL-1, CALL-2: checks the example host examples/widening.c, at the project's root; the path of the built program is the argument.
 //   - status 0: the example's output; growth 0; 'none' from the first year and later; the most lanes; the passing of 999,999;
 //   - status 1: each refusal that a line can get, with its number;
 //   - status 2: bad arguments of each kind;
 //   - status 3: an output that can't be written.
 // Each run must give these bytes on standard output and standard error, and this status.
 //
-// The expected rows rest on the service volumes of a lane with peak-hour factor 1,000 and no heavy vehicles:
+// VOLUME-2, LANES-1: the expected rows rest on the service volumes of a lane with peak-hour factor 1,000 and no heavy vehicles:
 //   a freeway of F = 75,000: A 825, B 1,328, C 1,776, D 2,130, E 2,400; the same with the weather's factors 950 and 900: B 1,253, C 1,647,
 //   D 1,942; a multilane highway of F = 60,000: C 1,532, D 1,893.
 
@@ -32,7 +32,7 @@ const FREEWAY: [Table; 27] = [
     // no demand, and more lanes than needed
     ("2 0", "99999 A 1", "0 0 A 2;1 0 A 2;need not be wider in years 0 to 1"),
     ("5 3000", "0 C 0", "0 3000 A 2;need not be wider in years 0 to 0"),
-    // the most lanes: no count from the third year, the demand of 14,281.4 rounded up; no count from the first
+    // REFUSAL-14, the most lanes: no count from the third year, the demand of 14,281.4 rounded up; no count from the first
     ("8 14000", "10 C 2", "0 14000 C 8;1 14140 C 8;2 14282 D none;need not be wider in years 0 to 1;no widening suffices from year 2"),
     ("8 19201", "0 E 1", "0 19201 F none;1 19201 F none;no widening suffices from year 0"),
     // its own lanes serve, then more, then none; its own, then none
@@ -93,7 +93,7 @@ const SNOW: [Table; 2] = [
     ("8 13176", "1 C 1", "0 13176 C 8;1 13190 D none;need not be wider in years 0 to 0;no widening suffices from year 1"),
 ];
 
-// Lines with the fields parted by blanks, and the refusal of each.
+// CALL-4, ORDER-2: lines with the fields parted by blanks, and the refusal of each.
 const REFUSED: [(&str, u32); 19] = [
     ("F G 29999 120 60 60 D 0 2 1000 1000 0 L", 1),
     ("F G 75000 99 60 60 D 0 2 1000 1000 0 L", 2),

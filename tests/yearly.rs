@@ -1,4 +1,4 @@
-// Checks the example host examples/yearly.c, at the project's root; the path of the built program is the argument.
+// CALL-8: checks the example host examples/yearly.c, at the project's root; the path of the built program is the argument.
 //   - status 0: the example's output, which is also worked out by the second implementation, for every target; refused sections;
 //   - status 1: a row that is no section, with its number, after the row before it; a list that can't be read;
 //   - status 2: bad arguments of each kind;
@@ -19,9 +19,9 @@ const NOT_WRITTEN: &str = "yearly: standard output can't be written\n";
 const NOT_READ: &str = "yearly: the list can't be read\n";
 const ROAD: &str = "F G 75000 120 60 60 D 0 2 0 1000 0 L";
 
-// Of a road of F = 75,000 with two lanes, H = 1,000 and P = 0, whose service volume of C is 3,552 an hour: what stands before its line, and
-// its row. 71,757 × 0.0495 = 3,551.97; 58,710 × 0.0605 = 3,551.96; 2,020,181 × 0.0495 = 99,998.96; 2,020,202 × 0.0495 = 99,999.999;
-// 20,202,000 × 0.0495 = 999,999; 16,528,909 × 0.0605 = 999,998.99.
+// DAILY-1 to DAILY-3, REFUSAL-7, REFUSAL-21: of a road of F = 75,000 with two lanes, H = 1,000 and P = 0, whose service volume of C is 3,552 an hour:
+// what stands before its line, and its row. 71,757 × 0.0495 = 3,551.97; 58,710 × 0.0605 = 3,551.96; 2,020,181 × 0.0495 = 99,998.96;
+// 2,020,202 × 0.0495 = 99,999.999; 20,202,000 × 0.0495 = 999,999; 16,528,909 × 0.0605 = 999,998.99.
 const ROWS: [(&str, &str); 13] = [
     ("town U 71757", "town 71757 3552 C 71757"),
     ("town U 71758", "town 71758 3553 D 71757"),
@@ -38,7 +38,7 @@ const ROWS: [(&str, &str); 13] = [
     ("more U 4000000001", "more 4000000001 X 21"),
 ];
 
-// Lines with the fields parted by blanks, and the refusal of each.
+// DAILY-6: lines with the fields parted by blanks, and the refusal of each.
 const REFUSED: [(&str, u32); 4] = [
     ("F G 29999 120 60 60 D 0 2 0 1000 0 L", 1),
     ("F G 75000 120 60 60 D 0 2 0 249 0 L", 8),

@@ -1,13 +1,11 @@
-// Whole curves: a given free-flow speed with each flow rate, in clear weather and under snow or rain. On two lanes with H = 1,000 and
-// P = 0 the demand 2v has the flow rate v.
+// CURVE-1 to CURVE-7, LETTER-1, LETTER-2: whole curves, a given free-flow speed with each flow rate, in clear weather and under snow or rain. On
+// two lanes with H = 1,000 and P = 0 the demand 2v has the flow rate v.
 
 use super::draw::append_line;
 use super::engine;
 use super::tally::{in_parts, Tally, PARTS};
 use crate::second::lines;
-use crate::second::method::{
-    density, millionths, speed_at_weight, Case, Curve, Kind, Median, Method, Service, Terrain, Way, Weather,
-};
+use crate::second::method::{density, millionths, speed_at_weight, Case, Curve, Kind, Median, Method, Service, Terrain, Way, Weather};
 use std::fmt::Write;
 
 // Strides that share no factor with 10, 45 or the steps of the tables.
@@ -82,8 +80,8 @@ pub fn by_stride(method: &Method, tally: &mut Tally) {
     }
 }
 
-// Every capacity factor, each with one of seven speeds in turn and three speed factors: the least that 10 lets pass, one between, and
-// 1,000.
+// WEATHER-1 to WEATHER-3: every capacity factor, each with one of seven speeds in turn and three speed factors: the least that 10 lets pass, one
+// between, and 1,000.
 pub fn under_weather(method: &Method, tally: &mut Tally) {
     let speeds = [55_000, 59_999, 60_000, 67_855, 70_000, 75_000, 90_000];
     for capacity_factor in Kind::Freeway.weather_factors() {
@@ -102,8 +100,8 @@ fn shown(free_flow_speed: u64, flow_rate: u64, t: u64) -> (u64, u64) {
     (speed.rounded_down(), density(speed, flow_rate).rounded_up())
 }
 
-// Flow rates on kind M that show the entries of the table: two for each, at one of which a greater entry, at the other a smaller one, would
-// be seen. Two entries lack one: T(1), which no whole flow rate looks up, and T(1,000), where one millionth less cannot be seen.
+// CURVE-5, FORM-6: flow rates on kind M that show the entries of the table, two for each, at one of which a greater entry, at the other a smaller
+// one, would be seen. Two entries lack one: T(1), which no whole flow rate looks up, and T(1,000), where one millionth less cannot be seen.
 pub fn table_entries(method: &Method, tally: &mut Tally) {
     let mut seen = [[false; 2]; 1_001];
     for speed in Kind::Multilane.free_flow_speeds().rev() {

@@ -1,4 +1,4 @@
-// Daily volumes (request T-06): some calls with their figures, and random lines with random daily traffics, shares and buffers of random
+// CALL-8: daily volumes, some calls with their figures, and random lines with random daily traffics, shares and buffers of random
 // length and content. What the engine hands back for a random call is also compared with its own single answer to the hourly demand, and
 // the second implementation judges each of its daily service volumes d: d meets the letter and d + 1 does not. Some are counted.
 
@@ -21,7 +21,7 @@ const RURAL: Shares = [110, 550];
 // With these the hourly demand is the daily traffic.
 const WHOLE: Shares = [1_000, 1_000];
 
-// More answers for the line of document 01, as a position of a day has them. Flow rates are V × 1.1 / (0.92 × 2) rounded up.
+// More answers for the line of the days, as a position of a day has them. Flow rates are V × 1.1 / (0.92 × 2) rounded up.
 //   1: 0.598. 10: 5.98; 60,000 / 60,782 = 0.99.
 //   2,642: 1,579.46; w = ((158,000 − 156,872) / 73,910)² = 0.0002329; S = 60,782 − 9,497.1w = 60,779.79; 15,800,000 / S = 259.95.
 //   3,858: 2,306.41; w = ((230,700 − 156,872) / 73,910)² = 0.9977823; S = 51,305.95; 23,070,000 / S = 449.66.
@@ -33,7 +33,7 @@ const AT_3858: [u64; POSITION] = [0, 5, 60_782, 230_782, 2_307, 51_305, 450, 1_1
 const AT_3859: [u64; POSITION] = [0, 6, 60_782, 230_782, 2_308, 0, 0, 1_117, 1_829, 2_642, 3_360, 3_858];
 const AT_996000: [u64; POSITION] = [0, 6, 60_782, 230_782, 595_435, 0, 0, 1_117, 1_829, 2_642, 3_360, 3_858];
 
-// Its daily service volumes on an urban road. A daily traffic is 0.0495 of itself an hour: 22,565 is 1,116.97 and 22,566 is 1,117.02;
+// DAILY-2: its daily service volumes on an urban road. A daily traffic is 0.0495 of itself an hour: 22,565 is 1,116.97 and 22,566 is 1,117.02;
 // 36,949 is 1,828.98 and 36,950 is 1,829.03; 53,373 is 2,641.96 and 53,374 is 2,642.01; 67,878 is 3,359.96 and 67,879 is 3,360.01;
 // 77,939 is 3,857.98 and 77,940 is 3,858.03.
 const ON_URBAN_ROADS: [u64; 5] = [22_565, 36_949, 53_373, 67_878, 77_939];
@@ -57,7 +57,7 @@ const WIDE_AT_16000: [u64; POSITION] = [0, 4, 75_000, 240_000, 2_000, 63_945, 31
 const WIDE_BY_TWOS: [u64; 5] = [1_650_000_000, 2_656_000_000, 3_552_000_000, 4_000_000_000, 4_000_000_000];
 const WIDE_BY_ONES: [u64; 5] = [4_000_000_000; 5];
 
-// A multilane highway of document 01, with two lanes; c = 220,000. Its last flow rates are 660, 1,080, 1,532, 1,893 and 2,200. At 0.09 an
+// A multilane highway with two lanes; c = 220,000. Its last flow rates are 660, 1,080, 1,532, 1,893 and 2,200. At 0.09 an
 // hour 24,000 a day is 2,160 exactly: v = 1,080, density 180. 24,001 is 2,160.09: v = 1,081, density 180.17.
 pub const MULTILANE: &str = "M G 60000 120 60 60 D 0 2 0 1000 0 L";
 const MULTILANE_AT_2160: [u64; POSITION] = [0, 2, 60_000, 220_000, 1_080, 60_000, 180, 1_320, 2_160, 3_064, 3_786, 4_400];
@@ -70,11 +70,11 @@ const MULTILANE_VOLUMES: [u64; 5] = [14_666, 24_000, 34_044, 42_066, 48_888];
 pub const SNOW: &str = "F G 75000 120 60 60 D 0 2 0 1000 0 L 950 900";
 const SNOW_VOLUMES: [u64; 5] = [25_884, 41_421, 54_446, 64_198, 71_404];
 
-// Lines, daily traffics, shares, the single answer to the hourly demand, and the daily service volumes. Blanks stand for tabs.
+// DAILY-1 to DAILY-3: lines, daily traffics, shares, the single answer to the hourly demand, and the daily service volumes. Blanks stand for tabs.
 const DAILIES: &[(&str, u64, Shares, [u64; POSITION], [u64; 5])] = &[
     (LINE, 0, URBAN, AT_0, ON_URBAN_ROADS),
     (LINE, 1, URBAN, AT_1, ON_URBAN_ROADS),
-    // 0.594 an hour. Rounded twice, 12 × 0.09 would be 2, and 2 × 0.55 again 2.
+    // DAILY-1: 0.594 an hour. Rounded twice, 12 × 0.09 would be 2, and 2 × 0.55 again 2.
     (LINE, 12, URBAN, AT_1, ON_URBAN_ROADS),
     // 9.999 an hour. Rounded twice it would be 11, whichever share comes first: 19 × 0.55 = 10.45, 112 × 0.09 = 10.08.
     (LINE, 202, URBAN, AT_10, ON_URBAN_ROADS),
@@ -113,12 +113,12 @@ const SLOW: &str = "F G 29999 120 60 60 D 0 2 0 1000 0 L";
 // Where H is 1 and P is 99,999: 8 and 9 refuse the case.
 const HEAVY: &str = "F G 75000 120 60 60 D 0 2 0 1 99999 R";
 
-// Refused calls: line, daily traffic, shares, length of the buffer, result.
+// DAILY-6, REFUSAL-20, REFUSAL-21: refused calls: line, daily traffic, shares, length of the buffer, result.
 const REFUSED: &[(&str, u64, Shares, usize, i32)] = &[
     (LINE, 5, URBAN, 0, -17),
     (LINE, 5, URBAN, 1, -17),
     (LINE, 5, URBAN, 15, -17),
-    // 17 is before 15, 20, 21 and 1.
+    // REFUSAL-17, CALL-4: 17 is before 15, 20, 21 and 1.
     (MALFORMED, 5, URBAN, 15, -17),
     (LINE, 5, [0, 550], 15, -17),
     (LINE, 4_000_000_001, URBAN, 15, -17),
@@ -179,7 +179,7 @@ const REFUSED: &[(&str, u64, Shares, usize, i32)] = &[
     (LINE, 20_202_001, URBAN, 16, -7),
     (LINE, 4_000_000_000, [1, 250], 16, -7),
     (LINE, 4_000_000_000, URBAN, 16, -7),
-    // 7 is before 8, 9, 19 and 10.
+    // REFUSAL-7: before 8, 9, 19 and 10.
     (HEAVY, 4_000_000_000, WHOLE, 16, -7),
     ("F G 75000 120 60 60 D 0 2 0 1 0 L", 4_000_000_000, WHOLE, 16, -7),
     ("F G 75000 120 60 60 D 0 2 0 0 0 L", 1_000_000, WHOLE, 16, -7),
@@ -218,7 +218,7 @@ const LEAST_OF_EACH: u64 = 500;
 // Refusals that come before those of the case.
 const BEFORE_THE_CASE: [i32; 4] = [-17, -15, -20, -21];
 
-// Daily traffics that a narrower number or a product may not hold, each with its neighbours.
+// SAFE-1: daily traffics that a narrower number or a product may not hold, each with its neighbours.
 const LARGE: [u64; 4] = [1 << 32, 1 << 63, u64::MAX / 1_000_000, u64::MAX - 1];
 
 // Where daily volumes are counted, 7 refuses this daily traffic.
@@ -395,7 +395,7 @@ impl Dailies<'_> {
         }
     }
 
-    // The engine's own single answer to the hourly demand, or its refusal.
+    // DAILY-1, DAILY-3: the engine's own single answer to the hourly demand, or its refusal.
     fn single_answer(&mut self, call: &Call, theirs: &After) {
         let single = single(&call.line, call.hourly_demand());
         let same = match theirs.result {
@@ -405,7 +405,7 @@ impl Dailies<'_> {
         self.tally.check(same, || format!("daily volumes, {}: the single call answers {single:?}", call.name()));
     }
 
-    // The engine's daily service volumes meet their letters, and one more does not.
+    // DAILY-2, DAILY-4: the engine's daily service volumes meet their letters, and one more does not.
     fn neighbours(&mut self, call: &Call, theirs: &After) {
         let section = call.section(self.method);
         for (letter, &volume) in (1..).zip(parts(theirs).1) {
@@ -437,7 +437,7 @@ impl Dailies<'_> {
         }
     }
 
-    // Daily service volumes by plain counting.
+    // DAILY-2: daily service volumes by plain counting.
     pub fn counted(&mut self, count: u64) {
         for _ in 0..count {
             let call = draw_counted_call(&mut self.draw, self.method);

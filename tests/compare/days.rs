@@ -1,5 +1,5 @@
-// Whole days in one call: some with their figures, and random lines with random demands and buffers of random length and content. Each
-// position of a random day is also compared with the engine's own single answer.
+// CALL-7: whole days in one call, some with their figures, and random lines with random demands and buffers of random length and content. Each
+// position of a random day is also compared with the engine's own single answer (DAY-1).
 
 use super::draw::{accepted, draw_demand, draw_line, has_six_digits, Draw, DEMAND_FIELD};
 use super::engine;
@@ -13,7 +13,7 @@ const fn refused(number: u64) -> [u64; POSITION] {
     [number, 0, 0, 0, 0, 0, 0, 0, 0, 0, 0, 0]
 }
 
-// The line of document 01, and its answers to the demands 0, 2,000, 2,643, one more than the service volume of C, 99,999, 100,000 and
+// A line, and its answers to the demands 0, 2,000, 2,643, one more than the service volume of C, 99,999, 100,000 and
 // 999,999.
 // 2,643 × 1.1 / (0.92 × 2) = 1,580.05; w = ((158,100 − 156,872) / (230,782 − 156,872))² = 0.0002761; S = 60,782 − 9,497.1w = 60,779.38;
 // 15,810,000 / S = 260.12. 99,999 × 1.1 / (0.92 × 2) = 59,782.01, with 100,000 it is 59,782.61, with 999,999 it is 597,825.49.
@@ -25,26 +25,26 @@ pub const AT_99999: [u64; POSITION] = [0, 6, 60_782, 230_782, 59_783, 0, 0, 1_11
 pub const AT_100000: [u64; POSITION] = AT_99999;
 pub const AT_999999: [u64; POSITION] = [0, 6, 60_782, 230_782, 597_826, 0, 0, 1_117, 1_829, 2_642, 3_360, 3_858];
 
-// A given speed of 75,000 with the factors 950 and 900, as T-03 has it.
+// WEATHER-2, WEATHER-3: a given speed of 75,000 with the factors 950 and 900.
 pub const SNOW_AT_3000: [u64; POSITION] = [0, 3, 71_250, 216_000, 1_500, 66_271, 227, 1_566, 2_506, 3_294, 3_884, 4_320];
 const SNOW_AT_100000: [u64; POSITION] = [0, 6, 71_250, 216_000, 50_000, 0, 0, 1_566, 2_506, 3_294, 3_884, 4_320];
 
-// Lines, demands and what each position gets. Blanks stand for tabs.
+// DAY-1, DAY-2: lines, demands and what each position gets. Blanks stand for tabs.
 const DAYS: &[(&str, &[u64], &[[u64; POSITION]])] = &[
     (LINE, &[2_000, 1_000_000, 2_643], &[AT_2000, refused(7), AT_2643]),
     (LINE, &[99_999, 100_000, 999_999, 1_000_000, 2_000], &[AT_99999, AT_100000, AT_999999, refused(7), AT_2000]),
     (LINE, &[2_000], &[AT_2000]),
     (LINE, &[u64::MAX], &[refused(7)]),
-    // 2,000 once cut to 32 bits; a product past 64 bits.
+    // REFUSAL-7, SAFE-1: 2,000 once cut to 32 bits; a product past 64 bits.
     (LINE, &[(1 << 32) + 2_000, u64::MAX / 1_100 + 1], &[refused(7), refused(7)]),
     (LINE, &[0; 24], &[AT_0; 24]),
-    // The line's own demand is not used.
+    // DAY-1: the line's own demand is not used.
     ("F E 75400 110 20 0 D 24 2 99999 920 50 R", &[0, 99_999, 2_000], &[AT_0, AT_99999, AT_2000]),
     ("F E 75400 110 20 0 D 24 2 999999 920 50 R", &[0, 999_999, 2_000], &[AT_0, AT_999999, AT_2000]),
     // A line of 15 fields; clear weather written out.
     ("F G 75000 120 60 60 D 0 2 0 1000 0 L 950 900", &[3_000, 1_000_000, 100_000], &[SNOW_AT_3000, refused(7), SNOW_AT_100000]),
     ("F E 75400 110 20 0 D 24 2 2000 920 50 R 1000 1000", &[2_000], &[AT_2000]),
-    // 7 is before 8, 9, 19 and 10 and after 1 to 6.
+    // DAY-3, REFUSAL-7: 7 is before 8, 9, 19 and 10 and after 1 to 6.
     ("F G 75000 120 60 60 D 0 2 0 249 0 L", &[1_000_000, 5], &[refused(7), refused(8)]),
     ("F G 75000 120 60 60 D 0 2 0 249 0 L", &[100_000, 5], &[refused(8), refused(8)]),
     ("F G 75000 120 60 60 D 0 2 0 1000 1001 L", &[5, u64::MAX, 999_999], &[refused(9), refused(7), refused(9)]),
@@ -57,7 +57,7 @@ const DAYS: &[(&str, &[u64], &[[u64; POSITION]])] = &[
 
 pub const MALFORMED: &str = "F E 75400 110 20 0 D 24 2 2000 920 50 R ";
 
-// Calls that are refused as a whole: line, count of demands, length of the buffer, result.
+// REFUSAL-18, CALL-4: calls that are refused as a whole: line, count of demands, length of the buffer, result.
 const REFUSED: &[(&str, usize, usize, i32)] = &[
     (LINE, 0, 0, -18),
     (LINE, 0, 12, -18),
@@ -76,7 +76,7 @@ const REFUSED: &[(&str, usize, usize, i32)] = &[
     (MALFORMED, 24, 293, -15),
 ];
 
-// Malformed lines. The line's own demand has to be well formed, though it is not used.
+// REFUSAL-15: malformed lines. The line's own demand has to be well formed, though it is not used.
 pub const MALFORMED_LINES: [&str; 6] = [
     "",
     "F E 75400 110 20 0 D 24 2  920 50 R",
@@ -92,7 +92,7 @@ const OUTCOMES: [&str; 20] =
 pub const SIX_DIGITS: &str = "six digits answered";
 const LEAST_OF_EACH: u64 = 1_000;
 
-// Demands that a narrower number or a product may not hold, each with its neighbours.
+// SAFE-1: demands that a narrower number or a product may not hold, each with its neighbours.
 const LARGE: [u64; 4] = [1 << 32, 1 << 63, u64::MAX / 3_000, u64::MAX - 1];
 
 // A call, with the buffer as it is before.
@@ -179,7 +179,7 @@ fn numbers(text: &str) -> Vec<u64> {
     }
 }
 
-// What the engine's single call answers with a demand. No line can hold one above 999,999: it gets 7, unless 1 to 6 refuse the line.
+// DAY-1, DAY-3: what the engine's single call answers with a demand. No line can hold one above 999,999: it gets 7, unless 1 to 6 refuse the line.
 pub fn single(line: &[u8], demand: u64) -> Vec<u64> {
     let answered = numbers(&engine::answer_text(&with_demand(line, demand.min(GREATEST_DEMAND))));
     if demand > GREATEST_DEMAND && !(1..=6).contains(&answered[0]) {

@@ -1,4 +1,4 @@
-// How far the shown multilane speed is below the manual's curve (request T-05): never above it, and less than 26 thousandths of mi/h below.
+// ACCURACY-2: a shown multilane speed stays within 26 thousandths of mi/h below the manual's curve and does not pass it.
 // The engine's speeds are judged by the second implementation's curve, which is by whole powers: points with their figures, random points,
 // random cases, and the points that are farthest from the curve and nearest to it. Floats pick those out of all, by the second
 // implementation's speeds, which the engine's must equal.
@@ -10,14 +10,14 @@ use super::tally::{in_parts, Tally, PARTS};
 use crate::second::distance::{at_most_curve, whole_thousandths_below};
 use crate::second::method::{Case, Curve, Kind, Method};
 
-// "less than 26 thousandths of mi/h below it"
+// ACCURACY-2.
 const TOLERANCE: u64 = 26;
 // The most whole thousandths that any point has, which is less than what is proved.
 const MOST: u64 = 22;
 // How many points lie past the breakpoint, up to capacity.
 const POINTS: u64 = 18_490_900;
 
-// Free-flow speed, flow rate, shown speed, and how many whole thousandths it is below the curve.
+// ACCURACY-3: free-flow speed, flow rate, shown speed, and how many whole thousandths it is below the curve.
 const FIGURES: &[(u64, u64, u64, u64)] = &[
     (69_923, 2_292, 51_307, 22),
     (70_000, 2_292, 51_308, 22),
@@ -79,7 +79,7 @@ impl Distances<'_> {
         Distances { method, tally: Tally::default(), most: None, worked_out: 0 }
     }
 
-    // A point by whole powers, with the speed that the engine shows there.
+    // ACCURACY-1, ACCURACY-2: a point by whole powers, with the speed that the engine shows there.
     fn point(&mut self, free_flow_speed: u64, flow_rate: u64) -> Option<u64> {
         let place = || format!("F = {free_flow_speed}, v = {flow_rate}");
         let expected = self.method.service(&Curve::clear(Kind::Multilane, free_flow_speed), flow_rate).speed;
@@ -157,12 +157,14 @@ impl Distances<'_> {
         if let Some((most, f, v)) = self.most {
             let rough = roughly_below(self.method, f, v);
             let points = self.worked_out;
-            println!("most below the curve, of {points} points by whole powers: {most} whole thousandths ({rough:.4}), at F = {f}, v = {v}");
+            println!(
+                "most below the curve, of {points} points by whole powers: {most} whole thousandths ({rough:.4}), at F = {f}, v = {v}"
+            );
         }
     }
 }
 
-// Every point by whole powers: the engine's speed is at most the curve, and 23 more are not.
+// ACCURACY-2: every point by whole powers: the engine's speed is at most the curve, and 23 more are not.
 pub fn full() -> Tally {
     in_parts(|part| {
         let mut tally = Tally::default();

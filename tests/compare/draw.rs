@@ -1,16 +1,14 @@
 // Random cases near every limit of the method, and lines damaged on purpose. The same seed draws the same cases.
 
 use crate::second::lines;
-use crate::second::method::{
-    passenger_cars, planner_refusal, Case, Curve, Kind, Median, Method, Terrain, Way, Weather, GREATEST_DEMAND,
-};
+use crate::second::method::{passenger_cars, planner_refusal, Case, Curve, Kind, Median, Method, Terrain, Way, Weather, GREATEST_DEMAND};
 use std::fmt::Write;
 
-// The fields of numbers on a line, from 0 on, and of these the demand's.
+// LINE-1: the fields of numbers on a line, from 0 on, and of these the demand's.
 pub const NUMBER_FIELDS: [usize; 11] = [2, 3, 4, 5, 7, 8, DEMAND_FIELD, 10, 11, 13, 14];
 pub const DEMAND_FIELD: usize = 9;
 
-// Whether a line has room for a demand since T-09 only.
+// LINE-7: whether an older reader has no room for a demand.
 pub fn has_six_digits(demand: u64) -> bool {
     (100_000..=GREATEST_DEMAND).contains(&demand)
 }
@@ -108,7 +106,7 @@ fn draw_road(draw: &mut Draw) -> Case {
     }
 }
 
-// Moves the speed so that F lies at or beside an end of the kind's speeds.
+// FFS-10, REFUSAL-10: moves the speed so that F lies at or beside an end of the kind's speeds.
 fn move_to_end(draw: &mut Draw, method: &Method, case: &mut Case) {
     let ends = case.kind.free_flow_speeds();
     let end = draw.one_of(&[*ends.start(), *ends.end()]);
@@ -119,7 +117,7 @@ fn move_to_end(draw: &mut Draw, method: &Method, case: &mut Case) {
     case.speed = end + taken_off + draw.from(0, 2) - 1;
 }
 
-// Moves the speed factor so that F after it lies at or beside 50,000, on kind F.
+// WEATHER-2, REFUSAL-10: moves the speed factor so that F after it lies at or beside 50,000, on kind F.
 fn move_to_adjusted_end(draw: &mut Draw, method: &Method, case: &mut Case) {
     let clear = Case { weather: Weather::CLEAR, ..*case };
     if case.kind == Kind::Freeway && planner_refusal(&clear).is_none() {
@@ -129,7 +127,7 @@ fn move_to_adjusted_end(draw: &mut Draw, method: &Method, case: &mut Case) {
     }
 }
 
-// Puts some fields at or past a limit that a refusal guards.
+// REFUSAL-1 to REFUSAL-6, REFUSAL-8, REFUSAL-9, REFUSAL-19: puts some fields at or past a limit that a refusal guards.
 pub fn move_past_limits(draw: &mut Draw, case: &mut Case) {
     for _ in 0..draw.from(1, 3) {
         match draw.from(0, 10) {
@@ -148,7 +146,7 @@ pub fn move_past_limits(draw: &mut Draw, case: &mut Case) {
     }
 }
 
-// A demand near a change of letter, the breakpoint or a limit, for a case that is accepted, on its curve.
+// LETTER-1, CURVE-2: a demand near a change of letter, the breakpoint or a limit, for a case that is accepted, on its curve.
 pub fn draw_demand(draw: &mut Draw, method: &Method, case: &Case, curve: &Curve) -> u64 {
     let volumes = method.service_volumes(case, curve);
     let demand = match draw.from(0, 9) {
@@ -164,6 +162,7 @@ pub fn draw_demand(draw: &mut Draw, method: &Method, case: &Case, curve: &Curve)
     demand.min(GREATEST_DEMAND)
 }
 
+// CASE-1, CASE-2: a case with each field near what tells in it.
 pub fn draw_case(draw: &mut Draw, method: &Method) -> Case {
     let mut case = draw_road(draw);
     if draw.once_in(8) {
@@ -185,7 +184,7 @@ pub fn draw_case(draw: &mut Draw, method: &Method) -> Case {
     case
 }
 
-// A case that is accepted.
+// CASE-4: a case that is accepted.
 pub fn draw_accepted_case(draw: &mut Draw, method: &Method) -> Case {
     loop {
         let case = draw_case(draw, method);
@@ -195,7 +194,7 @@ pub fn draw_accepted_case(draw: &mut Draw, method: &Method) -> Case {
     }
 }
 
-// A case as a line, appended to what is there: 13 fields in clear weather, else 15.
+// LINE-6, LINE-4: a case as a line, appended to what is there, 13 fields in clear weather, else 15.
 pub fn append_line(line: &mut String, case: &Case) {
     let kind = match case.kind {
         Kind::Freeway => 'F',
@@ -232,7 +231,7 @@ pub fn line_of(case: &Case) -> Vec<u8> {
     line.into_bytes()
 }
 
-// Numbers at and past the most digits of a field, with a leading zero too.
+// LINE-2: numbers at and past the most digits of a field, with a leading zero too.
 const LONG_NUMBERS: [&str; 6] = ["99999", "099999", "100000", "999999", "0999999", "1000000"];
 
 fn draw_long_number(draw: &mut Draw) -> String {
@@ -261,8 +260,8 @@ fn any_field(draw: &mut Draw, line: &[u8]) -> (usize, usize) {
     (start, end)
 }
 
-// Damages a line: a byte changed, cut, doubled or inserted; a field emptied, doubled, led by a zero, replaced, by six and more digits too;
-// an end cut off; made longer.
+// REFUSAL-15, LINE-1 to LINE-5: damages a line: a byte changed, cut, doubled or inserted; a field emptied, doubled, led by a zero, replaced, by six
+// and more digits too; an end cut off; made longer.
 pub fn damage(draw: &mut Draw, line: &mut Vec<u8>) {
     if line.is_empty() {
         line.push(any_byte(draw));

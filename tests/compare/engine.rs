@@ -1,4 +1,4 @@
-// The eight calls of include/marehour.h.
+// CALL-1, CALL-2, CALL-6 to CALL-10, FORM-1: the eight calls of include/marehour.h.
 
 use crate::second::forecast::Ranges;
 use crate::second::survey::Unit;
@@ -86,7 +86,7 @@ pub fn forecast(line: &[u8], ranges: &Ranges, figures: &mut [u64]) -> i32 {
     }
 }
 
-// The answer to a line as text without its newline, or X and the refusal, as los prints it.
+// TEXT-2, TEXT-3: the answer to a line as text without its newline, or X and the refusal, as los prints it.
 pub fn answer_text(line: &[u8]) -> String {
     let mut buffer = [0; 64];
     let result = answer(line, &mut buffer);
@@ -99,7 +99,7 @@ pub fn lanes_text(line: &[u8], letter: u32) -> String {
     text(result, &buffer)
 }
 
-// What a call handed back and wrote, in the form of los.
+// CALL-3: what a call handed back and wrote, in the form of los.
 pub fn text(result: i32, buffer: &[u8]) -> String {
     if result < 0 {
         return format!("X\t{}", -i64::from(result));

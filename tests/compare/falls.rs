@@ -1,5 +1,5 @@
-// Where the freeway speed falls as free-flow speed rises by a thousandth, under one capacity factor, at one flow rate: in clear weather
-// nowhere, by a law of the engine; in snow or rain at a few points, by the rounding of the breakpoint. Every capacity factor, every
+// CURVE-3, WEATHER-3: where the freeway speed falls as free-flow speed rises by a thousandth, under one capacity factor, at one flow rate: in clear
+// weather nowhere, by a law of the engine; in snow or rain at a few points, by the rounding of the breakpoint. Every capacity factor, every
 // free-flow speed after its factor and every flow rate up to both capacities is tried, in whole numbers, on the second implementation's
 // curves.
 

@@ -1,4 +1,4 @@
-// Surveyed speeds: floats by their bits, in both units, and counts and flows around their limits.
+// SURVEY-1 to SURVEY-3, CALL-6: surveyed speeds, floats by their bits, in both units, and counts and flows around their limits.
 
 use super::draw::Draw;
 use super::engine;
@@ -9,6 +9,7 @@ use std::thread;
 const UNITS: [Unit; 2] = [Unit::MilesPerHour, Unit::KilometresPerHour];
 const STRIDE: usize = 5;
 
+// FORM-2: each kind of float.
 const SPECIAL: [u32; 20] = [
     0x0000_0000, // 0
     0x0000_0001, // least subnormal
@@ -31,6 +32,7 @@ const SPECIAL: [u32; 20] = [
     0x4270_0000, // 60
     0x42c8_0000, // 100
 ];
+// REFUSAL-11, REFUSAL-12: at their limits, and where a narrower number would pass.
 const CARS: [u32; 9] = [0, 1, 99, 100, 101, 255, 256 + 99, 65_536 + 99, u32::MAX];
 const FLOWS: [u32; 10] = [0, 1, 499, 500, 999, 1_000, 1_001, 65_536, 0x8000_0000, u32::MAX];
 
@@ -49,7 +51,7 @@ pub fn by_stride(tally: &mut Tally, draw: &mut Draw) {
         }
     }
     for unit in UNITS {
-        // Every float around the limits of refusal 13.
+        // REFUSAL-13: every float around its limits.
         for limit in [30.0f32, 90.0, 90.001, 48.280_32, 144.840_96, 144.842_57] {
             for bits in limit.to_bits() - 2_000..=limit.to_bits() + 2_000 {
                 check(tally, bits, unit, 100, 999);
@@ -93,7 +95,7 @@ fn half(unit: Unit, top_bit: u32) -> Counts {
     counts
 }
 
-// All floats of a unit: those that are not negative, and the others, on two threads.
+// SURVEY-2, FORM-2: all floats of a unit, those that are not negative, and the others, on two threads.
 pub fn full(unit: Unit) -> Counts {
     thread::scope(|scope| {
         let negative = scope.spawn(move || half(unit, 0x8000_0000));

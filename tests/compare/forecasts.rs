@@ -1,7 +1,7 @@
-// Forecasts known within ranges (request T-07): some calls with their figures, and random lines with random ranges and buffers of random
+// CALL-9: forecasts known within ranges, some calls with their figures, and random lines with random ranges and buffers of random
 // length and content. What the engine hands back for a random call is also compared with its own single answers: those at the two
 // combinations that it shows are its letters, and those at some combinations within the ends, which are the second implementation's too,
-// lie between. Of some larger ranges every combination is tried.
+// lie between (FORECAST-5). Of some larger ranges every combination is tried (FORECAST-2).
 
 use super::dailies::{MULTILANE, SNOW, WIDE};
 use super::days::{LINE, MALFORMED, MALFORMED_LINES, SIX_DIGITS};
@@ -18,15 +18,15 @@ const fn ranges(demand: Ends, share: Ends, factor: Ends) -> Ranges {
     Ranges { demand, share, factor }
 }
 
-// The line of document 01 with another load of its own, with loads that 8 or 9 would refuse, and on level terrain.
+// The line of the days with another load of its own, with loads that 8 or 9 would refuse, and on level terrain.
 const OTHER_LOAD: &str = "F E 75400 110 20 0 D 24 2 0 1000 0 R";
 const UNFIT_FACTOR: &str = "F E 75400 110 20 0 D 24 2 999999 0 50 R";
 const UNFIT_SHARE: &str = "F E 75400 110 20 0 D 24 2 100000 920 1001 R";
 const LEVEL: &str = "F E 75400 110 20 0 D 24 2 2000 920 50 L";
 
-// Lines, ranges, and the eight numbers. Blanks stand for tabs.
+// FORECAST-2, FORECAST-3: lines, ranges, and the eight numbers. Blanks stand for tabs.
 //
-// On the line of document 01 the flow rate is V × (1,000 + 2P) / 2H rounded up. The last ones of A to E are 668, 1,094, 1,580, 2,009 and
+// On the line of the days the flow rate is V × (1,000 + 2P) / 2H rounded up. The last ones of A to E are 668, 1,094, 1,580, 2,009 and
 // 2,307, with S = 60,782 up to 1,568 and from there 60,782 − 9,497.1 × ((100v − 156,872) / 73,910)².
 //   668: 6,680,000 / S = 109.90; 669: 110.07. 1,094: 179.99; 1,095: 180.15. 1,580: 259.95; 1,581: 260.12.
 //   2,009: S = 57,411.90, 349.93; 2,010: S = 57,396.57, 350.20. 2,308 is above capacity.
@@ -62,7 +62,7 @@ const FORECASTS: &[(&str, Ranges, [u64; FIGURES])] = &[
     (LINE, ranges([0, 0], [0, 1_000], [250, 1_000]), [1, 0, 0, 1_000, 1, 0, 1_000, 250]),
     (LINE, ranges([1_900, 2_000], [40, 50], [900, 924]), [3, 1_900, 40, 924, 3, 2_000, 50, 900]),
     (LINE, ranges([5_400, 10_000], [0, 1_000], [250, 1_000]), [6, 5_400, 0, 1_000, 6, 10_000, 1_000, 250]),
-    // Equal ends, at the limits too.
+    // FORECAST-5: equal ends, at the limits too.
     (LINE, ranges([2_000, 2_000], [50, 50], [920, 920]), [3, 2_000, 50, 920, 3, 2_000, 50, 920]),
     (LINE, ranges([2_643, 2_643], [50, 50], [920, 920]), [4, 2_643, 50, 920, 4, 2_643, 50, 920]),
     (LINE, ranges([0, 0], [0, 0], [1_000, 1_000]), [1, 0, 0, 1_000, 1, 0, 0, 1_000]),
@@ -99,12 +99,12 @@ const FIT: Ranges = ranges([1_000, 4_000], [0, 100], [850, 950]);
 const FARTHEST: u64 = u64::MAX;
 const TO_FARTHEST: Ends = [0, FARTHEST];
 const AT_FARTHEST: Ends = [FARTHEST, FARTHEST];
-// Added to a number, these are lost where it is cut to 16 or 32 bits, or are its sign.
+// SAFE-1: added to a number, these are lost where it is cut to 16 or 32 bits, or are its sign.
 const PAST_16: u64 = 1 << 16;
 const PAST_32: u64 = 1 << 32;
 const SIGN: u64 = 1 << 63;
 
-// Refused ranges and their number, on a road that none of 1 to 6 refuses.
+// FORECAST-4, REFUSAL-7 to REFUSAL-9, REFUSAL-22: refused ranges and their number, on a road that none of 1 to 6 refuses.
 const REFUSED_RANGES: &[(Ranges, i32)] = &[
     // One of the three by one, and by much; all three.
     (ranges([2_643, 2_642], [50, 50], [920, 920]), 22),
@@ -194,7 +194,7 @@ const REFUSED_RANGES: &[(Ranges, i32)] = &[
     (ranges([0, 0], AT_FARTHEST, [1_000, 1_000]), 9),
 ];
 
-// Roads that two of 1 to 6 refuse, or 6, 19 and 10, or 6 alone, and the first of the numbers.
+// FORECAST-4: roads that two of 1 to 6 refuse, or 6, 19 and 10, or 6 alone, and the first of the numbers.
 const REFUSED_ROADS: &[(&str, i32)] = &[
     ("F G 29999 99 60 60 D 0 2 0 1000 0 L", 1),
     ("F G 75000 99 401 60 D 0 2 0 1000 0 L", 2),
@@ -207,7 +207,7 @@ const REFUSED_ROADS: &[(&str, i32)] = &[
     ("M G 60000 120 60 60 U 0 4 0 1000 0 L", 6),
 ];
 
-// Roads that none of 1 to 6 refuses: what is after 9.
+// FORECAST-4: roads that none of 1 to 6 refuses: what is after 9.
 const REFUSED_AFTER_THE_LOAD: &[(&str, i32)] = &[
     // 19 is before 10.
     ("F G 54999 120 60 60 D 0 2 0 1000 0 L 1000 499", 19),
@@ -218,7 +218,7 @@ const REFUSED_AFTER_THE_LOAD: &[(&str, i32)] = &[
     ("M G 44999 120 60 60 D 0 2 0 1000 0 L", 10),
 ];
 
-// The line's own factor and share have to be well formed, though they are not used.
+// REFUSAL-15: the line's own factor and share have to be well formed, though they are not used.
 const MALFORMED_LOADS: [&str; 6] = [
     "F E 75400 110 20 0 D 24 2 2000  50 R",
     "F E 75400 110 20 0 D 24 2 2000 0920 50 R",
@@ -469,8 +469,8 @@ impl Forecasts<'_> {
         }
     }
 
-    // The engine's own single answers to a line's case are the letters at the two combinations shown. Within the ends they lie between, and
-    // are those of the second implementation.
+    // FORECAST-3, FORECAST-5: the engine's own single answers to a line's case are the letters at the two combinations shown. Within the ends they
+    // lie between, and are those of the second implementation.
     fn single_answers(&mut self, call: &Call, theirs: &After) {
         let case = lines::parse(&call.line).expect("the call is answered");
         let forecast = Forecast::new(self.method, &call.line, &call.ranges).ok().expect("the call is answered");
@@ -522,7 +522,7 @@ impl Forecasts<'_> {
         }
     }
 
-    // Letters of larger ranges by every combination.
+    // FORECAST-1, FORECAST-2: letters of larger ranges by every combination.
     pub fn larger(&mut self, count: u64) {
         for _ in 0..count {
             let call = draw_larger_call(&mut self.draw, self.method);

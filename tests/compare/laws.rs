@@ -1,10 +1,10 @@
-// Laws of the method, sampled through the engine's own answers.
-//   - More demand, a greater heavy share, rolling instead of level terrain, a lower peak-hour factor or fewer lanes never get a better
+// Laws of the method, sampled through the engine's own answers, over lines and lent buffers (SHAPE-4).
+//   - SHAPE-1: more demand, a greater heavy share, rolling instead of level terrain, a lower peak-hour factor or fewer lanes never get a better
 //     letter, under one weather; fewer lanes in clear weather or on a given speed.
-//   - A demand is at most the service volume of a letter exactly when it gets the letter or a better one.
-//   - The lanes question answers the least count with which the engine's own answer is the letter or a better one.
-//   - A line whose demand has at most five digits is read and answered as by the older reader. Any other was malformed to it, and is now
-//     unless it has six digits there (request T-09).
+//   - SHAPE-2: a demand is at most the service volume of a letter exactly when it gets the letter or a better one.
+//   - SHAPE-3: the lanes question answers the least count with which the engine's own answer is the letter or a better one.
+//   - LINE-7: a line whose demand has at most five digits is read and answered as by the older reader. Any other is malformed to it, and to this
+//     one too unless it has six digits there.
 
 use super::draw::{draw_accepted_case, draw_line, line_of, Draw, DEMAND_FIELD};
 use super::engine;
@@ -33,7 +33,7 @@ fn between(draw: &mut Draw, least: u64, most: u64) -> u64 {
     }
 }
 
-// A case of the same road with no less load: each of the five is kept or made harder.
+// CASE-3: a case of the same road with no less load: each of the five is kept or made harder.
 fn harder(draw: &mut Draw, case: &Case) -> Case {
     let mut harder = *case;
     let which = draw.from(1, 31);
@@ -56,6 +56,7 @@ fn harder(draw: &mut Draw, case: &Case) -> Case {
     harder
 }
 
+// SHAPE-1.
 fn no_better_under_more_load(draw: &mut Draw, tally: &mut Tally, case: &Case, answer: &Answer) -> u64 {
     let harder = harder(draw, case);
     // With fewer lanes F may fall below its lower end.
@@ -64,6 +65,7 @@ fn no_better_under_more_load(draw: &mut Draw, tally: &mut Tally, case: &Case, an
     1
 }
 
+// SHAPE-2, VOLUME-1, VOLUME-2.
 fn volumes_are_what_demands_meet(draw: &mut Draw, tally: &mut Tally, case: &Case, answer: &Answer) {
     let centre = draw.one_of(&answer.volumes);
     let demand = match draw.from(0, 3) {
@@ -80,6 +82,7 @@ fn volumes_are_what_demands_meet(draw: &mut Draw, tally: &mut Tally, case: &Case
     }
 }
 
+// SHAPE-3.
 fn lanes_are_the_least(draw: &mut Draw, tally: &mut Tally, case: &Case) {
     let letter = draw.from(1, 5) as u32;
     let meets = |lanes: &u64| ask(&Case { lanes: *lanes, ..*case }).is_ok_and(|answer| answer.letter <= letter);
@@ -87,7 +90,7 @@ fn lanes_are_the_least(draw: &mut Draw, tally: &mut Tally, case: &Case) {
     tally.equal(engine::lanes_text(&line_of(case), letter), least, || format!("lanes for letter {letter}, {case:?}"));
 }
 
-// The greatest demand of the older reader.
+// LINE-7: the greatest demand of the older reader.
 const OLDER_GREATEST_DEMAND: u64 = 99_999;
 
 // A demand's field, or nothing.
@@ -95,7 +98,7 @@ fn demand_field(line: &[u8]) -> &[u8] {
     line.split(|&byte| byte == b'\t').nth(DEMAND_FIELD).unwrap_or(b"")
 }
 
-// Hands back 1 where a six-digit demand, which the older reader refused, is well formed now.
+// LINE-7: hands back 1 where a six-digit demand, which the older reader refused, is well formed now.
 fn read_as_before(method: &Method, draw: &mut Draw, tally: &mut Tally, line: &[u8]) -> u64 {
     let letter = draw.from(1, 5) as u32;
     let (answer, lanes) = (engine::answer_text(line), engine::lanes_text(line, letter));
@@ -115,7 +118,7 @@ fn read_as_before(method: &Method, draw: &mut Draw, tally: &mut Tally, line: &[u
     u64::from(!malformed)
 }
 
-// "The service volumes [...] range over the longer interval", and none of them is in the part that is new.
+// VOLUME-2, ANSWER-2: service volumes range up to 999,999, and none of them is above the greatest demand of the older reader.
 fn volumes_as_before(tally: &mut Tally, case: &Case, answer: &Answer) {
     let before = answer.volumes.iter().all(|&volume| volume <= OLDER_GREATEST_DEMAND);
     tally.check(before, || format!("a service volume above {OLDER_GREATEST_DEMAND}, {case:?}"));

@@ -1,4 +1,4 @@
-// Buffers of numbers as they are lent to a call, with numbers on both sides that it must keep, and what a call makes of them.
+// CALL-5, TEXT-5: buffers of numbers as they are lent to a call, with numbers on both sides that it must keep, and what a call makes of them.
 
 use super::draw::Draw;
 use super::tally::Tally;

@@ -1,4 +1,5 @@
-// Random lines through the program los. The input is bytes: a damaged line may hold a newline, and is then two lines to both.
+// LOS-1 to LOS-3, TEXT-2, TEXT-3: random lines through the program los. The input is bytes: a damaged line may hold a newline, and is then two lines
+// to both.
 
 use super::draw::{draw_line, Draw};
 use super::tally::Tally;
@@ -10,9 +11,10 @@ use std::thread;
 
 const LINES: u64 = 250_000;
 const LINE: &[u8] = b"F\tE\t75400\t110\t20\t0\tD\t24\t2\t2000\t920\t50\tR";
+// LINE-5: at and past 80 bytes.
 const LONG: [u64; 8] = [79, 80, 81, 82, 1_000, 4_096, 65_536, 300_000];
 
-// Writes an input in pieces of random length, so that lines lie across them.
+// LOS-3: writes an input in pieces of random length, so that lines lie across them.
 fn feed(mut pipe: impl Write, input: &[u8], mut draw: Draw) {
     let mut rest = input;
     while !rest.is_empty() {
@@ -71,7 +73,7 @@ pub fn random_lines(method: &Method, draw: &mut Draw, tally: &mut Tally, path: &
     let mut input = many_lines(method, draw);
     input.extend_from_slice(LINE);
     compare(method, tally, path, &input);
-    // Ends by themselves, after one line, after two lines and before a line.
+    // LOS-1: ends by themselves, after one line, after two lines and before a line.
     for ending in [&b""[..], b"\n", b"\n\n", b"\r\n", b"\0", b"\n\0"] {
         for input in [ending, &[LINE, ending].concat(), &[LINE, b"\n", LINE, ending].concat(), &[ending, LINE].concat()] {
             compare(method, tally, path, input);

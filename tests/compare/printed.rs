@@ -1,5 +1,5 @@
-// Daily service volumes of E that source document 001 prints, beside the engine's: tests/published/daily_volumes.tsv, whose header says how
-// near they must come. The order of the source's rows is checked by its own step.
+// DAILY-2, FIGURE-1: published daily service volumes of E beside the engine's: tests/published/daily_volumes.tsv, whose header says who printed
+// them and how near ours must come. The order of the source's rows is checked by its own step.
 
 use super::engine;
 use super::tally::Tally;
@@ -13,7 +13,7 @@ const VOLUMES: &str = "tests/published/daily_volumes.tsv";
 const SECTIONS: &str = "tests/published/sections.tsv";
 
 // Of a section's row: where its heavy share stands, and how many fields its line has, at the end.
-const HEAVY: usize = 5;
+const HEAVY: usize = 3;
 const LINE_FIELDS: usize = 13;
 
 // Passenger cars at capacity, on each lane.
@@ -54,7 +54,7 @@ fn section(row: &[String]) -> Option<(String, Section)> {
 }
 
 fn printed(row: &[String]) -> Option<Printed> {
-    let [section, _, peak_share, direction_share, volume, differs] = row else { return None };
+    let [section, peak_share, direction_share, volume, differs] = row else { return None };
     Some(Printed {
         section: section.clone(),
         peak_share: peak_share.parse().ok()?,

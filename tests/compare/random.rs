@@ -1,4 +1,4 @@
-// Random lines, sound and damaged, with buffers of random length and content.
+// ANSWER-1, LANES-1, LINE-1 to LINE-6: random lines, sound and damaged, with buffers of random length and content.
 
 use super::draw::{draw_accepted_case, draw_line, Draw, DEMAND_FIELD, NUMBER_FIELDS};
 use super::engine;
@@ -8,14 +8,14 @@ use crate::second::method::Method;
 
 const LETTERS: [u32; 14] = [1, 2, 3, 4, 5, 0, 6, 7, 255, 256, 257, 65_537, 0x8000_0001, u32::MAX];
 
-// What must come up in a run of a million: every letter, lane count and refusal of a line.
+// LETTER-1, LETTER-2, ORDER-2, LANES-3: what must come up in a run of a million: every letter, lane count and refusal of a line.
 const OUTCOMES: [&str; 27] = [
     "A", "B", "C", "D", "E", "F", "2", "3", "4", "5", "6", "7", "8", "X1", "X2", "X3", "X4", "X5", "X6", "X8", "X9", "X10", "X14", "X15",
     "X16", "X17", "X19",
 ];
 const LEAST_OF_EACH: u64 = 1_000;
 
-// Lines with six digits in each field of a number and with seven in the demand's must come up too.
+// LINE-2: lines with six digits in each field of a number and with seven in the demand's must come up too.
 const LEAST_OF_EACH_FIELD: u64 = 100;
 
 // Bytes on both sides of a lent buffer.
@@ -72,7 +72,8 @@ pub struct Random<'a> {
 }
 
 impl Random<'_> {
-    // One call over a line: results, buffers and what is around them must be equal. Letter None asks for the answer.
+    // CALL-1 to CALL-5, TEXT-1, TEXT-2, TEXT-5: one call over a line: results, buffers and what is around them must be equal. Letter None asks for
+    // the answer.
     fn call(&mut self, line: &[u8], letter: Option<u32>, ours: &mut Vec<u8>, theirs: &mut Vec<u8>) {
         draw_buffer(&mut self.draw, ours);
         theirs.clone_from(ours);
@@ -118,7 +119,7 @@ impl Random<'_> {
         self.outcomes.cover(&mut self.tally, &names, LEAST_OF_EACH_FIELD);
     }
 
-    // The second implementation's own search for service volumes against trying every demand.
+    // VOLUME-2: the second implementation's own search for service volumes against trying every demand.
     pub fn every_demand(&mut self, count: u64) {
         for _ in 0..count {
             let case = draw_accepted_case(&mut self.draw, self.method);

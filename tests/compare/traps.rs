@@ -1,6 +1,5 @@
-// The traps that document 01 names, three of clearances, five of weather, two of the ramp term and two of the demand (document 02, T-02,
-// T-03, T-08 and T-09). Each is written out as a formula, with an input at which it answers something else: both implementations must give
-// the right answer there, and the trap its wrong one.
+// Traps: readings of a rule that are near at hand and wrong. Each is written out as a formula, with an input at which it answers something else:
+// both implementations must give the right answer there, and the trap its wrong one.
 
 use super::engine;
 use super::tally::Tally;
@@ -20,22 +19,25 @@ struct Trap {
 }
 
 const TRAPS: &[Trap] = &[
+    // FLOW-2.
     Trap {
-        name: "dividing by the share instead of multiplying",
+        name: "the flow divided by the heavy factor",
         letter: 0,
         line: "F E 75400 110 20 0 D 24 2 2000 920 50 R",
         right: "C 60782 230782 1196 60782 197",
         wrong: "B 60782 230782 989 60782 163",
         formula: divided_by_share,
     },
+    // LETTER-1, CURVE-6.
     Trap {
-        name: "a letter taken from the shown speed",
+        name: "the density by the speed as it is shown",
         letter: 0,
         line: "F G 59000 120 60 60 D 0 2 3970 1000 0 L",
         right: "D 59000 229000 1985 56714 350",
         wrong: "E 59000 229000 1985 56714 351",
         formula: letter_from_shown_speed,
     },
+    // UNIT-2, FFS-1.
     Trap {
         name: "rounding F to 5 mi/h",
         letter: 0,
@@ -44,14 +46,16 @@ const TRAPS: &[Trap] = &[
         wrong: "C 60000 230000 1123 60000 188",
         formula: rounded_to_five,
     },
+    // LANES-1, CASE-3.
     Trap {
-        name: "keeping F while trying another lane count",
+        name: "every lane count with the F of the case",
         letter: 1,
         line: "F E 70000 120 0 0 D 0 2 3000 1000 0 L",
         right: "4",
         wrong: "5",
         formula: kept_free_flow_speed,
     },
+    // CURVE-2.
     Trap {
         name: "the freeway breakpoint on kind M",
         letter: 0,
@@ -60,6 +64,7 @@ const TRAPS: &[Trap] = &[
         wrong: "C 60000 220000 1533 60000 256",
         formula: freeway_breakpoint,
     },
+    // FFS-4, FFS-9.
     Trap {
         name: "right clearance cut down to whole feet",
         letter: 0,
@@ -68,6 +73,7 @@ const TRAPS: &[Trap] = &[
         wrong: "A 69400 239400 0 69400 0",
         formula: cut_to_whole_feet,
     },
+    // FFS-5, FFS-9.
     Trap {
         name: "the first entry's slope over the whole row",
         letter: 0,
@@ -76,6 +82,7 @@ const TRAPS: &[Trap] = &[
         wrong: "A 57600 215200 500 57600 87",
         formula: first_slope,
     },
+    // FFS-5.
     Trap {
         name: "each side of the total clearance interpolated alone",
         letter: 0,
@@ -84,6 +91,7 @@ const TRAPS: &[Trap] = &[
         wrong: "A 59250 218500 500 59250 85",
         formula: sides_alone,
     },
+    // WEATHER-3.
     Trap {
         name: "b rounded down after each factor",
         letter: 0,
@@ -92,6 +100,7 @@ const TRAPS: &[Trap] = &[
         wrong: "D 67855 224059 1767 61999 286",
         formula: breakpoint_rounded_twice,
     },
+    // WEATHER-3.
     Trap {
         name: "b from the F before the factor",
         letter: 0,
@@ -100,6 +109,7 @@ const TRAPS: &[Trap] = &[
         wrong: "D 57000 227000 1900 55685 342",
         formula: breakpoint_before_factor,
     },
+    // WEATHER-3.
     Trap {
         name: "c from the F before the factor",
         letter: 0,
@@ -108,6 +118,7 @@ const TRAPS: &[Trap] = &[
         wrong: "C 52272 180009 1196 52236 229",
         formula: capacity_before_factor,
     },
+    // WEATHER-2, FFS-10.
     Trap {
         name: "the factor before the upper end",
         letter: 0,
@@ -116,6 +127,7 @@ const TRAPS: &[Trap] = &[
         wrong: "C 75000 240000 1500 72236 208",
         formula: factor_before_upper_end,
     },
+    // ORDER-2, REFUSAL-19.
     Trap {
         name: "19 after 10",
         letter: 0,
@@ -124,6 +136,7 @@ const TRAPS: &[Trap] = &[
         wrong: "X 10",
         formula: weather_after_speed,
     },
+    // FFS-8.
     Trap {
         name: "the ramp term rounded down",
         letter: 0,
@@ -132,6 +145,7 @@ const TRAPS: &[Trap] = &[
         wrong: "C 60783 230783 1196 60783 197",
         formula: ramp_term_rounded_down,
     },
+    // FFS-8.
     Trap {
         name: "the ramp term rounded up",
         letter: 0,
@@ -140,6 +154,7 @@ const TRAPS: &[Trap] = &[
         wrong: "B 65054 235054 1000 65054 154",
         formula: ramp_term_rounded_up,
     },
+    // LINE-2, CASE-2.
     Trap {
         name: "a demand above 99,999 taken as 99,999",
         letter: 0,
@@ -148,6 +163,7 @@ const TRAPS: &[Trap] = &[
         wrong: "F 60782 230782 59783 0 0",
         formula: demand_at_most_99999,
     },
+    // LINE-2.
     Trap {
         name: "a demand's sixth digit left out",
         letter: 0,
@@ -231,8 +247,8 @@ fn first_slope(method: &Method, case: &Case) -> String {
 }
 
 fn sides_alone(method: &Method, case: &Case) -> String {
-    let [none, right, left] = [(60, 60), (case.right, 60), (60, case.left)]
-        .map(|(right, left)| free_flow_speed(method, &Case { right, left, ..*case }));
+    let [none, right, left] =
+        [(60, 60), (case.right, 60), (60, case.left)].map(|(right, left)| free_flow_speed(method, &Case { right, left, ..*case }));
     with_speed(method, case, none - (none - right) - (none - left))
 }
 

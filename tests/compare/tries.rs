@@ -1,4 +1,4 @@
-// How many demands the shipped search for the five service volumes tries, as the call that counts them tells (request T-04): some cases
+// CALL-10: how many demands the shipped search for the five service volumes tries, as the call that counts them tells: some cases
 // with their figures, the vectors, wide freeways, and random lines. What it must count is had from the second implementation's service
 // volumes.
 
@@ -9,10 +9,10 @@ use super::vectors;
 use crate::second::lines;
 use crate::second::method::{Case, Kind, Median, Method, Terrain, Way, Weather, GREATEST_DEMAND};
 
-// "at most 80 demands tried for the five together"
+// TRIES-3: for the five together.
 const MOST: i32 = 80;
 
-// Lines and what the call hands back, the sum of what is tried for E, D, C, B and A. Blanks stand for tabs. The volumes of the first two
+// TRIES-3: lines and what the call hands back, the sum of what is tried for E, D, C, B and A. Blanks stand for tabs. The volumes of the first two
 // are 1117 1829 2642 3360 3858, those of the third 6178 10054 13620 16449 18604.
 const FIGURES: &[(&str, i32)] = &[
     ("F E 75400 110 20 0 D 24 2 2000 920 50 R", 20 + 12 + 12 + 12 + 11),
@@ -25,7 +25,7 @@ const FIGURES: &[(&str, i32)] = &[
     ("", -15),
 ];
 
-// Halving finds the volume among the numbers from 0 to the end: each try halves what is left, and tells whether the volume is in the upper
+// TRIES-1: halving finds the volume among the numbers from 0 to the end: each try halves what is left, and tells whether the volume is in the upper
 // half, which begins at the demand that is tried.
 fn tries_up_to(volume: u64, end: u64) -> i32 {
     fn tries_among(left: u64, place: u64) -> i32 {
@@ -39,7 +39,7 @@ fn tries_up_to(volume: u64, end: u64) -> i32 {
     tries_among(end + 1, volume)
 }
 
-// E up to the greatest demand, then each better letter up to the volume found before.
+// TRIES-2: E up to the greatest demand, then each better letter up to the volume found before.
 fn expected_tries(volumes: [u64; 5]) -> i32 {
     let ends = [volumes[1], volumes[2], volumes[3], volumes[4], GREATEST_DEMAND];
     volumes.iter().zip(ends).map(|(&volume, end)| tries_up_to(volume, end)).sum()
@@ -90,7 +90,7 @@ impl Tries<'_> {
         }
     }
 
-    // The largest volumes: 8 lanes, peak-hour factors from 900 on, few heavy vehicles.
+    // TRIES-3: the largest volumes: 8 lanes, peak-hour factors from 900 on, few heavy vehicles.
     pub fn wide_freeways(&mut self) {
         let mut text = String::new();
         for speed in (55_000..=75_000).step_by(500) {

@@ -1,7 +1,7 @@
 // The vectors that tests/calls.c and rt ci read, as the second implementation answers them.
-//   crates/los/stdout   the answers to the lines of crates/los/stdin
-//   tests/lanes.tsv     a row's first field is the lane count, or minus the refusal number; letter number and line follow
-//   tests/surveys.tsv   a row's first field is the speed, or minus the refusal number; unit, the float's bits, cars and flow follow
+//   crates/los/stdout   ANSWER-1, LOS-2: the answers to the lines of crates/los/stdin
+//   tests/lanes.tsv     LANES-1: a row's first field is the lane count, or minus the refusal number; letter number and line follow
+//   tests/surveys.tsv   SURVEY-3: a row's first field is the speed, or minus the refusal number; unit, the float's bits, cars and flow follow
 // A row that begins with # is a comment.
 
 use super::engine;
@@ -61,7 +61,11 @@ fn lanes(method: &Method) -> Vec<u8> {
         let (letter, line) = cut(rest)?;
         let mut buffer = [0; 64];
         let result = lines::lanes(method, line, number(letter)?, &mut buffer);
-        if result < 0 { Some(result) } else { engine::text(result, &buffer).parse().ok() }
+        if result < 0 {
+            Some(result)
+        } else {
+            engine::text(result, &buffer).parse().ok()
+        }
     })
 }
 

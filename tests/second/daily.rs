@@ -1,4 +1,4 @@
-// Daily traffic in the place of the demand (T-06): the answer to its hourly demand, and the five daily service volumes.
+// Daily traffic in the place of the demand: the answer to its hourly demand, and the five daily service volumes.
 //
 // A daily service volume is searched for over the daily traffic itself, by asking of each that is tried whether its hourly demand meets
 // the letter. Shares are in thousandths.
@@ -7,7 +7,7 @@ use super::figures;
 use super::lines::{parse, MALFORMED};
 use super::method::{flow_rate, last_that_meet, least, Case, Curve, Method, Refusal, GREATEST_DEMAND};
 
-// The numbers of an answer: the eleven figures for the hourly demand, then the daily service volumes A to E.
+// DAILY-3: the numbers of an answer, the eleven figures for the hourly demand, then the daily service volumes A to E.
 pub const FIGURES: usize = 16;
 
 pub const GREATEST_DAILY_TRAFFIC: u64 = 4_000_000_000;
@@ -15,7 +15,7 @@ pub const GREATEST_DAILY_TRAFFIC: u64 = 4_000_000_000;
 const SHARE_UNFIT: Refusal = 20;
 const DAILY_TRAFFIC_TOO_LARGE: Refusal = 21;
 
-// "daily traffic × K × D / 1,000,000, rounded up", for any daily traffic and shares up to 1,000.
+// DAILY-1: daily traffic × K × D / 1,000,000, rounded up, for any daily traffic and shares up to 1,000.
 pub fn hourly_demand(daily_traffic: u64, peak_share: u64, direction_share: u64) -> u64 {
     let product = u128::from(daily_traffic) * u128::from(peak_share) * u128::from(direction_share);
     product.div_ceil(1_000_000) as u64
@@ -47,7 +47,7 @@ impl Section<'_> {
         self.letter(daily_traffic).is_some_and(|got| got <= letter)
     }
 
-    // By halving: one less than the least daily traffic from 0 to 4,000,000,000 that does not meet the letter, or 4,000,000,000 where all
+    // DAILY-2: by halving, one less than the least daily traffic from 0 to 4,000,000,000 that does not meet the letter, or 4,000,000,000 where all
     // meet it. This rests on letters not getting better with more traffic. Daily traffic 0 gets A.
     fn daily_volume(&self, letter: u32) -> u64 {
         let beyond = u32::try_from(GREATEST_DAILY_TRAFFIC + 1).expect("it is below 2^32");
@@ -58,14 +58,14 @@ impl Section<'_> {
         [1, 2, 3, 4, 5].map(|letter| self.daily_volume(letter))
     }
 
-    // The same by plain counting, of every daily traffic from 0 to the last that 7 lets pass, however letters follow each other. Meant for
+    // DAILY-2: the same by plain counting, of every daily traffic from 0 to the last that 7 lets pass, however letters follow each other. Meant for
     // large shares, with which there are few.
     pub fn daily_volumes_by_counting(&self) -> [u64; 5] {
         last_that_meet((0..=GREATEST_DAILY_TRAFFIC).map_while(|daily_traffic| Some((daily_traffic, self.letter(daily_traffic)?))))
     }
 }
 
-// The sixteen numbers, or the first refusal: 15, 20, 21, then that of the case with the hourly demand.
+// DAILY-3, DAILY-6, REFUSAL-20, REFUSAL-21: the sixteen numbers, or the first refusal: 15, 20, 21, then that of the case with the hourly demand.
 fn numbers(method: &Method, line: &[u8], daily_traffic: u64, peak_share: u64, direction_share: u64) -> Result<Vec<u64>, Refusal> {
     let case = parse(line).ok_or(MALFORMED)?;
     if ![peak_share, direction_share].iter().all(|share| (1..=1_000).contains(share)) {
@@ -80,7 +80,7 @@ fn numbers(method: &Method, line: &[u8], daily_traffic: u64, peak_share: u64, di
     Ok([&answer.figures()[..], &volumes].concat())
 }
 
-// Hands back the count of numbers, or minus the first refusal and writes nothing: 17, then those of the line and its numbers.
+// CALL-8, CALL-4: hands back the count of numbers, or minus the first refusal and writes nothing: 17, then those of the line and its numbers.
 pub fn daily(method: &Method, line: &[u8], daily_traffic: u64, peak_share: u32, direction_share: u32, figures: &mut [u64]) -> i32 {
     figures::written(numbers(method, line, daily_traffic, u64::from(peak_share), u64::from(direction_share)), FIGURES, figures)
 }

@@ -6,7 +6,7 @@ use super::method::{Answer, Case, Method, Refusal};
 const MOST_DEMANDS: usize = 24;
 const COUNTS_UNFIT: Refusal = 18;
 
-// The numbers of one position: the refusal or 0, then the eleven figures of the answer or zeros.
+// DAY-2, DAY-3: the numbers of one position, the refusal or 0, then the eleven figures of the answer or zeros.
 pub const POSITION: usize = 12;
 
 fn numbers(answer: Result<Answer, Refusal>) -> [u64; POSITION] {
@@ -18,7 +18,7 @@ fn numbers(answer: Result<Answer, Refusal>) -> [u64; POSITION] {
     numbers
 }
 
-// Hands back the count of demands, or minus the first refusal of the whole call and writes nothing: 18, 15.
+// DAY-1, CALL-7, CALL-4, REFUSAL-18: hands back the count of demands, or minus the first refusal of the whole call and writes nothing: 18, 15.
 pub fn day(method: &Method, line: &[u8], demands: &[u64], answers: &mut [u64]) -> i32 {
     if !(1..=MOST_DEMANDS).contains(&demands.len()) || answers.len() < POSITION * demands.len() {
         return -COUNTS_UNFIT;

@@ -1,14 +1,14 @@
-// The manual's speed curve of a multilane highway (kind M), with the exact exponent 1.31, stated by whole powers alone (T-05).
+// ACCURACY-1: the manual's speed curve of a multilane highway (kind M), with the exact exponent 1.31, stated by whole powers alone.
 //
 // Exports at_most_curve, whether a speed is at most the curve, and whole_thousandths_below, how far below the curve it lies.
 //
-// Units: speeds in thousandths of mi/h, capacity c and breakpoint b in hundredths of passenger cars per hour per lane, flow rates in whole
+// UNIT-1: speeds in thousandths of mi/h, capacity c and breakpoint b in hundredths of passenger cars per hour per lane, flow rates in whole
 // passenger cars per hour per lane.
 
 use super::big::Big;
 use super::method::Kind;
 
-// Whether a speed s is at most the curve's value at F and v, for 45,000 ≤ F ≤ 70,000 and 100v ≤ c.
+// ACCURACY-1: whether a speed s is at most the curve's value at F and v, for 45,000 ≤ F ≤ 70,000 and 100v ≤ c.
 //
 // Up to 100v = b the curve is F. Beyond b the question is whether s ≤ F − (F − 10c/45) × ((100v − b) / (c − b))^1.31. Moving s and the
 // product to the other sides, and multiplying by 45, this is (45F − 10c) × ((100v − b) / (c − b))^1.31 ≤ 45 × (F − s).
@@ -30,7 +30,7 @@ pub fn at_most_curve(free_flow_speed: u64, flow_rate: u64, speed: u64) -> bool {
     drop_on_curve <= drop_of_speed
 }
 
-// How many whole thousandths a speed lies below the curve: the greatest k with speed + k at most the curve. None where the speed is above
+// ACCURACY-2: how many whole thousandths a speed lies below the curve, the greatest k with speed + k at most the curve. None where the speed is above
 // the curve. Each k is tried from 0 up, which is meant for speeds near the curve.
 pub fn whole_thousandths_below(free_flow_speed: u64, flow_rate: u64, speed: u64) -> Option<u64> {
     (0..).take_while(|k| at_most_curve(free_flow_speed, flow_rate, speed + k)).last()

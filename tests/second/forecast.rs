@@ -1,4 +1,4 @@
-// Forecasts known within ranges (T-07): the best and the worst letter over all whole combinations of a demand, a heavy share and a
+// Forecasts known within ranges: the letters nearest to A and to F that any whole combination gets of a demand, a heavy share and a
 // peak-hour factor within their ends, each with the combination at which it is shown.
 //
 // Where there are few combinations, each is tried, however letters follow each other. Where there are many, the two shown ones are tried,
@@ -9,7 +9,7 @@ use super::lines::{parse, MALFORMED};
 use super::method::{flow_rate, planner_refusal, Case, Curve, Method, Refusal};
 use std::ops::RangeInclusive;
 
-// The numbers of an answer: the best letter, its demand, share and factor, then the worst letter, its demand, share and factor.
+// FORECAST-3: the numbers of an answer, the best letter, its demand, share and factor, then the worst letter, its demand, share and factor.
 pub const FIGURES: usize = 8;
 
 // Up to so many combinations are all tried.
@@ -17,10 +17,10 @@ pub const MOST_TRIED: u64 = 5_000;
 
 const ENDS_REVERSED: Refusal = 22;
 
-// The refusals of a well-formed line and its ranges, in their order: those of a case, and 22 "before 7".
+// FORECAST-4: the refusals of a well-formed line and its ranges, in their order, those of a case and 22 before 7.
 const ORDER: [Refusal; 12] = [1, 2, 3, 4, 5, 6, ENDS_REVERSED, 7, 8, 9, 19, 10];
 
-// The low and the high end of a range.
+// FORECAST-1: the low and the high end of a range.
 pub type Ends = [u64; 2];
 
 #[derive(Clone, Copy, PartialEq, Eq, Debug)]
@@ -38,7 +38,7 @@ pub struct Combination {
 }
 
 impl Combination {
-    // A case with this combination in the place of its own.
+    // CASE-3: a case with this combination in the place of its own.
     pub fn of(&self, case: &Case) -> Case {
         let Combination { demand, share, factor } = *self;
         Case { demand, share, factor, ..*case }
@@ -54,11 +54,12 @@ impl Ranges {
         [self.demand, self.share, self.factor]
     }
 
+    // REFUSAL-22.
     fn reversed(&self) -> bool {
         self.all().iter().any(|[low, high]| low > high)
     }
 
-    // "the best is shown at low demand, low share and high peak factor, the worst at the opposite ends"
+    // FORECAST-3: the two combinations that are shown.
     pub fn shown(&self) -> [Combination; 2] {
         let Ranges { demand: [demand_low, demand_high], share: [share_low, share_high], factor: [factor_low, factor_high] } = *self;
         let best = Combination { demand: demand_low, share: share_low, factor: factor_high };
@@ -66,12 +67,12 @@ impl Ranges {
         [best, worst]
     }
 
-    // How many combinations there are, of ranges that 22 and 7 to 9 do not refuse.
+    // FORECAST-1: how many combinations there are, of ranges that 22 and 7 to 9 do not refuse.
     pub fn count(&self) -> u64 {
         self.all().iter().map(|[low, high]| high - low + 1).product()
     }
 
-    // "all whole combinations within the ends"
+    // FORECAST-1: all of them.
     fn combinations(&self) -> impl Iterator<Item = Combination> {
         let Ranges { demand, share, factor } = *self;
         let pairs = within(demand).flat_map(move |demand| within(share).map(move |share| (demand, share)));
@@ -79,7 +80,8 @@ impl Ranges {
     }
 }
 
-// The first refusal in the order. The two shown combinations have both ends of each range between them, and each brings its own first.
+// FORECAST-4, ORDER-1: the first refusal in the order. The two shown combinations have both ends of each range between them, and each brings its
+// own first.
 fn refusal(method: &Method, case: &Case, ranges: &Ranges) -> Option<Refusal> {
     let [at_best, at_worst] = ranges.shown().map(|combination| {
         let case = combination.of(case);
@@ -112,7 +114,7 @@ impl Forecast<'_> {
         self.method.letter(&self.curve, flow_rate(&combination.of(&self.case)))
     }
 
-    // The best and the worst letter of all combinations, each tried.
+    // FORECAST-2: the best and the worst letter of all combinations, each tried.
     pub fn letters_by_every_combination(&self) -> [u32; 2] {
         let letters = self.ranges.combinations().map(|combination| [self.letter(&combination); 2]);
         let met = letters.reduce(|[best, worst], [letter, _]| [best.min(letter), worst.max(letter)]);
@@ -138,7 +140,7 @@ impl Forecast<'_> {
     }
 }
 
-// Hands back the count of numbers, or minus the first refusal and writes nothing: 17, then those of the line and its ranges.
+// CALL-9, CALL-4: hands back the count of numbers, or minus the first refusal and writes nothing: 17, then those of the line and its ranges.
 pub fn forecast(method: &Method, line: &[u8], ranges: &Ranges, figures: &mut [u64]) -> i32 {
     figures::written(Forecast::new(method, line, ranges).map(|forecast| forecast.numbers()), FIGURES, figures)
 }

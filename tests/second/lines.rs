@@ -2,6 +2,7 @@
 
 use super::method::{Case, Kind, Median, Method, Refusal, Terrain, Way, Weather, LETTER_E};
 
+// LINE-5, TEXT-4.
 const LONGEST_LINE: usize = 80;
 const LEAST_BUFFER: usize = 64;
 
@@ -9,12 +10,12 @@ pub const MALFORMED: Refusal = 15;
 const LETTER_UNKNOWN: Refusal = 16;
 pub const BUFFER_TOO_SHORT: Refusal = 17;
 
-// How many digits a number has at most: a demand, one that an older reader takes (before T-09), and every other number.
+// LINE-2, LINE-7: how many digits a number has at most, a demand, one that an older reader takes, and every other number.
 const DEMAND_DIGITS: usize = 6;
 const OLDER_DEMAND_DIGITS: usize = 5;
 const DIGITS: usize = 5;
 
-// Some digits with no leading zero, save 0 itself.
+// LINE-2: some digits; 0 begins a number only as its one digit.
 fn number_of(field: &[u8], most_digits: usize) -> Option<u64> {
     let well_formed = match field {
         [b'0'] => true,
@@ -28,13 +29,13 @@ fn number(field: &[u8]) -> Option<u64> {
     number_of(field, DIGITS)
 }
 
-// The meaning of a field of one letter.
+// LINE-3: the meaning of a field of one letter.
 fn choice<T: Copy>(field: &[u8], meanings: &[(u8, T)]) -> Option<T> {
     let [letter] = field else { return None };
     meanings.iter().find(|(known, _)| known == letter).map(|(_, meaning)| *meaning)
 }
 
-// The fields after the terrain. "Lines of 13 fields mean 1,000 for both."
+// LINE-4: the fields after the terrain.
 fn weather(fields: &[&[u8]]) -> Option<Weather> {
     match fields {
         [] => Some(Weather::CLEAR),
@@ -43,6 +44,7 @@ fn weather(fields: &[&[u8]]) -> Option<Weather> {
     }
 }
 
+// LINE-1, LINE-6, REFUSAL-15.
 fn parse_with(line: &[u8], demand_digits: usize) -> Option<Case> {
     if line.len() > LONGEST_LINE {
         return None;
@@ -73,7 +75,7 @@ pub fn parse(line: &[u8]) -> Option<Case> {
     parse_with(line, DEMAND_DIGITS)
 }
 
-// "an older reader meets a six-digit demand with refusal 15"
+// LINE-7: a six-digit demand is malformed to it.
 pub fn parse_as_older_reader(line: &[u8]) -> Option<Case> {
     parse_with(line, OLDER_DEMAND_DIGITS)
 }
@@ -82,7 +84,7 @@ pub fn letter_name(letter: u32) -> char {
     [' ', 'A', 'B', 'C', 'D', 'E', 'F'][letter as usize]
 }
 
-// What is answered to what a reader made of a line.
+// TEXT-1, TEXT-2: what is answered to what a reader made of a line.
 fn answer_text(method: &Method, case: Option<Case>) -> Result<String, Refusal> {
     let answer = method.answer(&case.ok_or(MALFORMED)?)?;
     let [a, b, c, d, e] = answer.service_volumes;
@@ -97,6 +99,7 @@ fn answer_text(method: &Method, case: Option<Case>) -> Result<String, Refusal> {
     ))
 }
 
+// LANES-3, REFUSAL-16: the letter is asked after the line.
 fn lanes_text(method: &Method, case: Option<Case>, letter: u32) -> Result<String, Refusal> {
     let case = case.ok_or(MALFORMED)?;
     if !(1..=LETTER_E).contains(&letter) {
@@ -105,7 +108,7 @@ fn lanes_text(method: &Method, case: Option<Case>, letter: u32) -> Result<String
     method.lanes(&case, letter).map(|lanes| format!("{lanes}\n"))
 }
 
-// Writes a text and hands back its length, or hands back minus the refusal and writes nothing.
+// CALL-3, CALL-5, TEXT-5: writes a text and hands back its length, or hands back minus the refusal and writes nothing.
 fn written(text: Result<String, Refusal>, buffer: &mut [u8]) -> i32 {
     match text {
         Ok(text) => {
@@ -116,6 +119,7 @@ fn written(text: Result<String, Refusal>, buffer: &mut [u8]) -> i32 {
     }
 }
 
+// CALL-1, CALL-4, REFUSAL-17.
 pub fn answer(method: &Method, line: &[u8], buffer: &mut [u8]) -> i32 {
     if buffer.len() < LEAST_BUFFER {
         return -BUFFER_TOO_SHORT;
@@ -123,6 +127,7 @@ pub fn answer(method: &Method, line: &[u8], buffer: &mut [u8]) -> i32 {
     written(answer_text(method, parse(line)), buffer)
 }
 
+// CALL-2, CALL-4, REFUSAL-17.
 pub fn lanes(method: &Method, line: &[u8], letter: u32, buffer: &mut [u8]) -> i32 {
     if buffer.len() < LEAST_BUFFER {
         return -BUFFER_TOO_SHORT;
@@ -130,7 +135,7 @@ pub fn lanes(method: &Method, line: &[u8], letter: u32, buffer: &mut [u8]) -> i3
     written(lanes_text(method, parse(line), letter), buffer)
 }
 
-// The lines of an input: a last line without newline counts, an empty input has none.
+// LOS-1: the lines of an input; bytes behind the last newline are one, an empty input has none.
 pub fn input_lines(input: &[u8]) -> Vec<&[u8]> {
     let mut lines: Vec<&[u8]> = input.split(|&byte| byte == b'\n').collect();
     if lines.last().is_some_and(|rest| rest.is_empty()) {
@@ -139,16 +144,17 @@ pub fn input_lines(input: &[u8]) -> Vec<&[u8]> {
     lines
 }
 
+// TEXT-3.
 fn printed(text: Result<String, Refusal>) -> String {
     text.unwrap_or_else(|number| format!("X\t{number}\n"))
 }
 
-// What los prints for a line.
+// LOS-2: what los prints for a line.
 pub fn los_line(method: &Method, line: &[u8]) -> String {
     printed(answer_text(method, parse(line)))
 }
 
-// With the older reader, what los prints for a line, and the lanes question in the same form.
+// LINE-7: with the older reader, what los prints for a line, and the lanes question in the same form.
 pub fn los_line_as_before(method: &Method, line: &[u8]) -> String {
     printed(answer_text(method, parse_as_older_reader(line)))
 }

@@ -1,8 +1,6 @@
 // The answer to a case, and the lanes question.
 //
-// Units: speeds in thousandths of mi/h, capacity and breakpoint in hundredths of passenger cars per hour per lane, flow rates in whole
-// passenger cars per hour per lane, densities in tenths of a passenger car per mile per lane, lengths in tenths of a foot, peak-hour
-// factor, heavy share and weather factors in thousandths.
+// Each figure is in its unit of UNIT-1.
 
 use super::big::Big;
 use std::ops::RangeInclusive;
@@ -10,17 +8,17 @@ use std::sync::OnceLock;
 
 pub const GREATEST_DEMAND: u64 = 999_999;
 
-// Letters by number: A is 1, F is 6.
+// LETTER-3: letters by number, A is 1, F is 6.
 pub const LETTER_E: u32 = 5;
 pub const LETTER_F: u32 = 6;
 
-// The greatest density of the letters A to E.
+// LETTER-1: the greatest density of the letters A to E.
 const DENSITY_LIMITS: [u64; 5] = [110, 180, 260, 350, 450];
 
 // A row of a clearance table: points of a clearance, in tenths of a foot, and what it takes off.
 type Row = [(i64, i64); 7];
 
-// Right clearance at 6, 5, 4, 3, 2, 1 and 0 feet, for 2, 3, 4, and 5 and more lanes.
+// FFS-4: right clearance at 6, 5, 4, 3, 2, 1 and 0 feet, for 2, 3, 4, and 5 and more lanes.
 const RIGHT_CLEARANCE: [Row; 4] = [
     [(60, 0), (50, 600), (40, 1_200), (30, 1_800), (20, 2_400), (10, 3_000), (0, 3_600)],
     [(60, 0), (50, 400), (40, 800), (30, 1_200), (20, 1_600), (10, 2_000), (0, 2_400)],
@@ -28,7 +26,7 @@ const RIGHT_CLEARANCE: [Row; 4] = [
     [(60, 0), (50, 100), (40, 200), (30, 300), (20, 400), (10, 500), (0, 600)],
 ];
 
-// Total clearance at 12, 10, 8, 6, 4, 2 and 0 feet, for 2 and for 3 lanes.
+// FFS-5: total clearance at 12, 10, 8, 6, 4, 2 and 0 feet, for 2 and for 3 lanes.
 const TOTAL_CLEARANCE: [Row; 2] = [
     [(120, 0), (100, 400), (80, 900), (60, 1_300), (40, 1_800), (20, 3_600), (0, 5_400)],
     [(120, 0), (100, 400), (80, 900), (60, 1_300), (40, 1_700), (20, 2_800), (0, 3_900)],
@@ -68,6 +66,7 @@ pub struct Weather {
     pub capacity_factor: u64,
 }
 
+// CASE-1, CASE-2: a road's eight fields, of which `access` is ramps or access points, and what is put on it.
 #[derive(Clone, Copy, PartialEq, Eq, Debug)]
 pub struct Case {
     pub kind: Kind,
@@ -86,6 +85,7 @@ pub struct Case {
     pub weather: Weather,
 }
 
+// ANSWER-1: the eleven figures.
 #[derive(Clone, Copy, PartialEq, Eq, Debug)]
 pub struct Answer {
     pub letter: u32,
@@ -116,7 +116,7 @@ pub struct Service {
 
 pub type Refusal = i32;
 
-// A fraction that is not negative.
+// UNIT-2, UNIT-3: a fraction that is not negative, exact until it is rounded.
 #[derive(Clone, Copy)]
 pub struct Fraction {
     over: u128,
@@ -162,7 +162,7 @@ impl Weather {
 }
 
 impl Kind {
-    // The ends of F before the factors.
+    // KIND-1, FFS-10: the ends of F before the factors.
     pub fn free_flow_speeds(self) -> RangeInclusive<u64> {
         match self {
             Kind::Freeway => 55_000..=75_000,
@@ -170,7 +170,7 @@ impl Kind {
         }
     }
 
-    // "On kind F, free-flow speed after the factors must be at least 50,000 [...]. Kind M keeps its lower end."
+    // WEATHER-2, REFUSAL-10: the lower end of F after its factor.
     pub fn least_speed_after_factors(self) -> u64 {
         match self {
             Kind::Freeway => 50_000,
@@ -178,7 +178,7 @@ impl Kind {
         }
     }
 
-    // "in thousandths from 500 to 1,000"; "Kind M takes 1,000 only."
+    // WEATHER-1, REFUSAL-19: the ends of both factors.
     pub fn weather_factors(self) -> RangeInclusive<u64> {
         match self {
             Kind::Freeway => 500..=1_000,
@@ -186,6 +186,7 @@ impl Kind {
         }
     }
 
+    // KIND-1, REFUSAL-6.
     pub fn lane_counts(self) -> RangeInclusive<u64> {
         match self {
             Kind::Freeway => 2..=8,
@@ -193,6 +194,7 @@ impl Kind {
         }
     }
 
+    // KIND-1, REFUSAL-5.
     pub fn greatest_access(self) -> u64 {
         match self {
             Kind::Freeway => 48,
@@ -200,6 +202,7 @@ impl Kind {
         }
     }
 
+    // CURVE-1: c.
     pub fn capacity(self, free_flow_speed: u64) -> u64 {
         match self {
             Kind::Freeway => 240_000.min(170_000 + free_flow_speed),
@@ -207,6 +210,7 @@ impl Kind {
         }
     }
 
+    // CURVE-2: b.
     pub fn breakpoint(self, free_flow_speed: u64) -> u64 {
         match self {
             Kind::Freeway => 400_000 - 4 * free_flow_speed,
@@ -216,8 +220,7 @@ impl Kind {
 }
 
 impl Curve {
-    // From F after its factor: "c, worked from that F, is multiplied by the second; b is multiplied by the second factor squared. Each
-    // product is rounded down once, at its end."
+    // WEATHER-3: from F after its factor; rounded down behind the last product.
     pub fn new(kind: Kind, free_flow_speed: u64, capacity_factor: u64) -> Curve {
         Curve {
             kind,
@@ -233,14 +236,14 @@ impl Curve {
 }
 
 impl Answer {
-    // The eleven figures in their order, the letter by its number.
+    // ANSWER-1, LETTER-3: the eleven figures in their order, the letter by its number.
     pub fn figures(&self) -> [u64; 11] {
         let Answer { letter, free_flow_speed, capacity, flow_rate, speed, density, service_volumes: [a, b, c, d, e] } = *self;
         [u64::from(letter), free_flow_speed, capacity, flow_rate, speed, density, a, b, c, d, e]
     }
 }
 
-// The passenger cars of a thousand vehicles. The truck equivalent E is 2 on level terrain, 3 on rolling.
+// FLOW-1: the passenger cars of a thousand vehicles. The truck equivalent E is 2 on level terrain, 3 on rolling.
 pub fn passenger_cars(case: &Case) -> u64 {
     let equivalent = match case.terrain {
         Terrain::Level => 2,
@@ -249,11 +252,12 @@ pub fn passenger_cars(case: &Case) -> u64 {
     1_000 + case.share * (equivalent - 1)
 }
 
+// FLOW-2: v.
 pub fn flow_rate(case: &Case) -> u64 {
     (case.demand * passenger_cars(case)).div_ceil(case.factor * case.lanes)
 }
 
-// The first of the refusals 1 to 9, in the order of the numbers, then 19.
+// REFUSAL-1 to REFUSAL-9, REFUSAL-19, ORDER-2: the first of 1 to 9, in the order of the numbers, then 19.
 pub fn planner_refusal(case: &Case) -> Option<Refusal> {
     let Case { kind, weather, .. } = *case;
     let weather_fits = [weather.speed_factor, weather.capacity_factor].iter().all(|factor| kind.weather_factors().contains(factor));
@@ -272,7 +276,7 @@ pub fn planner_refusal(case: &Case) -> Option<Refusal> {
     refusals.iter().find(|(_, holds)| *holds).map(|(number, _)| *number)
 }
 
-// 120 or more takes 0 off, 110 to 119 takes 1,900, 100 to 109 takes 6,600.
+// FFS-3: by the lane width.
 fn lane_width_adjustment(width: u64) -> u64 {
     if width >= 120 {
         0
@@ -283,8 +287,8 @@ fn lane_width_adjustment(width: u64) -> u64 {
     }
 }
 
-// "linear between the entries, in tenths, with no cutting down. All results are whole." The clearance x lies between two neighbouring
-// points, and the straight line through them takes y0 + (y1 − y0) × (x − x0) / (x1 − x0) off.
+// FFS-9: the clearance x lies between two neighbouring points, and the straight line through them takes
+// y0 + (y1 − y0) × (x − x0) / (x1 − x0) off, which is whole.
 fn interpolated(row: &Row, clearance: u64) -> u64 {
     let x = clearance as i64;
     let neighbours = row.iter().zip(&row[1..]).find(|&(&(x0, _), &(x1, _))| x0 >= x && x >= x1);
@@ -294,16 +298,18 @@ fn interpolated(row: &Row, clearance: u64) -> u64 {
     (y0 + over / under) as u64
 }
 
+// FFS-4.
 fn right_clearance_adjustment(right: u64, lanes: u64) -> u64 {
     interpolated(&RIGHT_CLEARANCE[lanes.min(5) as usize - 2], right.min(GREATEST_CLEARANCE))
 }
 
-// Right plus left, each at most 60 tenths; left counts as 60 for medians U and T.
+// FFS-5: a side counts up to 60, the left as 60 but with median D.
 fn total_clearance_adjustment(case: &Case) -> u64 {
     let left = if case.median == Median::Divided { case.left.min(GREATEST_CLEARANCE) } else { GREATEST_CLEARANCE };
     interpolated(&TOTAL_CLEARANCE[case.lanes as usize - 2], case.right.min(GREATEST_CLEARANCE) + left)
 }
 
+// FFS-6.
 fn median_adjustment(median: Median) -> u64 {
     if median == Median::Undivided {
         1_600
@@ -312,11 +318,12 @@ fn median_adjustment(median: Median) -> u64 {
     }
 }
 
+// FFS-7.
 fn access_adjustment(points: u64) -> u64 {
     (250 * points).min(10_000)
 }
 
-// The least whole number from 0 to `most` for which a condition holds that holds from there on.
+// UNIT-4: the least whole number from 0 to `most` for which a condition holds that holds from there on.
 pub fn least(most: u32, holds: impl Fn(u32) -> bool) -> u32 {
     let (mut low, mut high) = (0, most);
     while low < high {
@@ -330,7 +337,7 @@ pub fn least(most: u32, holds: impl Fn(u32) -> bool) -> u32 {
     low
 }
 
-// "the whole t with (2t − 1)^25 × 6^21 ≤ 6,440^25 × k^21 < (2t + 1)^25 × 6^21, and 0 for k = 0". The least t with the second inequality
+// FFS-8: 0 for k = 0, else the whole t with (2t − 1)^25 × 6^21 ≤ 6,440^25 × k^21 < (2t + 1)^25 × 6^21. The least t with the second inequality
 // is found, and must have the first. It is not 0, since 6,440^25 × k^21 is above 6^21 from k = 1 on.
 fn ramp_term(ramps: u32) -> u64 {
     if ramps == 0 {
@@ -343,7 +350,7 @@ fn ramp_term(ramps: u32) -> u64 {
     u64::from(t)
 }
 
-// T(i): the least whole t with i^131 × 10^207 ≤ t^100.
+// CURVE-5: T(i), the least whole t with i^131 × 10^207 ≤ t^100.
 fn power_131(i: u32) -> u64 {
     let bound = Big::one().times_power(i, 131).times_power(10, 207);
     u64::from(least(2_000_000, |t| bound <= Big::one().times_power(t, 100)))
@@ -356,7 +363,7 @@ struct Run {
     letter: u32,
 }
 
-// The greatest demand that gets a letter or a better one. From the last run of such letters down: the greatest demand whose flow rate is
+// VOLUME-2: the greatest demand that gets a letter or a better one. From the last run of such letters down: the greatest demand whose flow rate is
 // at most the run's last is the answer, unless its flow rate lies before the run, and then no demand's flow rate lies in it. This rests on
 // flow rates rising with demand, not on letters worsening with flow rates.
 fn service_volume(runs: &[Run], case: &Case, letter: u32) -> u64 {
@@ -399,7 +406,7 @@ impl Method {
         self.powers[i as usize]
     }
 
-    // What width, clearance, ramps, median and access take off the base speed.
+    // FFS-2: what width, clearance, ramps, median and access take off the base speed.
     pub fn adjustments(&self, case: &Case) -> u64 {
         let width = lane_width_adjustment(case.width);
         match case.kind {
@@ -408,8 +415,8 @@ impl Method {
         }
     }
 
-    // F, after its factor, of a case that 1 to 9 and 19 do not refuse, or refusal 10. "F after its upper end becomes F times the first
-    // factor", rounded down.
+    // FFS-1, FFS-10, WEATHER-2, REFUSAL-10: F, after its factor, of a case that 1 to 9 and 19 do not refuse, or refusal 10. The upper end comes
+    // before the factor, and the product is rounded down.
     pub fn free_flow_speed(&self, case: &Case) -> Result<u64, Refusal> {
         let speed = match case.way {
             Way::Given => case.speed,
@@ -431,7 +438,7 @@ impl Method {
         Ok(Curve::new(case.kind, self.free_flow_speed(case)?, case.weather.capacity_factor))
     }
 
-    // S of a flow rate up to capacity, exactly.
+    // CURVE-3 to CURVE-5: S of a flow rate up to capacity, exactly.
     fn speed(&self, curve: &Curve, flow_rate: u64) -> Fraction {
         let (b, c) = (curve.breakpoint, curve.capacity);
         if 100 * flow_rate <= b {
@@ -445,7 +452,7 @@ impl Method {
         speed_at_weight(curve, weight)
     }
 
-    // The letter of a flow rate, from its exact density.
+    // LETTER-1, LETTER-2: the letter of a flow rate, from its exact density.
     pub fn letter(&self, curve: &Curve, flow_rate: u64) -> u32 {
         if 100 * flow_rate > curve.capacity {
             return LETTER_F;
@@ -453,6 +460,7 @@ impl Method {
         letter_of_density(density(self.speed(curve, flow_rate), flow_rate))
     }
 
+    // LETTER-2, CURVE-6, CURVE-7: the letter, with speed and density as they are shown.
     pub fn service(&self, curve: &Curve, flow_rate: u64) -> Service {
         if 100 * flow_rate > curve.capacity {
             return Service { letter: LETTER_F, speed: 0, density: 0 };
@@ -485,7 +493,7 @@ impl Method {
         self.kept_runs[kind as usize].get(slot as usize)
     }
 
-    // The service volumes by trying every demand, however letters follow each other.
+    // VOLUME-2: the service volumes by trying every demand, however letters follow each other.
     pub fn service_volumes_by_every_demand(&self, case: &Case, curve: &Curve) -> [u64; 5] {
         last_that_meet((0..=GREATEST_DEMAND).map(|demand| (demand, self.letter(curve, flow_rate(&Case { demand, ..*case })))))
     }
@@ -496,6 +504,7 @@ impl Method {
         [1, 2, 3, 4, 5].map(|letter| service_volume(runs, case, letter))
     }
 
+    // ANSWER-1, ORDER-2.
     pub fn answer(&self, case: &Case) -> Result<Answer, Refusal> {
         if let Some(number) = planner_refusal(case) {
             return Err(number);
@@ -514,7 +523,7 @@ impl Method {
         })
     }
 
-    // Whether a case with some lane count, its F estimated anew, gets a letter or a better one.
+    // VOLUME-1, LANES-2: whether a case with some lane count, its F estimated anew, gets a letter or a better one.
     fn meets(&self, case: &Case, letter: u32) -> bool {
         match self.curve(case) {
             Ok(curve) => self.letter(&curve, flow_rate(case)) <= letter,
@@ -522,7 +531,7 @@ impl Method {
         }
     }
 
-    // The lanes question, for a letter A to E.
+    // LANES-1 to LANES-3, REFUSAL-14: the lanes question, for a letter A to E.
     pub fn lanes(&self, case: &Case, letter: u32) -> Result<u64, Refusal> {
         if let Some(number) = planner_refusal(case) {
             return Err(number);
@@ -535,14 +544,14 @@ pub fn millionths(count: u64) -> Fraction {
     Fraction::new(count, 1_000_000)
 }
 
-// F − (F − 10c/45) × w.
+// CURVE-3: F − (F − 10c/45) × w.
 pub fn speed_at_weight(curve: &Curve, weight: Fraction) -> Fraction {
     let free = Fraction::whole(curve.free_flow_speed);
     let at_capacity = Fraction::new(10 * curve.capacity, 45);
     free.minus(free.minus(at_capacity).times(weight))
 }
 
-// The exact density: 10,000v / S.
+// CURVE-7: the exact density, 10,000v / S.
 pub fn density(speed: Fraction, flow_rate: u64) -> Fraction {
     Fraction::whole(10_000 * flow_rate).divided_by(speed)
 }

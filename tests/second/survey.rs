@@ -1,5 +1,6 @@
 // Surveyed speeds, by whole numbers made from the float's bits.
 
+// SURVEY-1: the two units of the speed.
 #[derive(Clone, Copy, PartialEq, Eq, Debug)]
 pub enum Unit {
     MilesPerHour,
@@ -22,7 +23,7 @@ fn parts(bits: u32) -> Option<Parts> {
     }
 }
 
-// The exact value in thousandths of mi/h, rounded down; None for a value of 2^24 miles or kilometres per hour or more, which no road sees,
+// SURVEY-2: the exact value in thousandths of mi/h, rounded down; None for a value of 2^24 miles or kilometres per hour or more, which no road sees,
 // for one below 0 and for no number.
 fn thousandths(bits: u32, unit: Unit) -> Option<u128> {
     let Parts { m, power } = parts(bits)?;
@@ -41,7 +42,7 @@ fn thousandths(bits: u32, unit: Unit) -> Option<u128> {
     Some(over / (under << -power))
 }
 
-// The speed, or minus the first refusal: 11, 12, 13.
+// SURVEY-3, CALL-6, REFUSAL-11 to REFUSAL-13: the speed, or minus the first refusal.
 pub fn speed(bits: u32, unit: Unit, cars: u32, flow: u32) -> i32 {
     if cars < 100 {
         return -11;
