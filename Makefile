@@ -1,10 +1,18 @@
-# make run      answers the lines of examples/sections.tsv with the program los
+# What `make help` prints: these lines, up to the first that is no comment.
+#
+# make run      answers the lines of examples/sections.tsv with the program los; so does make alone
 # make test     proves everything and tries every must-fail edit (rt ci), then tests the library and the program that were proved
-# make full     compares every curve of clear weather, every float and every multilane speed with the second implementation, and looks
-#               where the freeway speed falls as free-flow speed rises under snow or rain
+# make test-X   one of its tests, over what is built: tables, map, references, promises, forms, calls, widening, yearly, stream, compare,
+#               compare-los, published
+# make full     compares every curve of clear weather, every float and every multilane speed with the second implementation, and finds
+#               where, in snow and rain, the speed falls as the free-flow speed rises
+# make map      writes docs/MAP.md anew, from the rules of docs/METHOD.md and the comments that name them
 # make tables   writes the constant tables anew
-# make vectors  writes the answers of the vectors anew, as the second implementation has them
+# make vectors  writes anew what the lines, lanes questions and surveys of the tests are to be answered, as the second implementation has it
+# make fmt      lays out every source file: Rattle, Rust and C
 # make bench    times los and the calls against plain C on a million made lines; RUNS=n sets how often, BEFORE=path adds another los
+# make clean    removes what the others built
+# make help     prints these lines
 SHELL = /bin/bash
 .SHELLFLAGS = -o pipefail -c
 BUILD = build
@@ -14,7 +22,7 @@ CFLAGS = -std=c11 -Wall -Wextra -Werror -O2
 SOURCES = $(shell find crates -name out -prune -o \( -name "*.rt" -o -name "*.antt" \) -print) crates.txt
 LIBRARY = target/staticlib/libmarehour.a
 PROGRAM = target/bin/los
-TESTS = tables references promises calls widening yearly stream compare compare-los published
+TESTS = tables map references promises forms calls widening yearly stream compare compare-los published
 
 # Plain C is compiled by gcc, and by clang too where it is installed.
 BENCH = $(BUILD)/bench
@@ -22,10 +30,13 @@ PLAIN = $(patsubst %,$(BENCH)/plain-%,gcc $(if $(shell command -v clang),clang))
 PLAINFLAGS = -std=c11 -Wall -Wextra -Werror -O3 -I$(BENCH)
 TABLES = $(BENCH)/powers.inc $(BENCH)/ramps.inc
 
-.PHONY: run test prove library tests $(TESTS:%=test-%) full tables vectors bench clean
+.PHONY: run help test prove library tests $(TESTS:%=test-%) full map tables vectors fmt bench clean
 
 run: $(PROGRAM)
 	@$(PROGRAM) < examples/sections.tsv
+
+help:
+	@sed -n '1,2d; /^#/!q; s/^# //p' $(firstword $(MAKEFILE_LIST))
 
 # The last line is the verdict of rt ci, shown only where every test has passed too. The library is built beside rt ci; the program is the one
 # that rt ci proved and built.
@@ -52,10 +63,10 @@ library:
 # Each test builds what it runs; make test has them side by side.
 tests: $(TESTS:%=test-%)
 
-test-tables: $(BUILD)/tables
+test-tables test-map: test-%: $(BUILD)/%
 	$< check
 
-test-references test-promises: test-%: $(BUILD)/%
+test-references test-promises test-forms: test-%: $(BUILD)/%
 	$<
 
 test-calls: $(BUILD)/calls
@@ -82,8 +93,8 @@ full: $(BUILD)/compare
 	$(BUILD)/compare full-distances
 	$(BUILD)/compare full-weather
 
-tables: $(BUILD)/tables
-	$(BUILD)/tables write
+tables map: %: $(BUILD)/%
+	$< write
 
 vectors: $(BUILD)/compare
 	$(BUILD)/compare write-vectors
@@ -125,9 +136,19 @@ $(BUILD)/%: tests/%.rs
 	@mkdir -p $(BUILD)
 	$(RUSTC) -o $@ $<
 
-$(BUILD)/%: tools/%.rs
+$(BUILD)/%: tools/%.rs $(wildcard tools/tree/*.rs)
 	@mkdir -p $(BUILD)
 	$(RUSTC) -o $@ $<
+
+# Each language where its tool is installed; fails at the end where one is not, or where a tool fails.
+fmt:
+	@failed=0; \
+	has() { command -v $$1 > /dev/null || { echo "fmt: $$1 is not installed: $$2 stays as it is"; failed=1; false; }; }; \
+	if has rt crates; then for crate in crates/*/; do (cd $$crate && rt fmt < /dev/null) || failed=1; done; fi; \
+	if has rustfmt "Rust of tests and tools"; then git ls-files -z 'tests/*.rs' 'tools/*.rs' | xargs -0 rustfmt || failed=1; fi; \
+	if has clang-format "C of tests, examples, bench and include"; then \
+	git ls-files -z {tests,examples,bench,include}/'*.'{c,h} | xargs -0 clang-format -i || failed=1; fi; \
+	exit $$failed
 
 bench: $(PROGRAM) $(PLAIN) $(BENCH)/race $(BENCH)/calls $(BENCH)/days $(BENCH)/lines.tsv
 	@bench/run.sh $(BENCH) $(PROGRAM) $(PLAIN)

@@ -111,7 +111,8 @@ fn unnamed(files: &Files) -> (usize, Vec<String>) {
     let all = statements(files);
     let mut stands: Vec<bool> = all.iter().map(|it| is_ensured(files, it)).collect();
     loop {
-        let more = |place: usize| !stands[place] && (0..all.len()).any(|whole| stands[whole] && is_made_of(files, &all[whole], &all[place]));
+        let more =
+            |place: usize| !stands[place] && (0..all.len()).any(|whole| stands[whole] && is_made_of(files, &all[whole], &all[place]));
         let Some(place) = (0..all.len()).find(|&place| more(place)) else { break };
         stands[place] = true;
     }
@@ -126,13 +127,14 @@ const SAMPLE: [(&str, &str); 6] = [
          abbrev pub Lonely : Type 0\nLonely = Whole\n\nabbrev pub Privately : Type 0\nPrivately = Unit\n\n\
          abbrev pub Required : Type 0\nRequired = Unit\n\nabbrev pub Outside : Type 0\nOutside = Unit\n\n\
          abbrev pub Weakly : Type 0\nWeakly = Unit\n\nabbrev pub Twice : Type 0\nTwice = Unit\n\n\
-         abbrev pub Of : ℕ → Type 0\nOf n = Unit\n",
+         abbrev pub Of : ℕ → Type 0\nOf n = Unit\n\n\
+         pub Opaque : Type 0\nOpaque = Unit\n\nunfoldable pub Unfolded : Type 0\nUnfolded = Unit\n",
     ),
     ("low/specs/Facts.antt", "unfoldable pub low_facts : List Fact\nlow_facts = []\n\nunfoldable pub Lost : List Fact\nLost = []\n"),
     (
         "low/src/promises.rt",
-        "ghost use Rattle.low.specs.Laws.{Whole, Lonely, Privately, Required, Outside, Weakly};\nghost use Rattle.high.specs.Laws.{Twice};\n\n\
-         pub fn whole()\n    ensures whole { Whole }\n    // ensures outside { Outside }\n    ensures twice { Twice }\n{}\n\n\
+        "ghost use Rattle.low.specs.Laws.{Whole, Lonely, Privately, Required, Outside, Weakly, Unfolded};\nghost use Rattle.high.specs.Laws.{Twice};\n\n\
+         pub fn whole()\n    ensures whole { Whole }\n    ensures { Unfolded }\n    // ensures outside { Outside }\n    ensures twice { Twice }\n{}\n\n\
          /// Beside Outside.\nfn privately()\n    ensures { Privately }\n{}\n\npub fn weakly()\n    ensures { Weakly → Weakly }\n{}\n\n\
          pub fn needs()\n    requires { Required }\n{\n    let x = Lonely;\n}\n",
     ),
@@ -145,7 +147,7 @@ const SAMPLE: [(&str, &str); 6] = [
     ),
 ];
 
-const SAMPLE_UNNAMED: [&str; 7] = [
+const SAMPLE_UNNAMED: [&str; 8] = [
     "low/specs/Facts.Lost",
     "low/specs/Laws.Lonely",
     "low/specs/Laws.Privately",
@@ -153,6 +155,7 @@ const SAMPLE_UNNAMED: [&str; 7] = [
     "low/specs/Laws.Outside",
     "low/specs/Laws.Weakly",
     "low/specs/Laws.Twice",
+    "low/specs/Laws.Opaque",
 ];
 
 fn main() {

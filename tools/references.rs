@@ -1,14 +1,14 @@
-// Checks the documents against the tree, at the project's root:
-//   - what README.md, include/marehour.h and the files docs/*.md name stands in the tree (docs/landings tells what was, and is not read);
-//   - every public definition of the crates' specs/ and every must-fail edit is named in docs/MAP.md.
+// Checks the pages against the tree, at the project's root: what README.md, include/marehour.h and the files docs/*.md name stands in
+// the tree, and what CONTRIBUTING.md and CHANGELOG.md do if there are such. docs/landings tells what was, and is not read.
 //
 // A name is written between backticks on one line, outside fenced blocks, without a blank, in one of these forms:
 //   CRATE::ITEM                   a function, type, constant or static of crates/CRATE/src/lib.rt or main.rt, outside of any block
 //   CRATE::MODULE::ITEM           the same of crates/CRATE/src/MODULE.rt
-//   CRATE::TYPE::MEMBER           a function or constant in an impl of TYPE in crates/CRATE/src/lib.rt or main.rt, or a variant of the enum
-//                                 TYPE there; TYPE begins with a capital
+//   CRATE::TYPE::MEMBER           a function or constant in an impl of TYPE in crates/CRATE/src/lib.rt or main.rt, or in the trait TYPE,
+//                                 or a variant of the enum TYPE there; TYPE begins with a capital
 //   CRATE::MODULE::TYPE::MEMBER   the same of crates/CRATE/src/MODULE.rt, where the impl stands
-//   CRATE/specs/FILE.NAME         a definition of crates/CRATE/specs/FILE.antt; the same with proofs/ for a law
+//   CRATE/specs/FILE.NAME         a definition of crates/CRATE/specs/FILE.antt, public or not, or a public field of a record there; the
+//                                 same with proofs/ for a law
 //   CRATE/must-fail/NAME          an edit
 //   a path with a slash           from the root; before a * only the folder is looked for
 //   a file's name                 with one of ENDINGS, in any folder
@@ -16,24 +16,24 @@
 // which a build makes, and under /dev/; paths with one of PLACEHOLDERS; A::B where A is one of OUTSIDE, a crate that crates.txt names only
 // after a colon (the toolchain's), or begins with no small letter; what begins with a hyphen; any other text.
 //
+// Wrong, too, is a decision that a file cites, D-n, and that docs/DECISIONS.md does not have.
+//
 // It first tries itself on a small tree of its own.
 
-use std::collections::{BTreeMap, BTreeSet};
-use std::fs;
-use std::path::Path;
-use std::process::exit;
+mod tree;
 
-const MAP: &str = "docs/MAP.md";
-const DOCUMENTS: [&str; 5] = ["README.md", "include/marehour.h", MAP, "docs/REFUSALS.md", "docs/DECISIONS.md"];
-const BUILT: [&str; 2] = ["target", "build"];
+use std::collections::BTreeSet;
+use std::process::exit;
+use tree::{declaration, first_identifier, implemented, indent, Tree, BUILT, MEMBER_INDENT};
+
+const DECISIONS: &str = "docs/DECISIONS.md";
+const DOCUMENTS: [&str; 2] = ["README.md", "include/marehour.h"];
+// Documents too, where they are.
+const FURTHER: [&str; 2] = ["CONTRIBUTING.md", "CHANGELOG.md"];
 const ENDINGS: [&str; 11] = ["antt", "c", "edit", "h", "md", "out", "rs", "rt", "sh", "tsv", "txt"];
 const PLACEHOLDERS: [char; 4] = ['<', '{', '$', '('];
 const OUTSIDE: [&str; 18] =
     ["std", "bool", "char", "str", "f32", "f64", "u8", "u16", "u32", "u64", "u128", "usize", "i8", "i16", "i32", "i64", "i128", "isize"];
-const QUALIFIERS: [&str; 4] = ["pub", "pub(crate)", "extern", "\"C\""];
-const ITEMS: [&str; 7] = ["fn", "struct", "enum", "trait", "type", "const", "static"];
-// How far in the members of a block stand, as `rt fmt` lays out.
-const MEMBER_INDENT: usize = 4;
 
 #[derive(Clone, Copy, Debug, PartialEq)]
 enum Verdict {
@@ -47,29 +47,10 @@ struct Report {
     checked: usize,
 }
 
-// The files by their path from the root, with their text.
-struct Tree(BTreeMap<String, String>);
-
 impl Tree {
-    fn read() -> Tree {
-        let mut files = BTreeMap::new();
-        add_files(Path::new(""), &mut files);
-        Tree(files)
-    }
-
-    fn text(&self, path: &str) -> &str {
-        self.0.get(path).map_or("", String::as_str)
-    }
-
     fn has(&self, path: &str) -> bool {
         let folder = format!("{}/", path.trim_end_matches('/'));
         self.0.contains_key(path) || self.0.range(folder.clone()..).next().is_some_and(|(file, _)| file.starts_with(&folder))
-    }
-
-    // The lines of crates.txt: a crate and those it needs. Behind the name may stand staticlib.
-    fn crates(&self) -> Vec<(&str, &str)> {
-        let lines = self.text("crates.txt").lines().filter(|line| !line.starts_with('#'));
-        lines.filter_map(|line| line.split_once(':')).map(|(name, needed)| (first_identifier(name.trim()), needed)).collect()
     }
 
     fn has_crate(&self, name: &str) -> bool {
@@ -81,48 +62,8 @@ impl Tree {
     }
 }
 
-// Adds the files of a folder and those below it, but not what a build makes.
-fn add_files(folder: &Path, files: &mut BTreeMap<String, String>) {
-    let listed = if folder.as_os_str().is_empty() { Path::new(".") } else { folder };
-    for entry in fs::read_dir(listed).into_iter().flatten().flatten() {
-        let path = folder.join(entry.file_name());
-        let name = path.to_string_lossy().to_string();
-        let made = name == ".git" || BUILT.contains(&name.as_str()) || (name.starts_with("crates/") && path.ends_with("out"));
-        if made {
-            continue;
-        }
-        if path.is_dir() {
-            add_files(&path, files);
-        } else {
-            files.insert(name, String::from_utf8_lossy(&fs::read(&path).unwrap_or_default()).to_string());
-        }
-    }
-}
-
-fn first_identifier(word: &str) -> &str {
-    word.split(|c: char| !c.is_alphanumeric() && c != '_').next().unwrap_or("")
-}
-
-fn indent(line: &str) -> usize {
-    line.len() - line.trim_start().len()
-}
-
 fn begins_with_capital(name: &str) -> bool {
     name.starts_with(|c: char| c.is_ascii_uppercase())
-}
-
-// What a line of a source file declares, if anything: one of ITEMS, and its name.
-fn declaration(line: &str) -> Option<(&str, &str)> {
-    let mut words = line.split_whitespace().skip_while(|word| QUALIFIERS.contains(word));
-    let kind = words.next().filter(|kind| ITEMS.contains(kind))?;
-    words.next().map(|word| (kind, first_identifier(word)))
-}
-
-// The type whose impl begins on a line, of a trait or not, if any.
-fn implemented(line: &str) -> Option<&str> {
-    let rest = line.strip_prefix("impl")?;
-    let rest = if rest.starts_with('<') { rest.split_once("> ")?.1 } else { rest };
-    Some(first_identifier(rest.split_once(" for ").map_or(rest, |(_, of)| of).trim_start()))
 }
 
 // Whether a source file declares the item outside of any block.
@@ -130,12 +71,14 @@ fn declares(source: &str, item: &str) -> bool {
     source.lines().any(|line| indent(line) == 0 && declaration(line).is_some_and(|(_, name)| name == item))
 }
 
-// Whether a source file has the member in an impl of the type or among its variants. A line that is not indented begins or ends a block.
+// Whether a source file has the member in an impl of the type, in the trait, or among the enum's variants. A line that is not indented
+// begins or ends a block.
 fn has_member(source: &str, owner: &str, member: &str) -> bool {
     let (mut in_impl, mut in_enum) = (false, false);
     source.lines().filter(|line| !line.trim().is_empty()).any(|line| {
         if indent(line) == 0 {
-            (in_impl, in_enum) = (implemented(line) == Some(owner), declaration(line) == Some(("enum", owner)));
+            in_impl = implemented(line) == Some(owner) || declaration(line) == Some(("trait", owner));
+            in_enum = declaration(line) == Some(("enum", owner));
         }
         let is_variant = in_enum && begins_with_capital(member) && first_identifier(line.trim_start()) == member;
         let is_item = in_impl && declaration(line).is_some_and(|(_, name)| name == member);
@@ -143,11 +86,12 @@ fn has_member(source: &str, owner: &str, member: &str) -> bool {
     })
 }
 
-// A name that an antt file declares with `pub` on this line, if any.
+// A name that an antt file declares on this line, if any; within a definition with `pub` alone, as a record its fields.
 fn declared(line: &str) -> Option<&str> {
+    let inner = line.starts_with(' ');
     let line = line.trim_start();
     let line = line.strip_prefix("unfoldable ").or_else(|| line.strip_prefix("abbrev ")).unwrap_or(line);
-    let rest = line.strip_prefix("pub ")?;
+    let rest = line.strip_prefix("pub ").or((!inner).then_some(line))?;
     let record = rest.strip_prefix("record ").or_else(|| rest.strip_prefix("data "));
     let name = record.unwrap_or(rest).split_whitespace().next()?;
     (record.is_some() || rest[name.len()..].trim_start().starts_with(':')).then_some(name)
@@ -266,43 +210,45 @@ fn check_document(tree: &Tree, document: &str, report: &mut Report) {
     }
 }
 
-// The crates' public definitions, without the fields of records, which are indented, and edits, as the map names them.
-fn to_be_named(tree: &Tree) -> Vec<String> {
-    let mut names = Vec::new();
-    for (path, text) in &tree.0 {
-        let Some(path) = path.strip_prefix("crates/").filter(|path| tree.has_crate(path.split('/').next().unwrap_or(""))) else { continue };
-        if let Some(file) = path.strip_suffix(".antt").filter(|file| file.contains("/specs/")) {
-            let definitions = text.lines().filter(|line| !line.starts_with(' ')).filter_map(declared);
-            names.extend(definitions.map(|name| format!("{file}.{name}")));
-        }
-        names.extend(path.strip_suffix(".edit").filter(|edit| edit.contains("/must-fail/")).map(str::to_string));
+// The numbers of decisions, D-n, on a line.
+fn decisions(line: &str) -> impl Iterator<Item = &str> {
+    let words = line.split(|c: char| !(c.is_alphanumeric() || c == '-' || c == '_'));
+    words.filter(|word| word.strip_prefix("D-").is_some_and(|n| !n.is_empty() && n.chars().all(|c| c.is_ascii_digit())))
+}
+
+// Every decision that is cited stands in DECISIONS: it has a heading, or the list of those that are gone tells of it.
+fn check_decisions(tree: &Tree, report: &mut Report) {
+    let (mut stand, mut gone) = (BTreeSet::new(), false);
+    for line in tree.text(DECISIONS).lines() {
+        gone |= line == "## Numbers that are gone";
+        let told = decisions(line).take(if gone { usize::MAX } else { usize::from(line.starts_with("### D-")) });
+        stand.extend(told);
     }
-    names
+    for (path, text) in tree.0.iter().filter(|(path, _)| !path.starts_with("docs/landings/")) {
+        for (number, line) in (1..).zip(text.lines()) {
+            let missing = decisions(line).filter(|cited| !stand.contains(cited));
+            report.wrong.extend(missing.map(|cited| format!("{path}:{number} cites {cited}, which {DECISIONS} does not have")));
+        }
+    }
 }
 
 fn check(tree: &Tree) -> Report {
     let mut report = Report { wrong: Vec::new(), checked: 0 };
     let in_docs = |path: &&str| path.strip_prefix("docs/").is_some_and(|name| !name.contains('/') && name.ends_with(".md"));
-    let documents: BTreeSet<&str> = tree.0.keys().map(String::as_str).filter(in_docs).chain(DOCUMENTS).collect();
+    let further = FURTHER.into_iter().filter(|path| tree.has(path));
+    let documents: BTreeSet<&str> = tree.0.keys().map(String::as_str).filter(in_docs).chain(DOCUMENTS).chain(further).collect();
     for document in documents {
         if tree.text(document).is_empty() {
             report.wrong.push(format!("{document} is missing"));
         }
         check_document(tree, document, &mut report);
     }
-    let (lines, _) = unfenced(tree.text(MAP));
-    let named: BTreeSet<&str> = lines.into_iter().flat_map(|(_, line)| quoted(line)).collect();
-    for name in to_be_named(tree) {
-        if !named.contains(name.as_str()) {
-            report.wrong.push(format!("{MAP} does not name `{name}`"));
-        }
-        report.checked += 1;
-    }
+    check_decisions(tree, &mut report);
     report
 }
 
 // The small tree that the check tries itself on. Its documents have the faults of SAMPLE_FAULTS and no others.
-const SAMPLE: [(&str, &str); 15] = [
+const SAMPLE: [(&str, &str); 16] = [
     ("crates.txt", "# low: halves\nlow:\n# high: the program\nhigh: low io\n"),
     (
         "crates/low/src/lib.rt",
@@ -315,11 +261,13 @@ const SAMPLE: [(&str, &str); 15] = [
          fn taken(&self) -> u64\n    {\n        const INNER: u64 = 1;\n    }\n}\npub extern \"C\" fn called(n: u64)\n\
          pub(crate) static TABLE: [u64; 2] = [\n    1, 2,\n];\npub type Pair = [u64; 2];\n\
          pub enum Way<T> {\n    // Down of two\n    Up(T),\n\n    Around { steps: u64 },\n}\n\
-         impl<T> Way<T> {\n    pub fn turned(self) -> Way<T>\n}\nimpl Iterator for Step {\n    fn next(&mut self) -> u64\n}\n",
+         impl<T> Way<T> {\n    pub fn turned(self) -> Way<T>\n}\nimpl Iterator for Step {\n    fn next(&mut self) -> u64\n}\n\
+         pub(crate) trait Walks: Sized {\n    fn of_steps(n: u64) -> Self;\n}\n",
     ),
     (
         "crates/low/specs/Half.antt",
-        "abbrev pub half : N\nunfoldable pub twice : N\npub data Side where\npub record Parts where\n  pub left : N\nhidden : N\n",
+        "abbrev pub half : N\nunfoldable pub twice : N\npub data Side where\npub record Parts where\n  pub left : N\nhidden : N\n\
+         hidden = inner\n  where\n    inner : N\n",
     ),
     ("crates/low/specs/Lib.antt", "pub mod Half\n"),
     ("crates/low/proofs/HalfLaws.antt", "pub half-mono : Mono half\n"),
@@ -329,25 +277,27 @@ const SAMPLE: [(&str, &str); 15] = [
     ("crates/unlisted/specs/Stale.antt", "pub stale : N\n"),
     ("README.md", "`low::halved` and `lw::halved`\n```\n`low::gone`\n```\n"),
     ("docs/MAP.md", "`low/specs/Half.half` `low/specs/Half.twice` `low/specs/Half.Side`\nan `odd one\n`low/specs/Half.Part`\n"),
-    ("docs/DECISIONS.md", "`tests/gone.rs`\n```\n"),
-    ("docs/FURTHER.md", "`gone.rs`\n"),
+    ("CHANGELOG.md", "`low::kind::Gone`\n"),
+    (DECISIONS, concat!("### D", "-1 of D", "-3\n`tests/gone.rs`\n## Numbers that are gone\nD", "-1 of D", "-2\n```\n")),
+    ("docs/FURTHER.md", concat!("`gone.rs`\nas D", "-1 and D", "-2, not D", "-3 or D", "-01 (AD", "-3, D", "-x)\n")),
     ("docs/landings/00-first.md", "`low::gone`\n"),
 ];
 
-const SAMPLE_FAULTS: [&str; 10] = [
+const SAMPLE_FAULTS: [&str; 11] = [
+    "CHANGELOG.md:1 names `low::kind::Gone`, which is not in the tree",
     "README.md:1 names `lw::halved`, which is not in the tree",
     "docs/DECISIONS.md has a fenced block without end",
-    "docs/DECISIONS.md:1 names `tests/gone.rs`, which is not in the tree",
+    "docs/DECISIONS.md:2 names `tests/gone.rs`, which is not in the tree",
     "docs/FURTHER.md:1 names `gone.rs`, which is not in the tree",
     "docs/MAP.md:2 has a backtick without its pair",
     "docs/MAP.md:3 names `low/specs/Half.Part`, which is not in the tree",
-    "docs/REFUSALS.md is missing",
     "include/marehour.h is missing",
-    "docs/MAP.md does not name `low/must-fail/half_of_1_is_1`",
-    "docs/MAP.md does not name `low/specs/Half.Parts`",
+    concat!("docs/DECISIONS.md:1 cites D", "-3, which docs/DECISIONS.md does not have"),
+    concat!("docs/FURTHER.md:2 cites D", "-3, which docs/DECISIONS.md does not have"),
+    concat!("docs/FURTHER.md:2 cites D", "-01, which docs/DECISIONS.md does not have"),
 ];
 
-const SAMPLE_STANDS: [&str; 30] = [
+const SAMPLE_STANDS: [&str; 32] = [
     "low::halved",
     "low::Refusal",
     "low::Refusal::TooLow",
@@ -362,12 +312,14 @@ const SAMPLE_STANDS: [&str; 30] = [
     "low::kind::Way::Up",
     "low::kind::Way::Around",
     "low::kind::Way::turned",
+    "low::kind::Walks::of_steps",
     "high::main",
     "low/specs/Half.half",
     "low/specs/Half.twice",
     "low/specs/Half.Side",
     "low/specs/Half.Parts",
     "low/specs/Half.left",
+    "low/specs/Half.hidden",
     "low/proofs/HalfLaws.half-mono",
     "low/must-fail/half_of_1_is_1",
     "crates/low",
@@ -380,7 +332,7 @@ const SAMPLE_STANDS: [&str; 30] = [
     "Half.antt",
 ];
 
-const SAMPLE_MISSING: [&str; 47] = [
+const SAMPLE_MISSING: [&str; 48] = [
     "lw::halved",
     "lw::kind::Step",
     "lw::Refusal::number",
@@ -403,6 +355,7 @@ const SAMPLE_MISSING: [&str; 47] = [
     "low::kind::Step::INNER",
     "low::kind::Step::called",
     "low::kind::Step::turned",
+    "low::kind::Step::of_steps",
     "low::kind::Way::MOST",
     "low::kind::Way::Down",
     "low::kind::Way::steps",
@@ -414,7 +367,7 @@ const SAMPLE_MISSING: [&str; 47] = [
     "unlisted/specs/Stale.stale",
     "low/specs/Half",
     "low/specs/Half.hal",
-    "low/specs/Half.hidden",
+    "low/specs/Half.inner",
     "low/specs/Halves.half",
     "low/proofs/HalfLaws.half",
     "lw/must-fail/half_of_1_is_1",
@@ -458,7 +411,7 @@ const SAMPLE_PASSED_OVER: [&str; 23] = [
 
 // What the check finds wrong of itself: verdicts on names in the small tree, and the faults of its documents.
 fn self_test() -> Vec<String> {
-    let tree = Tree(SAMPLE.iter().map(|(path, text)| (path.to_string(), text.to_string())).collect());
+    let tree = Tree::of(&SAMPLE);
     let expected =
         [(Verdict::Stands, &SAMPLE_STANDS[..]), (Verdict::Missing, &SAMPLE_MISSING[..]), (Verdict::PassedOver, &SAMPLE_PASSED_OVER[..])];
     let mut wrong = Vec::new();

@@ -1,6 +1,6 @@
-// Makes the two constant tables of the engine from the whole-power rules of document 01 and of T-08 of document 02:
-//   T(i), i from 0 to 1,000: the least whole t with i^131 x 10^207 <= t^100
-//   the ramp term, k from 0 to 48: the whole t with (2t - 1)^25 x 6^21 <= 6,440^25 x k^21 < (2t + 1)^25 x 6^21, and 0 for k = 0
+// Makes the two constant tables of the engine from their rules by whole powers:
+//   FORM-6, CURVE-5: T(i), i from 0 to 1,000: the least whole t with i^131 x 10^207 <= t^100
+//   FORM-8, FFS-8: the ramp term, k from 0 to 48: the whole t with (2t - 1)^25 x 6^21 <= 6,440^25 x k^21 < (2t + 1)^25 x 6^21, and 0 for k = 0
 //
 //   tables write    writes the two files
 //   tables check    says whether the two files are what it would write; status 1 if one is not
@@ -46,7 +46,7 @@ impl Big {
     }
 }
 
-// The least number below the end that passes a test that rises.
+// UNIT-4: the least number below the end that passes a test that rises.
 fn least(end: u32, passes: impl Fn(u32) -> bool) -> u32 {
     let (mut low, mut high) = (0, end);
     while low < high {
@@ -60,12 +60,13 @@ fn least(end: u32, passes: impl Fn(u32) -> bool) -> u32 {
     low
 }
 
+// CURVE-5.
 fn power(i: u32) -> u32 {
     let reached = Big::one().times_power(i, 131).times_power(10, 207);
     least(1_000_001, |t| reached.at_most(&Big::one().times_power(t, 100)))
 }
 
-// The least t that fits the second half of the rule: the one before it, if there is one, does not, so that t fits the first half too.
+// FFS-8: the least t that fits the second half of the rule: the one before it, if there is one, does not, so that t fits the first half too.
 fn ramp_term(k: u32) -> u32 {
     let middle = Big::one().times_power(6_440, 25).times_power(k, 21);
     least(20_001, |t| !Big::one().times_power(2 * t + 1, 25).times_power(6, 21).at_most(&middle))
@@ -98,7 +99,7 @@ impl Table {
 
     fn source(&self) -> String {
         format!(
-            "// {}. Made by tools/tables.rs: `make tables`.\npub(crate) static {}: [u32; {}] = [\n{}];\n",
+            "/// {}. Made by tools/tables.rs: `make tables`.\npub(crate) static {}: [u32; {}] = [\n{}];\n",
             self.what,
             self.name,
             self.entries.len(),
@@ -112,13 +113,13 @@ fn main() {
         Table {
             path: "crates/curve/src/power_table.rt",
             name: "POWERS",
-            what: "T(i), i from 0 to 1,000",
+            what: "CURVE-5, FORM-6: T(i), i from 0 to 1,000",
             entries: (0..=1_000).map(power).collect(),
         },
         Table {
             path: "crates/road/src/ramp_table.rt",
             name: "RAMP_TERMS",
-            what: "The ramp term of k ramps in six miles, k from 0 to 48",
+            what: "FFS-8, FORM-8: the ramp term of k ramps in six miles, k from 0 to 48",
             entries: (0..=48).map(ramp_term).collect(),
         },
     ];
