@@ -1,8 +1,9 @@
 // What the tools that read the whole project have in common: its files, and what a line of a crate's source declares.
 
-use std::collections::BTreeMap;
+use std::collections::{BTreeMap, BTreeSet};
 use std::fs;
 use std::path::Path;
+use std::process::Command;
 
 // The folders that a build makes.
 pub const BUILT: [&str; 2] = ["target", "build"];
@@ -11,7 +12,7 @@ const ITEMS: [&str; 7] = ["fn", "struct", "enum", "trait", "type", "const", "sta
 // How far in the members of a block stand, as `rt fmt` lays out.
 pub const MEMBER_INDENT: usize = 4;
 
-// The files by their path from the root, with their text; none of what a build makes.
+// The files by their path from the root, with their text; none of what a build makes, and none at the root that git knows and does not track.
 pub struct Tree(pub BTreeMap<String, String>);
 
 impl Tree {
@@ -19,6 +20,9 @@ impl Tree {
     pub fn read() -> Tree {
         let mut files = BTreeMap::new();
         add_files(Path::new(""), &mut files);
+        if let Some(tracked) = tracked() {
+            files.retain(|path, _| path.contains('/') || tracked.contains(path));
+        }
         Tree(files)
     }
 
@@ -35,6 +39,13 @@ impl Tree {
         let lines = self.text("crates.txt").lines().filter(|line| !line.starts_with('#'));
         lines.filter_map(|line| line.split_once(':')).map(|(name, needed)| (first_identifier(name.trim()), needed)).collect()
     }
+}
+
+// The files that git tracks, where there is a git that knows of any.
+fn tracked() -> Option<BTreeSet<String>> {
+    let listed = Command::new("git").args(["ls-files", "-z"]).output().ok()?;
+    let paths: BTreeSet<String> = String::from_utf8_lossy(&listed.stdout).split_terminator('\0').map(str::to_string).collect();
+    (!paths.is_empty()).then_some(paths)
 }
 
 fn add_files(folder: &Path, files: &mut BTreeMap<String, String>) {
