@@ -201,7 +201,7 @@ int32_t marehour_answer(const uint8_t *line, size_t line_length, uint8_t *answer
      1 to 6, 8, 9, 19, 10  in this order
 
    Afterwards the first bytes of the buffer, as many as the result says, are the answer.
-   What lies behind is untouched, and all of it after a refusal.
+   What lies behind it is untouched; after a refusal all that was lent is.
 */
 
 int32_t marehour_lanes(const uint8_t *line, size_t line_length, uint32_t letter, uint8_t *answer,
@@ -223,7 +223,7 @@ int32_t marehour_lanes(const uint8_t *line, size_t line_length, uint32_t letter,
      14  no lane count meets the letter
 
    Afterwards the first two bytes of the buffer are the answer.
-   What lies behind is untouched, and all of it after a refusal.
+   What lies behind it is untouched; after a refusal all that was lent is.
 */
 
 int32_t marehour_day(const uint8_t *line, size_t line_length, const uint64_t *demands,
@@ -250,7 +250,7 @@ int32_t marehour_day(const uint8_t *line, size_t line_length, const uint64_t *de
      15  malformed line
 
    Afterwards the first MAREHOUR_DAY_FIGURES times demand_count numbers are the answers.
-   What lies behind is untouched, and all of it after a refusal.
+   What lies behind it is untouched; after a refusal all that was lent is.
 */
 
 int32_t marehour_daily(const uint8_t *line, size_t line_length, uint64_t daily_traffic,
@@ -287,7 +287,7 @@ int32_t marehour_daily(const uint8_t *line, size_t line_length, uint64_t daily_t
      1 to 9, 19, 10  in this order; 7 looks at the hourly demand
 
    Afterwards the first MAREHOUR_DAILY_FIGURES numbers are the answer.
-   What lies behind is untouched, and all of it after a refusal.
+   What lies behind it is untouched; after a refusal all that was lent is.
 */
 
 int32_t marehour_forecast(const uint8_t *line, size_t line_length, uint64_t demand_low,
@@ -323,7 +323,7 @@ int32_t marehour_forecast(const uint8_t *line, size_t line_length, uint64_t dema
      19, 10  in this order
 
    Afterwards the first MAREHOUR_FORECAST_FIGURES numbers are the answer.
-   What lies behind is untouched, and all of it after a refusal.
+   What lies behind it is untouched; after a refusal all that was lent is.
 */
 
 int32_t marehour_tries(const uint8_t *line, size_t line_length);

@@ -6,8 +6,10 @@
 //
 // It first tries itself on a file of its own.
 
-use std::fs;
+mod tree;
+
 use std::process::exit;
+use tree::{indent, Tree};
 
 struct Form {
     rule: &'static str,
@@ -76,10 +78,6 @@ const VALUES: [(&str, &str); 8] = [
     ("crates/forecast/specs/Forecasts.antt", "outcome_figures"),
 ];
 
-fn indent(line: &str) -> usize {
-    line.len() - line.trim_start().len()
-}
-
 // The lines of the item that begins so, if there is one.
 fn item<'a>(text: &'a str, begins: &str) -> Option<Vec<&'a str>> {
     let lines: Vec<&str> = text.lines().collect();
@@ -131,9 +129,9 @@ fn main() {
         println!("forms: it does not see a fault that is planted");
         exit(1);
     }
-    let read = |file: &str| fs::read_to_string(file).unwrap_or_default();
-    let mut wrong: Vec<String> = FORMS.iter().filter_map(|form| fault(form, &read(form.file))).collect();
-    let lacking = VALUES.iter().filter(|(file, name)| !valued(&read(file), name));
+    let tree = Tree::read();
+    let mut wrong: Vec<String> = FORMS.iter().filter_map(|form| fault(form, tree.text(form.file))).collect();
+    let lacking = VALUES.iter().filter(|(file, name)| !valued(tree.text(file), name));
     wrong.extend(lacking.map(|(file, name)| format!("FORM-10: {file} has no {name} of a Result, with its refusal apart")));
     for fault in &wrong {
         println!("forms: {fault}");

@@ -342,10 +342,10 @@ fn definitions(tree: &Tree, wrong: &mut Vec<String>) -> Vec<Definition> {
         let lines: Vec<&str> = text.lines().collect();
         let own = (crate_name.to_string(), file.to_string());
         let sees: BTreeSet<_> = lines.iter().filter_map(|line| used(line)).chain([own]).collect();
-        let mut before: Option<Vec<String>> = None;
+        let (mut before, mut last): (Option<Vec<String>>, &str) = (None, "");
         for (at, line) in lines.iter().enumerate() {
             let Some((name, role)) = defined(line) else {
-                if !goes_on(line, all.last().map_or("", |it: &Definition| &it.name)) {
+                if !goes_on(line, last) {
                     wrong.push(format!("{path}:{} is no definition that is seen, and no equation of the one above", at + 1));
                 }
                 continue;
@@ -369,7 +369,7 @@ fn definitions(tree: &Tree, wrong: &mut Vec<String>) -> Vec<Definition> {
                     Vec::new()
                 }),
             };
-            before = Some(rules.clone());
+            (before, last) = (Some(rules.clone()), name);
             let body = lines[at + 1..].iter().take_while(|line| !line.is_empty()).copied().collect::<Vec<_>>().join("\n");
             let (crate_name, file, name) = (crate_name.to_string(), file.to_string(), name.to_string());
             let line = comment.map_or(at + 1, |(line, _)| line);

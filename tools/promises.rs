@@ -7,10 +7,11 @@
 //
 // It first tries itself on a small tree of its own.
 
+mod tree;
+
 use std::collections::BTreeMap;
-use std::fs;
-use std::path::Path;
 use std::process::exit;
+use tree::Tree;
 
 // The files of crates/ by their path below it.
 type Files = BTreeMap<String, String>;
@@ -23,16 +24,10 @@ struct Statement {
     body: String,
 }
 
-fn add_files(folder: &Path, files: &mut Files) {
-    for entry in fs::read_dir(folder).into_iter().flatten().flatten() {
-        let path = entry.path();
-        if path.is_dir() && !path.ends_with("out") {
-            add_files(&path, files);
-        } else if path.extension().is_some_and(|ending| ending == "rt" || ending == "antt") {
-            let name = path.strip_prefix("crates").unwrap_or(&path).to_string_lossy().to_string();
-            files.insert(name, fs::read_to_string(&path).unwrap_or_default());
-        }
-    }
+// Those of the project.
+fn read() -> Files {
+    let of_crates = |(path, text): (String, String)| Some((path.strip_prefix("crates/")?.to_string(), text));
+    Tree::read().0.into_iter().filter_map(of_crates).filter(|(path, _)| path.ends_with(".rt") || path.ends_with(".antt")).collect()
 }
 
 fn is_word(text: &str, word: &str) -> bool {
@@ -165,9 +160,7 @@ fn main() {
         println!("promises: of itself: the small tree gets {of_sample:?}");
         exit(1);
     }
-    let mut files = Files::new();
-    add_files(Path::new("crates"), &mut files);
-    let (count, missing) = unnamed(&files);
+    let (count, missing) = unnamed(&read());
     for name in &missing {
         println!("promises: {name} stands on no public contract");
     }

@@ -119,7 +119,7 @@ fn main() {
         Table {
             path: "crates/road/src/ramp_table.rt",
             name: "RAMP_TERMS",
-            what: "FFS-8, FORM-8: the ramp term of k ramps in six miles, k from 0 to 48",
+            what: "FFS-8, FORM-8: the ramp term of 0 to 48 ramps in six miles",
             entries: (0..=48).map(ramp_term).collect(),
         },
     ];

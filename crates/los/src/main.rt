@@ -1,4 +1,5 @@
-//! LOS-2: los answers each line of its input. What it prints is proved of `answer_input`. LOS-4: where its input can't be read or its output can't be written it says so.
+//! LOS-2: los answers each line of its input. What it prints is proved of `answer_input`. LOS-4: where its input
+//! can't be read or its output can't be written it says so.
 
 #![tactic(auto)]
 

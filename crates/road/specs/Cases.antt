@@ -36,7 +36,7 @@ loaded road lanes demand factor share terrain weather =
       weather = weather;
     }
 
--- CASE-3: the case but for its demand, which is that
+-- CASE-3: the case with that demand in the place of its own
 abbrev pub with_demand : Case → ℕ → Case
 with_demand case demand =
     loaded case.road case.lanes demand case.peak_hour_factor case.heavy_share case.terrain case.weather

@@ -16,7 +16,7 @@ pub fn ramps()
     ensures { RampTermIsNearest }
 {}
 
-/// FFS-2: no estimate of free-flow speed is cut at 0, and free-flow speed never falls with more lanes.
+/// FFS-2, FFS-10: no estimate of free-flow speed is cut at 0, and free-flow speed never falls with more lanes.
 pub fn free_flow_speed()
     ensures above_zero { EstimateNeverBelowZero }
     ensures with_lanes { FreeFlowSpeedNeverFallsWithLanes }

@@ -1,4 +1,4 @@
-/// FFS-8, FORM-8: the ramp term of k ramps in six miles, k from 0 to 48. Made by tools/tables.rs: `make tables`.
+/// FFS-8, FORM-8: the ramp term of 0 to 48 ramps in six miles. Made by tools/tables.rs: `make tables`.
 pub(crate) static RAMP_TERMS: [u32; 49] = [
     0, 715, 1280, 1799, 2291, 2763, 3220, 3665, 4100, 4527, 4945, 5358, 5764, 6165, 6561, 6952,
     7340, 7723, 8103, 8479, 8853, 9223, 9591, 9955, 10318, 10678, 11035, 11391, 11744, 12095,

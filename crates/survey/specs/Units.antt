@@ -4,8 +4,8 @@ use Rattle.numbers.specs.declared.Fraction.{Fraction}
 use Rattle.refusals.specs.declared.Refusal.{Refusal}
 use Rattle.survey.specs.Survey.{RoundedSpeed, speed_refused, thousandths_in}
 
--- SURVEY-2, SAFE-1: a unit for which no float below 1 or from 512 on comes to 30,000 to 90,000, and
--- the code's products fit 64 bits; both units of a survey are such
+-- SURVEY-2, SAFE-1: a unit for which no float below 1 or from 512 on comes to 30,000 to 90,000, and the
+-- code's products fit 64 bits; both units of a survey are such
 pub record UnitFits (unit : Fraction) : Type 0 where
   pub denominator-pos : 0 < unit.denominator
   pub numerator-le : unit.numerator ≤ 1000000000

@@ -43,8 +43,8 @@ const KILOMETRE_AN_HOUR: Fraction = Fraction {
     denominator: MILE,
 };
 
-/// SURVEY-2: what the leading digit of an f32 weighs: of its bits 1 is the sign, 8 are the exponent, and 23 the
-/// digits behind the leading one.
+/// SURVEY-2: what the leading digit of an f32 weighs: of its bits 1 is the sign, 8 are the exponent, and 23
+/// the digits behind the leading one.
 const LEADING: u64 = 1 << 23;
 
 /// SURVEY-1, FORM-9: a speed in the unit in which it was surveyed.
@@ -98,9 +98,9 @@ fn speed_of_float(x: f32, unit: Fraction) -> Result<Speed, Refusal>
     speed_of_bits(u64::from(x.to_bits()), unit)
 }
 
-/// SURVEY-3, REFUSAL-11 to REFUSAL-13: the surveyed speed, from 30,000 to 90,000 thousandths of mi/h, or the first refusal: 11 for
-/// fewer than 100 cars, 12 for a flow of 1,000 or more, 13 for a speed that is not finite or, rounded down,
-/// not within these ends. FORM-3: the survey is handed over by value.
+/// SURVEY-3, REFUSAL-11 to REFUSAL-13: the surveyed speed, from 30,000 to 90,000 thousandths of mi/h, or the
+/// first refusal: 11 for fewer than 100 cars, 12 for a flow of 1,000 or more, 13 for a speed that is not finite
+/// or, rounded down, not within these ends. FORM-3: the survey is handed over by value.
 #[tactic(auto, using(crate::proofs::SurveyLaws::by_survey))]
 pub fn surveyed_speed(survey: Survey) -> Result<Speed, Refusal>
     ensures value { result ≡ survey_answer survey }
