@@ -16,7 +16,7 @@ use Rattle.curve.proofs.ServiceLaws.{letter_number-ge, density_limit-le}
 use Rattle.road.specs.declared.Case.{Case}
 use Rattle.road.specs.Cases.{with_lanes}
 use Rattle.road.specs.Refusals.{field_refusals, FieldsFit}
-use Rattle.road.proofs.RefusalLaws.{fields-numbered, fields-with_lanes, fit-demand, lanes-low, lanes-high}
+use Rattle.road.proofs.RefusalLaws.{fields-numbered, fields-with_lanes, fields-load, fit-demand, lanes-low, lanes-high}
 use Rattle.method.specs.Checked.{checked_curve}
 use Rattle.method.specs.Flow.{heavy_factor_of, load_of, flow_rate_of}
 use Rattle.method.proofs.RefusalLaws.{accepted-fields}
@@ -62,7 +62,7 @@ module _ (case : Case) (n : ℕ) (z : FieldsFit case) (few : fewest_lanes case.r
   lanes_meet-refused l r e = meets-refused with-n l (rw (sym (checked_curve-refused with-n fits-n r e)) (number-above r))
 
 -- for tactics: those, and what the flow rate asks for
-pub ruleset meet_laws = (lanes_curve-sized, lanes_curve-well_formed, lanes_meet-found, lanes_meet-refused, load_of-sized, fit-demand, letter_number-ge, density_limit-le)
+pub ruleset meet_laws = (lanes_curve-sized, lanes_curve-well_formed, lanes_meet-found, lanes_meet-refused, load_of-sized, fields-load, fit-demand, letter_number-ge, density_limit-le)
 
 module _ (case : Case) (l : ℕ) where
   -- ---- the search

@@ -4,7 +4,7 @@
 #![tactic(auto)]
 
 pub mod kind;
-mod power;
+pub mod power;
 mod power_table;
 pub mod promises;
 pub mod service;

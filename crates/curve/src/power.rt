@@ -7,7 +7,7 @@ use crate::power_table::POWERS;
 
 /// CURVE-5, FORM-6: T(i), in millionths, from the constant table.
 #[tactic(auto, using(crate::proofs::PowerLaws::table_entries), unfolding(crate::proofs::PowerTable::power_table))]
-pub(crate) fn power(i: u64) -> u64
+pub fn power(i: u64) -> u64
     requires { i ≤ 1000 }
     ensures { result ≡ power i }
 {

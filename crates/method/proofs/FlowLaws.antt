@@ -6,8 +6,8 @@ use Rattle.curve.proofs.KindLaws.{kind-ends}
 use Rattle.road.specs.declared.Terrain.{Terrain}
 use Rattle.road.specs.declared.Case.{Case}
 use Rattle.curve.specs.Kinds.{fewest_lanes, most_lanes}
-use Rattle.road.specs.Refusals.{FieldsFit}
-use Rattle.road.proofs.RefusalLaws.{load-ends}
+use Rattle.road.specs.Refusals.{LoadFits, FieldsFit}
+use Rattle.road.proofs.RefusalLaws.{loads-exactly, lanes-low, lanes-high, fields-load}
 use Rattle.method.specs.declared.flow.Load.{Load}
 use Rattle.method.specs.Flow.{truck_equivalent, heavy_factor_of, load_of, flow_rate_of, case_flow_rate, LoadSized}
 
@@ -17,32 +17,33 @@ truck_equivalent-ends Terrain.Level = (omega arith, omega arith)
 truck_equivalent-ends Terrain.Rolling = (omega arith, omega arith)
 
 -- what the heavy vehicles add
-pub heavy-le : (case : Case) → FieldsFit case → case.heavy_share * (truck_equivalent case.terrain - 1) ≤ 2000
-heavy-le case z =
+pub heavy-le : (case : Case) → LoadFits case → case.heavy_share * (truck_equivalent case.terrain - 1) ≤ 2000
+heavy-le case l =
     let ends = truck_equivalent-ends case.terrain in
-    mul-le-mul {n₂ = 1000} {m₂ = 2} (load-ends case z).share-high (omega arith)
+    let (demand, factor-low, factor-high, share) = (loads-exactly case).0 l in
+    mul-le-mul {n₂ = 1000} {m₂ = 2} share (omega arith)
 
--- 64 bits hold the products with the load of a case that 1 to 9 and 19 do not refuse, with each lane count of
--- its kind
-pub load_of-sized : (case : Case) (n : ℕ) → FieldsFit case → fewest_lanes case.road.kind ≤ n → n ≤ most_lanes case.road.kind
+-- 64 bits hold the products with the load of a case that 7 to 9 do not refuse, with each lane count of its
+-- kind
+pub load_of-sized : (case : Case) (n : ℕ) → LoadFits case → fewest_lanes case.road.kind ≤ n → n ≤ most_lanes case.road.kind
     → LoadSized (load_of case n)
 unfolding heavy_factor_of
-load_of-sized case n z few most =
-    let ends = load-ends case z in
+load_of-sized case n l few most =
+    let (demand, factor-low, factor-high, share) = (loads-exactly case).0 l in
     let kind = kind-ends case.road.kind in
     record {
       heavy-ge = omega arith;
-      heavy-le = omega (arith, heavy-le case z);
-      divisor-pos = mul-pos (omega (arith, ends.factor-low)) (omega (arith, few, kind.lanes-ge));
-      divisor-le = mul-le-mul {n₂ = 1000} {m₂ = 8} ends.factor-high (omega (arith, most, kind.lanes-le));
+      heavy-le = omega (arith, heavy-le case l);
+      divisor-pos = mul-pos (omega (arith, factor-low)) (omega (arith, few, kind.lanes-ge));
+      divisor-le = mul-le-mul {n₂ = 1000} {m₂ = 8} factor-high (omega (arith, most, kind.lanes-le));
     }
 
 -- for tactics: the three
 pub ruleset load_laws = (truck_equivalent-ends, heavy-le, load_of-sized)
 
--- the same with its own lanes
+-- the same of a case that 1 to 9 and 19 do not refuse, with its own lanes
 pub case_load-sized : (case : Case) → FieldsFit case → LoadSized (load_of case case.lanes)
-case_load-sized case z = let ends = load-ends case z in load_of-sized case case.lanes z ends.lanes-low ends.lanes-high
+case_load-sized case z = load_of-sized case case.lanes (fields-load case z) (lanes-low case z) (lanes-high case z)
 
 -- it rises with demand and heavy factor, and falls with the divisor
 pub flow_rate_of-mono : (l m : Load) (a b : ℕ) → 0 < m.divisor → a ≤ b → l.heavy_factor ≤ m.heavy_factor → m.divisor ≤ l.divisor

@@ -2,7 +2,7 @@
 
 #![tactic(auto)]
 
-mod block;
+pub mod block;
 pub mod promises;
 pub mod stream;
 pub mod write;

@@ -151,6 +151,13 @@ weather-fits case w = (weather-exactly case.road.kind case.weather).0 (none-met 
 pub fields-weather : (case : Case) → FieldsFit case → FactorsFit case.road.kind case.weather
 fields-weather case z = weather-fits case (fields-parts case z).2
 
+-- nor is its load refused
+pub fields-load : (case : Case) → FieldsFit case → LoadFits case
+fields-load case z = (fields-parts case z).1
+
+-- for tactics: what is fit of a fit case
+pub ruleset fit_parts = (fields-road, fields-load, fields-weather)
+
 -- ---- a case with another lane count
 -- a case that none of them refuses is so with every lane count of the kind
 pub fields-with_lanes : (case : Case) (n : ℕ) → FieldsFit case → fewest_lanes case.road.kind ≤ n → n ≤ most_lanes case.road.kind

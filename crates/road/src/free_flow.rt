@@ -51,17 +51,25 @@ impl Road {
             (Way::Estimated, Kind::Multilane) => self.multilane_estimate(lanes),
         }
     }
+
+    /// FFS-1, FFS-10: F of a road that 1 to 5 let pass, with a lane count: given or estimated, and at most
+    /// the kind's upper end. No load and no weather is asked.
+    #[tactic(auto, unfolding(crate::specs::FreeFlowSpeed::free_flow_speed_of))]
+    pub fn free_flow_speed(&self, lanes: u64) -> Speed
+        requires { RoadFits self.now }
+        ensures { result ≡ free_flow_speed_of self.now lanes }
+    {
+        self.uncapped_speed(lanes)
+            .min(self.kind.limits().highest_speed)
+    }
 }
 
 impl FitCase {
-    /// FFS-1, FFS-10: F of the case's road with a lane count: given or estimated, and at most the kind's
-    /// upper end.
-    #[tactic(auto, using(crate::proofs::RefusalLaws::fit_road), unfolding(crate::specs::FreeFlowSpeed::free_flow_speed_of))]
+    /// FFS-1, FFS-10: F of the case's road with a lane count.
+    #[tactic(auto, using(crate::proofs::RefusalLaws::fit_road))]
     pub fn free_flow_speed(&self, lanes: u64) -> Speed
         ensures { result ≡ free_flow_speed_of self.now.case.road lanes }
     {
-        let road = &self.case.road;
-        road.uncapped_speed(lanes)
-            .min(road.kind.limits().highest_speed)
+        self.case.road.free_flow_speed(lanes)
     }
 }

@@ -80,7 +80,7 @@ impl Held {
         requires { from ≤ length self.old }
         ensures { self.new ≡ cut_off kept (drop from self.old) }
     {
-        self.count = move_to_start(&mut self.buffer[..self.count], from, kept);
+        self.count = carry_over(&mut self.buffer[..self.count], from, kept);
     }
 }
 
@@ -120,9 +120,10 @@ fn carried_length(bytes: &[u8], kept: usize) -> usize
     }
 }
 
-/// Moves the bytes from `from` on to the start, or the first `kept` of them; answers how many they are.
+/// LOS-3, LINE-5: carries over the bytes held from `from` on, to the start of those held, or the first `kept`
+/// of them where no newline is among them; answers how many they are. What lies behind them stays.
 #[tactic(auto, using(crate::proofs::CarryLaws::length_cut_off))]
-fn move_to_start(held: &mut [u8], from: usize, kept: usize) -> usize
+pub fn carry_over(held: &mut [u8], from: usize, kept: usize) -> usize
     requires { from ≤ length held.old }
     ensures count { result ≡ length (cut_off kept (drop from held.old)) }
     ensures held { held.new ≡ cut_off kept (drop from held.old) ++ drop result held.old }

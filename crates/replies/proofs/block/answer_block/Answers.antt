@@ -48,5 +48,5 @@ returns-after-loop-written c =
     (full line_texts _ (drop l.read a.block.now) (omega arith)) in
     record { read = done.0; text = done.1.0; read_in_bounds = done.1.1 }
 
-pub overflow_add-written : goal.overflow_add-written
-overflow_add-written c = omega (arith, line_text-le, c.answer_line-written.ensures.count)
+pub overflow_add-written-in-loop-written : goal.overflow_add-written-in-loop-written
+overflow_add-written-in-loop-written c = omega (arith, line_text-le, c.answer_line-written.ensures.count)

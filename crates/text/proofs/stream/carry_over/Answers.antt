@@ -1,9 +1,9 @@
--- `text::stream::move_to_start` meets its contract: what is kept is moved to the start, and nothing else is
+-- `text::stream::carry_over` meets its contract: what is kept is moved to the start, and nothing else is
 -- changed.
 use Rattle.std.proofs.Common.{◌≡◌, ◌+◌, ◌-◌, drop, zero-add, arith}
 use Rattle.std.proofs.lemmas.List.{take_rest}
 use Rattle.text.proofs.CarryLaws.{cut-is}
-use Rattle.text.proofs.stream.move_to_start.Goals as goal
+use Rattle.text.proofs.stream.carry_over.Goals as goal
 
 pub returns-clause-held : goal.returns-clause-held
 returns-clause-held c =
