@@ -16,7 +16,7 @@ use Rattle.daily.specs.Within.{traffic_within}
 use Rattle.daily.specs.Promises.{AcceptedTraffic, daily_volume_in, MeetsByDay, MeetsUpToTheDailyVolume}
 use Rattle.daily.specs.Promises.{NoBetterWithMoreTraffic, by_the_day, FiguresOfTheHour, RoundedUpOnce, OwnDemandIsNotRead}
 use Rattle.daily.specs.Promises.{RefusedInOrder, RefusedExactly}
-use Rattle.daily.proofs.WithinLaws.{fits-ends, fits-of, hourly-le-iff, hourly-mono, within-iff, traffic_within-eq}
+use Rattle.daily.proofs.WithinLaws.{fits-ends, fits-of, hourly-le-iff, hourly-mono, within-iff, traffic_within-eq, product-pos}
 use Rattle.daily.proofs.DailyLaws.{in-order, accepted-parts, letter-accepted, meets-hour, meets-iff}
 use Rattle.daily.proofs.DailyLaws.{answer-graded}
 
@@ -36,7 +36,7 @@ figures-of-the-hour case shares daily z =
     let grade = graded (hourly_case case shares daily) in
     let engine = answer_to-accepted (hourly_case case shares daily) a in
     let day : (volume : ℕ) → traffic_within shares volume ≡ by_the_day shares volume =
-    λ volume. traffic_within-eq shares volume (fits-ends shares daily fits).0 in
+    λ volume. traffic_within-eq shares volume (product-pos shares (fits-ends shares daily fits).0) in
     rw (sym (answer-graded case shares daily fits grade (sym engine)), engine) (simp day, refl)
 
 module _ (case : Case) (shares : Shares) (asked : ℕ) (z : AcceptedTraffic case shares asked) where
@@ -61,7 +61,7 @@ module _ (case : Case) (shares : Shares) (asked : ℕ) (z : AcceptedTraffic case
       → MeetsByDay case shares daily n ↔ (daily ≤ daily_volume_in (daily_answer case shares asked) n)
   met-iff n h k daily fits =
       let here = meets-iff (hourly_case case shares asked) (accepted-parts case shares asked z).1 n h k (hourly_demand shares daily) in
-      let divides = within-iff shares (volume n) fit-shares daily in
+      let divides = within-iff shares (volume n) (product-pos shares fit-shares) daily in
       let hour = meets-hour case shares daily fits n in
       let most = (fits-ends shares daily fits).1 in (
         λ m. let l = divides.0 (here.0 (hour.0 m)) in rw (divided n h k) (omega arith),

@@ -31,13 +31,12 @@ pub hourly-mono : (less more : Shares) (daily greater : ℕ) → daily ≤ great
 unfolding hourly_demand
 hourly-mono less more daily greater h k l = search (rules, div_up-mono, mul-le-mul)
 
-module _ (shares : Shares) (volume : ℕ) (r : SharesInRange shares) where
+module _ (shares : Shares) (volume : ℕ) (pos : 0 < shares.peak * shares.direction) where
   -- it is at most a volume exactly when the traffic is at most the volume's millions divided by K × D
   pub within-iff : (daily : ℕ)
       → (hourly_demand shares daily ≤ volume) ↔ (daily ≤ volume * 1000000 / (shares.peak * shares.direction))
   within-iff daily =
       let up = hourly-le-iff shares daily volume in
-      let pos : 0 < shares.peak * shares.direction = search rules in
       let down = le-div_iff_mul-le {x = daily} {y = volume * 1000000} pos in
       search rules
 
@@ -48,5 +47,9 @@ module _ (shares : Shares) (volume : ℕ) (r : SharesInRange shares) where
       greatest-eq (λ daily. leb (hourly_demand shares daily) volume) greatest_daily_traffic (by_the_day shares volume) (omega arith)
       (search (rules, within-iff)) (λ daily above most t. search (rules, within-iff))
 
+-- shares in range have a product that divides
+pub product-pos : (shares : Shares) → SharesInRange shares → 0 < shares.peak * shares.direction
+product-pos shares r = search rules
+
 -- for tactics: the law of the division
-pub ruleset by_division = (traffic_within-eq)
+pub ruleset by_division = (product-pos, traffic_within-eq)
