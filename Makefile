@@ -2,8 +2,8 @@
 #
 # make run      answers the lines of examples/sections.tsv with the program los; so does make alone
 # make test     proves everything and tries every must-fail edit (rt ci), then tests the library and the program that were proved
-# make test-X   one of its tests, over what is built: tables, map, references, promises, forms, calls, widening, yearly, stream, compare,
-#               compare-los, published
+# make test-X   one of its tests, over what is built: tables, map, references, promises, forms, names, calls, widening, yearly, stream,
+#               compare, compare-los, published
 # make full     compares every curve of clear weather, every float and every multilane speed with the second implementation, and finds
 #               where, in snow and rain, the speed falls as the free-flow speed rises
 # make map      writes docs/MAP.md anew, from the rules of docs/METHOD.md and the comments that name them
@@ -22,7 +22,7 @@ CFLAGS = -std=c11 -Wall -Wextra -Werror -O2
 SOURCES = $(shell find crates -name out -prune -o \( -name "*.rt" -o -name "*.antt" \) -print) crates.txt
 LIBRARY = target/staticlib/libmarehour.a
 PROGRAM = target/bin/los
-TESTS = tables map references promises forms calls widening yearly stream compare compare-los published
+TESTS = tables map references promises forms names calls widening yearly stream compare compare-los published
 
 # Plain C is compiled by gcc, and by clang too where it is installed.
 BENCH = $(BUILD)/bench
@@ -68,6 +68,12 @@ test-tables test-map: test-%: $(BUILD)/%
 
 test-references test-promises test-forms: test-%: $(BUILD)/%
 	$<
+
+# The archive exports the calls that the header declares and no other name, and needs none from outside.
+test-names: $(LIBRARY) include/marehour.h
+	@diff <(sed -n 's/^int32_t \(marehour_[a-z_]*\)(.*/\1/p' include/marehour.h | sort) <(nm -g --defined-only $< | awk 'NF == 3 { print $$3 }' | sort) \
+	|| { echo "names: left is what the header declares, right what the archive exports"; exit 1; }
+	@! nm -u $< | grep ' U ' || { echo "names: the archive needs these from outside"; exit 1; }
 
 test-calls: $(BUILD)/calls
 	$<

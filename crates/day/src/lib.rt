@@ -14,6 +14,7 @@ ghost use Rattle.day.specs.Days.{lent_unfit, lent_refusals, LentFits};
 
 use answer::evaluate::Grade;
 use day_case::DayCase;
+use method::accepted::AcceptedCase;
 use numbers::units::Demand;
 use refusals::Refusal;
 use road::Case;
@@ -70,11 +71,12 @@ pub fn put_day(case: Case, demands: &[Demand], answers: &mut [u64])
     requires { LentFits (length demands.now) (length answers.old) }
     ensures { answers.new ≡ day_written case demands.now answers.old }
 {
-    let day_case = DayCase::of(case);
+    let checked = AcceptedCase::check(case.with_demand(0));
+    let day_case = DayCase::of(&checked);
     let mut written = 0;
     for demand in demands {
         let answer = match &day_case {
-            Ok(accepted) => accepted.answer_with(*demand),
+            Ok(day_case) => day_case.answer_with(*demand),
             Err(refusal) => Err(DayCase::refusal_with(*refusal, *demand)),
         };
         written += put_answer(answer, &mut answers[written..]);

@@ -95,9 +95,12 @@ pub fn read_line(line: &[u8]) -> Result<Case, Refusal>
         return Err(Refusal::LineMalformed);
     }
     let mut fields = Fields { rest: Some(line) };
-    match (fields.case(), fields.rest) {
-        (Some(case), None) => Ok(case),
-        // malformed, or a field too many (LINE-4)
-        _ => Err(Refusal::LineMalformed),
+    let Some(case) = fields.case() else {
+        return Err(Refusal::LineMalformed);
+    };
+    match fields.rest {
+        None => Ok(case),
+        // a field too many (LINE-4)
+        Some(_) => Err(Refusal::LineMalformed),
     }
 }

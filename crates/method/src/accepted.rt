@@ -46,7 +46,9 @@ pub struct Measures {
 }
 
 impl AcceptedCase {
-    /// ORDER-2, CASE-4: the case, or the first of 1 to 9, 19 and 10 that refuses it.
+    /// ORDER-2, CASE-4: the case, or the first of 1 to 9, 19 and 10 that refuses it. Inlined, so that an
+    /// accepted case is not copied on its way.
+    #[inline(always)]
     #[tactic(auto, using(refusals::proofs::NumberLaws::in_turn), unfolding(crate::specs::Refusals::refusals))]
     pub fn check(case: Case) -> Result<AcceptedCase, Refusal>
         ensures refusal { refusal_number result ≡ refusal case }

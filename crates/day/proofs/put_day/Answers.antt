@@ -3,6 +3,7 @@ use Rattle.std.proofs.Common.{◌≡◌, ap, ◌∙◌, get_or, arith}
 use mathlib.Core.List.{flat_map}
 use Rattle.text.proofs.BufferLaws.{nothing}
 use Rattle.road.specs.Cases.{with_demand}
+use Rattle.method.specs.Refusals.{refusal}
 use Rattle.answer.specs.Answers.{answer_to}
 use Rattle.day.specs.Days.{day_figures}
 use Rattle.day.proofs.DayLaws.{answer_figures-length, lent-room, next-answer}
@@ -18,10 +19,12 @@ loop-demand-preserved c =
     let same : c.match-day_case.answer ≡ answer_to (with_demand case demand) =
     elim c.match-day_case.branch [
       | in-Ok w ↦
-          let kept = rw w.in-Ok.is at c.of-day_case.ensures.kept in
+          let found = rw w.in-Ok.is at c.of-day_case.ensures.kept in
+          let kept = (rw found at c.check-checked.ensures.kept) ∙ c.with_demand.ensures in
           w.answer-is ∙ w.answer_with-answer.ensures ∙ ap (λ k. answer_to (with_demand k demand)) kept
       | in-Err w ↦
-          let refused = rw w.in-Err.is at c.of-day_case.ensures.refusal in
+          let refused =
+          (rw w.in-Err.is at c.of-day_case.ensures.refusal) ∙ c.check-checked.ensures.refusal ∙ ap refusal c.with_demand.ensures in
           w.answer-is ∙ refused-with (with_demand case demand) _ _ refused w.refusal_with.ensures
     ] in
     let wrote = c.put_answer-written.ensures in (

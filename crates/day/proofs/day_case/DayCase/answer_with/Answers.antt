@@ -9,7 +9,7 @@ use Rattle.day.proofs.day_case.DayCase.answer_with.Goals as goal
 
 pub returns-then-demand-gt-GREATEST_DEMAND : goal.returns-then-demand-gt-GREATEST_DEMAND
 returns-then-demand-gt-GREATEST_DEMAND c =
-    let own = c.args.self.now.accepted in
+    let own = c.args.self.now.accepted.now in
     accepted-above (with_demand own.case c.args.demand) (accepted-with_demand own.case 0 own.accepted (omega arith))
     c.if-demand-gt-GREATEST_DEMAND.true
 
@@ -17,7 +17,7 @@ pub returns : goal.returns
 unfolding graded
 returns c =
     let day_case = c.args.self.now in
-    let own = day_case.accepted in
+    let own = day_case.accepted.now in
     accepted-within (with_demand own.case c.args.demand) (accepted-with_demand own.case 0 own.accepted (omega arith)) c.new.result
     (rw (c.new.ensures, c.measures_at.ensures, day_case.own_volumes, service_volumes-with_demand own.case c.args.demand) refl)
     c.if-demand-gt-GREATEST_DEMAND.false
