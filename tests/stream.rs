@@ -10,7 +10,6 @@ use std::fs::File;
 use std::io::{BufRead, BufReader, Read, Write};
 use std::os::fd::OwnedFd;
 use std::os::unix::net::UnixStream;
-use std::os::unix::process::ExitStatusExt;
 use std::process::{exit, Child, ChildStdin, Command, ExitStatus, Stdio};
 use std::sync::Arc;
 use std::thread;
@@ -160,7 +159,7 @@ fn expect_around_blocks(los: &str, line: &[u8], answer: &[u8]) {
     }
 }
 
-// LOS-4: what los says when its output is always full; what gives it its input is held until it has ended.
+// LOS-4: what los says when its output is always full, with status 0; what gives it its input is held until it has ended.
 fn expect_full<Held>(what: &str, los: &str, give: impl FnOnce(&mut Child) -> Held, message: &[u8]) {
     let full = File::options().write(true).open("/dev/full").unwrap_or_else(|error| fail(&format!("/dev/full: {error}")));
     let mut child = start_with(Command::new(los), Stdio::piped(), Stdio::from(full));
@@ -171,12 +170,12 @@ fn expect_full<Held>(what: &str, los: &str, give: impl FnOnce(&mut Child) -> Hel
     if errors.join().expect("the reader ends") != message {
         fail(&format!("{what}, output full: another message"));
     }
-    if status.signal().is_some() {
+    if !status.success() {
         fail(&format!("{what}, output full: {status}"));
     }
 }
 
-// LOS-4: reads one line of the output and closes it while the input goes on.
+// LOS-4: reads one line of the output and closes it while the input goes on; los says nothing, with status 0.
 fn expect_closed(what: &str, command: Command, input: &Arc<Vec<u8>>, first: &[u8]) {
     let mut child = start(command);
     let writer = feed(&mut child, input, 65_536);
@@ -191,17 +190,20 @@ fn expect_closed(what: &str, command: Command, input: &Arc<Vec<u8>>, first: &[u8
     if !errors.join().expect("the reader ends").is_empty() {
         fail(&format!("{what}: a message"));
     }
-    if status.signal().is_some() {
+    if !status.success() {
         fail(&format!("{what}: {status}"));
     }
 }
 
-// LOS-4: a folder can be opened and not read.
+// LOS-4: a folder can be opened and not read; the status is 0.
 fn expect_unreadable(los: &str) {
     let folder = File::open(".").unwrap_or_else(|error| fail(&error.to_string()));
     let outcome = Command::new(los).stdin(folder).output().unwrap_or_else(|error| fail(&error.to_string()));
     if !outcome.stdout.is_empty() || outcome.stderr != UNREADABLE {
         fail("an input that can't be read: another output or message");
+    }
+    if !outcome.status.success() {
+        fail(&format!("an input that can't be read: {}", outcome.status));
     }
 }
 
@@ -229,7 +231,7 @@ fn expect_reset(what: &str, los: &str, sent: &[u8], answer: &[u8]) {
     if output.join().expect("the reader ends") != answer {
         fail(&format!("{what}, then a reset: another output"));
     }
-    if errors.join().expect("the reader ends") != UNREADABLE || status.signal().is_some() {
+    if errors.join().expect("the reader ends") != UNREADABLE || !status.success() {
         fail(&format!("{what}, then a reset: another message, or {status}"));
     }
 }
