@@ -91,7 +91,7 @@ impl AcceptedCase {
             case,
             terms: CaseTerms {
                 curve_terms: self.terms.curve_terms,
-                load: Load::of(&FitCase { case }, case.lanes),
+                load: Load::of_case(&case, case.lanes),
             },
         }
     }

@@ -31,7 +31,7 @@ pub fn checked_curve_under(road: &Road, weather: Weather, lanes: u64) -> Result<
 }
 
 /// REFUSAL-10: the curve of a fit case with a lane count, or 10.
-#[tactic(auto, using(road::proofs::RefusalLaws::fit_parts))]
+#[tactic(auto, using(road::proofs::RefusalLaws::fit_road))]
 pub fn checked_curve(fit: &FitCase, lanes: u64) -> Result<Curve, Refusal>
     ensures { result ≡ checked_curve fit.now.case.road fit.now.case.weather lanes }
 {

@@ -45,7 +45,7 @@ impl Load {
     }
 
     /// FLOW-1, FLOW-2: the load of a fit case with a lane count of its kind.
-    #[tactic(auto, using(road::proofs::RefusalLaws::fit_parts))]
+    #[tactic(auto, using(road::proofs::RefusalLaws::fit_load))]
     pub fn of(fit: &FitCase, lanes: u64) -> Load
         requires fewest { fewest_lanes fit.now.case.road.kind ≤ lanes }
         requires most { lanes ≤ most_lanes fit.now.case.road.kind }

@@ -10,7 +10,7 @@ ghost use Rattle.replies.specs.Output.{line_texts};
 
 use crate::write::{LONGEST_ANSWER, answer_line};
 use lines::read::LONGEST_LINE;
-use text::stream;
+use text::stream::carry_over;
 
 /// LOS-2: how far a block was answered: the bytes of its answered lines with their newlines, and the bytes of
 /// the answers.
@@ -63,7 +63,7 @@ pub fn answer_turn(held: &mut [u8], out: &mut [u8]) -> Turn
         → result.carried ≤ longest_line + 1 }
 {
     let Progress { read, written } = answer_block(held, out);
-    let carried = stream::carry_over(held, read, LONGEST_LINE + 1);
+    let carried = carry_over(held, read, LONGEST_LINE + 1);
     Turn { carried, written }
 }
 

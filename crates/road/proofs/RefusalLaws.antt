@@ -155,8 +155,8 @@ fields-weather case z = weather-fits case (fields-parts case z).2
 pub fields-load : (case : Case) → FieldsFit case → LoadFits case
 fields-load case z = (fields-parts case z).1
 
--- for tactics: what is fit of a fit case
-pub ruleset fit_parts = (fields-road, fields-load, fields-weather)
+-- for tactics: the last
+pub ruleset fit_load = (fields-load)
 
 -- ---- a case with another lane count
 -- a case that none of them refuses is so with every lane count of the kind
